@@ -1,0 +1,11 @@
+pub mod Appending
+pub mod Checking
+pub mod Joining
+pub mod Laws
+pub mod Laying
+pub mod Patching
+pub mod Putting
+pub mod ReadLoop
+pub mod Reading
+pub mod Storing
+pub mod Writing

@@ -1,0 +1,42 @@
+use borrow.Author.Needs.{needs}
+use mathlib.Core.Path.{sym, ap, _∙_}
+use native.Mathlib.Omega.{arith}
+use Rattle.bits.specs.Answers.{fieldsAnswer}
+use Rattle.bits.proofs.Reading.{header-short, header-more, header-bad}
+use Rattle.bits.proofs.read_header.Statement.{statement}
+use Rattle.bits.proofs.read_header.Tie as tie
+
+refused-requires : tie.Need-refused-requires
+refused-requires c κs = search needs
+
+returns : tie.Need-returns
+unfolding fieldsAnswer
+returns c = c .refused .ensures ∙ ap fieldsAnswer (sym (header-short _ _ _ (omega arith)))
+
+starts-with-requires : tie.Need-starts-with-requires
+starts-with-requires c κs = search needs
+
+read-fields-requires : tie.Need-read-fields-requires
+read-fields-requires c κs = search needs
+
+returns-2 : tie.Need-returns-2
+returns-2 c = c .read-fields .ensures ∙ ap fieldsAnswer (sym (header-more _ _ _ (omega arith) (sym (c .before .before .starts-with .ensures) ∙ c .before .if2 .taken)))
+
+refused-requires-2 : tie.Need-refused-requires-2
+refused-requires-2 c κs = search needs
+
+returns-3 : tie.Need-returns-3
+unfolding fieldsAnswer
+returns-3 c = c .refused2 .ensures ∙ ap fieldsAnswer (sym (header-bad _ _ _ (omega arith) (sym (c .before .before .starts-with .ensures) ∙ c .before .if2 .left)))
+
+pub read-header-spec : {M : Type 1} → statement M
+read-header-spec =
+    tie.close
+    (tie.spec
+    refused-requires
+    returns
+    starts-with-requires
+    read-fields-requires
+    returns-2
+    refused-requires-2
+    returns-3)
