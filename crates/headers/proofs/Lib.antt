@@ -1,0 +1,14 @@
+pub mod Answers
+pub mod CodingExtension
+pub mod ExtraInformation
+pub mod GopHeader
+pub mod MatrixLoop
+pub mod Picture
+pub mod PictureHeader
+pub mod QuantMatrix
+pub mod Sequence
+pub mod SequenceExtension
+pub mod SequenceHeader
+pub mod SequenceRoundTrip
+pub mod StartCode
+pub mod StreamWriter

@@ -1,0 +1,164 @@
+-- The sequence extension: what a parsed one holds, that what stands behind it does not matter, and both round trips.
+-- Assumes nothing.
+use mathlib.Core.Path.{_≡_, refl, ap, _∙_}
+use mathlib.Core.List.{List, [], _∷_, _++_}
+use mathlib.Core.Bool.{Bool, true}
+use Prim.Native.Nat.{ℕ, zero, suc, _^_, _≤_, _<_}
+use native.Mathlib.Omega.{arith}
+use lib.Dec.{eqb}
+use lib.ListN.{getD, take}
+use Rattle.bits.specs.Bits.{pick}
+use Rattle.bits.specs.Fields.{Field, Parsed, short, bad, got, readHeader, writeHeader, fitsAll, total}
+use Rattle.bits.specs.Answers.{places}
+use Rattle.bits.proofs.Reading.{places-at, header-got, read-range, read-length, header-append, header-short-cut, total-none, total-more}
+use Rattle.bits.proofs.Checking.{Fits, fits-none, fits-more, fits-all}
+use Rattle.bits.proofs.Appending.{Below}
+use Rattle.bits.proofs.Writing.{header-read-written, header-write-read}
+use Rattle.headers.specs.Answers.{flagOf}
+use Rattle.headers.specs.SequenceExtension.{extensionStartCode, sequenceExtensionFields, chromaFormat, chromaCode, extensionOf, extensionRead, sequenceExtension, extensionValues}
+use Rattle.headers.specs.StreamWriter.{plainExtension}
+use Rattle.headers.proofs.Answers.{flag-bound, flag-same, flag-back, spread, spread-is}
+use Rattle.headers.specs.declared.Error.the-variants.{ShortHeader}
+use Rattle.headers.specs.declared.sequence_extension.ChromaFormat.{ChromaFormat}
+use Rattle.headers.specs.declared.sequence_extension.ChromaFormat.the-variants.{Yuv420, Yuv422, Yuv444}
+use Rattle.headers.specs.declared.sequence_extension.Mpeg2SequenceExtension.{Mpeg2SequenceExtension}
+use Rattle.headers.specs.declared.sequence_extension.SequenceExtensionRead.the-variants.{Parsed as Accepted, Refused}
+
+-- the zeros behind the values do not matter
+pub extension-places : (vs : List ℕ) → extensionOf (places vs) ≡ extensionOf vs
+unfolding extensionOf
+extension-places vs = simp places-at
+
+-- a parsed extension is the one that its values make
+pub extension-got : (s : List ℕ) (e : Mpeg2SequenceExtension) → sequenceExtension s ≡ Accepted e
+    → (vs : List ℕ) × (readHeader extensionStartCode sequenceExtensionFields s ≡ got vs) × (e ≡ extensionOf vs)
+unfolding sequenceExtension extensionRead
+extension-got s e q = case (readHeader extensionStartCode sequenceExtensionFields s) refl q
+  where
+    case : (p : Parsed) → readHeader extensionStartCode sequenceExtensionFields s ≡ p → extensionRead p ≡ Accepted e
+        → (vs : List ℕ) × (readHeader extensionStartCode sequenceExtensionFields s ≡ got vs) × (e ≡ extensionOf vs)
+    case short r x = ([], (cc), (cc))
+    case bad r x = ([], (cc), (cc))
+    case (got vs) r x = (vs, r, cc)
+
+pub record ExtensionBounds (e : Mpeg2SequenceExtension) : Type 0 where
+  pub profile : e .«profile_and_level» ≤ 255
+  pub horizontal : e .«horizontal_size_extension» ≤ 3
+  pub vertical : e .«vertical_size_extension» ≤ 3
+  pub rate : e .«bit_rate_extension» ≤ 4095
+  pub buffer : e .«vbv_buffer_size_extension» ≤ 255
+  pub frame-n : e .«frame_rate_extension_n» ≤ 3
+  pub frame-d : e .«frame_rate_extension_d» ≤ 31
+
+pub extension-bounds : (s : List ℕ) (e : Mpeg2SequenceExtension) → sequenceExtension s ≡ Accepted e → ExtensionBounds e
+unfolding extensionOf
+extension-bounds s e q =
+    let g = extension-got s e q in
+    let r = read-range sequenceExtensionFields s 32 (g .0) (header-got extensionStartCode sequenceExtensionFields s (g .0) (g .1) .fields-read) in
+    rw (g .2) record {
+      profile = r 1 .1;
+      horizontal = r 4 .1;
+      vertical = r 5 .1;
+      rate = r 6 .1;
+      buffer = r 8 .1;
+      frame-n = r 10 .1;
+      frame-d = r 11 .1;
+    }
+
+-- what stands behind does not matter, unless the bytes are too short
+module _ (s t : List ℕ) where
+  pub extension-append : (sequenceExtension s ≡ Refused ShortHeader → ⊥) → sequenceExtension (s ++ t) ≡ sequenceExtension s
+  unfolding sequenceExtension extensionRead
+  extension-append h = ap extensionRead (header-append extensionStartCode sequenceExtensionFields s t (λ z. h (ap extensionRead z)))
+
+  pub extension-short-cut : sequenceExtension (s ++ t) ≡ Refused ShortHeader → sequenceExtension s ≡ Refused ShortHeader
+  unfolding sequenceExtension extensionRead
+  extension-short-cut q = case (readHeader extensionStartCode sequenceExtensionFields (s ++ t)) refl q
+    where
+      case : (p : Parsed) → readHeader extensionStartCode sequenceExtensionFields (s ++ t) ≡ p → extensionRead p ≡ Refused ShortHeader
+          → sequenceExtension s ≡ Refused ShortHeader
+      case short r x = ap extensionRead (header-short-cut extensionStartCode sequenceExtensionFields s t r)
+      case bad r x = cc
+      case (got vs) r x = cc
+
+-- chroma formats and their codes
+chroma-same : (c : ChromaFormat) → chromaFormat (chromaCode c) ≡ c
+unfolding chromaFormat pick
+chroma-same Yuv420 = refl
+chroma-same Yuv422 = refl
+chroma-same Yuv444 = refl
+
+chroma-back : (v : ℕ) → 1 ≤ v → v ≤ 3 → chromaCode (chromaFormat v) ≡ v
+unfolding chromaFormat pick
+chroma-back zero l h = omega arith
+chroma-back (suc zero) l h = refl
+chroma-back (suc (suc zero)) l h = refl
+chroma-back (suc (suc (suc zero))) l h = refl
+chroma-back (suc (suc (suc (suc v)))) l h = omega arith
+
+values-whole : (e : Mpeg2SequenceExtension) → extensionOf (extensionValues e) ≡ e
+unfolding extensionOf extensionValues
+values-whole e = rw (chroma-same (e .«chroma_format»), flag-same (e .«progressive_sequence»), flag-same (e .«low_delay»))
+
+-- what was written is read again, whatever stands behind
+pub extension-read-back : (e : Mpeg2SequenceExtension) (t : List ℕ) → fitsAll sequenceExtensionFields (extensionValues e) ≡ true
+    → sequenceExtension (writeHeader extensionStartCode sequenceExtensionFields (extensionValues e) ++ t) ≡ Accepted e
+unfolding sequenceExtension extensionRead
+extension-read-back e t f =
+    ap extensionRead (header-read-written extensionStartCode sequenceExtensionFields (extensionValues e) t refl f) ∙ ap Accepted (values-whole e)
+
+-- what is within its bounds fits
+chroma-bound : (c : ChromaFormat) → (1 ≤ chromaCode c) × (chromaCode c ≤ 3)
+chroma-bound Yuv420 = omega arith
+chroma-bound Yuv422 = omega arith
+chroma-bound Yuv444 = omega arith
+
+fit : {f : Field} {fs : List Field} {v : ℕ} {vs : List ℕ}
+    → (f .width ≤ 32) × (v < 2 ^ f .width) × (f .low ≤ v) × (v ≤ f .high) → Fits fs vs → Fits (f ∷ fs) (v ∷ vs)
+fit p r = fits-more (p .0) (p .1) (p .2) (p .3) r
+
+pub extension-fits : (e : Mpeg2SequenceExtension) → ExtensionBounds e → fitsAll sequenceExtensionFields (extensionValues e) ≡ true
+unfolding extensionValues
+extension-fits e b =
+    let c = chroma-bound (e .«chroma_format») in
+    let p = flag-bound (e .«progressive_sequence») in
+    let l = flag-bound (e .«low_delay») in
+    fits-all
+    (fit (omega arith) (fit (omega arith) (fit (omega arith) (fit (omega arith) (fit (omega arith) (fit (omega arith)
+    (fit (omega arith) (fit (omega arith) (fit (omega arith) (fit (omega arith) (fit (omega arith) (fit (omega arith) fits-none))))))))))))
+
+plain-bounds : (c : ChromaFormat) (progressive : Bool) → ExtensionBounds (plainExtension c progressive)
+unfolding plainExtension
+plain-bounds Yuv420 progressive = omega arith
+plain-bounds Yuv422 progressive = omega arith
+plain-bounds Yuv444 progressive = omega arith
+
+pub plain-read-back : (c : ChromaFormat) (progressive : Bool) (t : List ℕ)
+    → sequenceExtension (writeHeader extensionStartCode sequenceExtensionFields (extensionValues (plainExtension c progressive)) ++ t)
+    ≡ Accepted (plainExtension c progressive)
+plain-read-back c progressive t =
+    extension-read-back (plainExtension c progressive) t (extension-fits (plainExtension c progressive) (plain-bounds c progressive))
+
+-- the values that were read are those of the extension that they make
+values-same : (s vs : List ℕ) → readHeader extensionStartCode sequenceExtensionFields s ≡ got vs → extensionValues (extensionOf vs) ≡ vs
+unfolding extensionValues extensionOf
+values-same s vs e =
+    let f = header-got extensionStartCode sequenceExtensionFields s vs e .fields-read in
+    let r = read-range sequenceExtensionFields s 32 vs f in
+    let e0 : 1 ≡ getD vs 0 0 = omega (arith, r 0) in
+    let e2 : flagOf (eqb (getD vs 2 0) 1) ≡ getD vs 2 0 = flag-back (getD vs 2 0) (r 2 .1) in
+    let e3 : chromaCode (chromaFormat (getD vs 3 0)) ≡ getD vs 3 0 = chroma-back (getD vs 3 0) (r 3 .0) (r 3 .1) in
+    let e7 : 1 ≡ getD vs 7 0 = omega (arith, r 7) in
+    let e9 : flagOf (eqb (getD vs 9 0) 1) ≡ getD vs 9 0 = flag-back (getD vs 9 0) (r 9 .1) in
+    let x : extensionValues (extensionOf vs) ≡ spread 12 (λ k. getD vs k 0) = cc in
+    x ∙ spread-is 12 vs (read-length sequenceExtensionFields s 32 vs f)
+
+-- what was read is written again, byte for byte
+pub extension-write-back : (s : List ℕ) (e : Mpeg2SequenceExtension) → Below 256 s → sequenceExtension s ≡ Accepted e
+    → writeHeader extensionStartCode sequenceExtensionFields (extensionValues e) ≡ take 10 s
+extension-write-back s e b q =
+    let g = extension-got s e q in
+    let n : total sequenceExtensionFields ≡ 48 = simp (total-more, total-none) in
+    ap (λ (x : Mpeg2SequenceExtension). writeHeader extensionStartCode sequenceExtensionFields (extensionValues x)) (g .2)
+    ∙ ap (writeHeader extensionStartCode sequenceExtensionFields) (values-same s (g .0) (g .1))
+    ∙ rw n at (header-write-read extensionStartCode sequenceExtensionFields s (g .0) b (g .1) (λ k l h. omega arith))

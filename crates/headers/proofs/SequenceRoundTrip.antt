@@ -1,0 +1,112 @@
+-- A written sequence header parses to the fields given, and a parsed one with constrained_parameters_flag 0 writes back to its own bytes.
+-- Assumes nothing.
+use mathlib.Core.Path.{_≡_, refl, sym, ap, _∙_}
+use mathlib.Core.List.{List, _++_}
+use mathlib.Core.Bool.{Bool, true, false}
+use Prim.Native.Nat.{ℕ, _+_, _*_, _/_}
+use native.Mathlib.Omega.{arith}
+use lib.Dec.{eqb}
+use lib.ListN.{length, getD, take}
+use borrow.Author.Tests.{eqb-true, eqb-false}
+use Rattle.bits.specs.Bits.{pick}
+use Rattle.bits.specs.Fields.{got, writeHeader, fitsAll, total}
+use Rattle.bits.proofs.Reading.{read-both, read-split, read-range, read-length, header-got, header-of}
+use Rattle.bits.proofs.Appending.{Below}
+use Rattle.bits.proofs.Putting.{total-append}
+use Rattle.bits.proofs.Writing.{header-read-written, header-write-read}
+use Rattle.headers.specs.Answers.{flagOf}
+use Rattle.headers.specs.QuantMatrix.{readMatrix, matrixOf, matrixFields, matrixValues}
+use Rattle.headers.specs.SequenceHeader.{sequenceHeaderCode, sequenceHeaderFields, aspectRatio, headerOf, sequenceHeader, sequenceHeaderBytes}
+use Rattle.headers.specs.StreamWriter.{paramsFields, baseValues, paramsValues, headerOfParams, aspectCode, paramsOf}
+use Rattle.headers.specs.declared.sequence_header.AspectRatio.{AspectRatio}
+use Rattle.headers.specs.declared.sequence_header.AspectRatio.the-variants.{Reserved}
+use Rattle.headers.specs.declared.sequence_header.Mpeg2SequenceHeader.{Mpeg2SequenceHeader}
+use Rattle.headers.specs.declared.sequence_header.SequenceHeaderRead.{SequenceHeaderRead}
+use Rattle.headers.specs.declared.sequence_header.Answer.the-variants.{Parsed as Accepted}
+use Rattle.headers.specs.declared.stream_writer.SequenceHeaderParams.{SequenceHeaderParams}
+use Rattle.headers.proofs.Answers.{spread, spread-is}
+use Rattle.headers.proofs.QuantMatrix.{matrix-flag, matrix-fields-back, matrix-values-back, matrix-read-back, matrix-of-values, matrix-count, matrix-total}
+use Rattle.headers.proofs.SequenceHeader.{fixedFields, header-parsed, header-parts}
+use Rattle.headers.proofs.StreamWriter.{total-fixed}
+
+-- what was written is read again, whatever stands behind
+pub sequence-read-back : (p : SequenceHeaderParams) (t : List ℕ) → fitsAll (paramsFields p) (paramsValues p) ≡ true
+    → length (p .«intra_quantiser_matrix» .bytes) ≡ 64 → length (p .«non_intra_quantiser_matrix» .bytes) ≡ 64
+    → sequenceHeader (writeHeader sequenceHeaderCode (paramsFields p) (paramsValues p) ++ t) ≡ record { answer = Accepted; header = headerOfParams p }
+unfolding paramsFields paramsValues baseValues headerOf headerOfParams matrixValues
+sequence-read-back p t f li ln =
+    let i = p .«intra_quantiser_matrix» in
+    let n = p .«non_intra_quantiser_matrix» in
+    let s = writeHeader sequenceHeaderCode (paramsFields p) (paramsValues p) ++ t in
+    let r = header-got _ _ s _ (header-read-written sequenceHeaderCode (paramsFields p) (paramsValues p) t refl f) in
+    let a = read-split sequenceHeaderFields (matrixFields i ++ matrixFields n) s 32 (baseValues p) (matrixValues i ++ matrixValues n) refl (r .fields-read) in
+    let b = read-split (matrixFields i) (matrixFields n) s (32 + total sequenceHeaderFields) (matrixValues i) (matrixValues n) (matrix-count i li) (a .1) in
+    let x : 32 + total sequenceHeaderFields ≡ 94 = omega (arith, total-fixed) in
+    let y : 32 + total sequenceHeaderFields + total (matrixFields i) ≡ 95 + 512 * flagOf (i .load) = omega (arith, total-fixed, matrix-total i) in
+    header-parsed s (baseValues p) (header-of record { long = r .long; code-first = r .code-first; fields-read = a .0 })
+    (matrixValues i) (matrix-read-back i s 94 (rw x at (b .0))) (matrixValues n) (matrix-read-back n s _ (rw y at (b .1)))
+    ∙ rw (matrix-of-values i, matrix-of-values n)
+
+-- each code is that of its aspect ratio
+choose : (c : ℕ) (b : Bool) (x y : AspectRatio) → (b ≡ true → aspectCode x ≡ c) → aspectCode y ≡ c → aspectCode (pick b x y) ≡ c
+unfolding pick
+choose c true x y f g = f refl
+choose c false x y f g = g
+
+aspect-back : (c : ℕ) → aspectCode (aspectRatio c) ≡ c
+unfolding aspectRatio
+aspect-back c =
+    choose c (eqb c 1) _ _ (λ e. sym (eqb-true c 1 e))
+    (choose c (eqb c 2) _ _ (λ e. sym (eqb-true c 2 e))
+    (choose c (eqb c 3) _ _ (λ e. sym (eqb-true c 3 e))
+    (choose c (eqb c 4) _ (Reserved c) (λ e. sym (eqb-true c 4 e)) refl)))
+
+-- the fixed fields of what was read
+fixed-back : (s h intra nonIntra : List ℕ) → fixedFields s ≡ got h → eqb (getD h 7 0) 1 ≡ false
+    → baseValues (paramsOf (headerOf h intra nonIntra)) ≡ h
+unfolding baseValues paramsOf headerOf
+fixed-back s h intra nonIntra e c =
+    let f = header-got sequenceHeaderCode sequenceHeaderFields s h e .fields-read in
+    let r = read-range sequenceHeaderFields s 32 h f in
+    let e2 : aspectCode (aspectRatio (getD h 2 0)) ≡ getD h 2 0 = aspect-back (getD h 2 0) in
+    let e5 : 1 ≡ getD h 5 0 = omega (arith, r 5) in
+    let e7 : 0 ≡ getD h 7 0 = omega (arith, r 7, eqb-false (getD h 7 0) 1 c) in
+    let x : baseValues (paramsOf (headerOf h intra nonIntra)) ≡ spread 8 (λ k. getD h k 0) = cc in
+    x ∙ spread-is 8 h (read-length sequenceHeaderFields s 32 h f)
+
+-- what was read is written again, byte for byte
+module _ (s h i n : List ℕ) (b : Below 256 s) (e : fixedFields s ≡ got h) (f : readMatrix s 94 ≡ got i)
+    (g : readMatrix s (95 + 512 * getD i 0 0) ≡ got n) (c : eqb (getD h 7 0) 1 ≡ false) where
+  parts-back : writeHeader sequenceHeaderCode (paramsFields (paramsOf (headerOf h i n))) (paramsValues (paramsOf (headerOf h i n)))
+      ≡ take (sequenceHeaderBytes (headerOf h i n)) s
+  unfolding paramsFields paramsValues paramsOf headerOf sequenceHeaderBytes
+  parts-back =
+      let r = header-got sequenceHeaderCode sequenceHeaderFields s h e in
+      let mi = matrixOf i in
+      let mn = matrixOf n in
+      let fs = sequenceHeaderFields ++ (matrixFields mi ++ matrixFields mn) in
+      let x : 94 ≡ 32 + total sequenceHeaderFields = omega (arith, total-fixed) in
+      let y : 95 + 512 * getD i 0 0 ≡ 32 + total sequenceHeaderFields + total (matrixFields mi) = omega (arith, total-fixed, matrix-total mi, matrix-flag s 94 i f) in
+      let z : total fs ≡ 64 + 512 * flagOf (mi .load) + 512 * flagOf (mn .load) =
+      omega (
+        arith,
+        total-append sequenceHeaderFields (matrixFields mi ++ matrixFields mn),
+        total-append (matrixFields mi) (matrixFields mn),
+        total-fixed,
+        matrix-total mi,
+        matrix-total mn,
+      ) in
+      let w : 4 + (total fs + 7) / 8 ≡ sequenceHeaderBytes (headerOf h i n) = omega arith in
+      let m = read-both (matrixFields mi) (matrixFields mn) s _ i n (rw x at (matrix-fields-back s 94 i f)) (rw y at (matrix-fields-back s _ n g)) in
+      let q = header-of record { long = r .long; code-first = r .code-first; fields-read = read-both sequenceHeaderFields _ s 32 h (i ++ n) (r .fields-read) m } in
+      rw (fixed-back s h i n e c, matrix-values-back s 94 i f, matrix-values-back s _ n g)
+      (header-write-read sequenceHeaderCode fs s (h ++ (i ++ n)) b q (λ k l u. absurd (omega arith)) ∙ ap (λ (k : ℕ). take k s) w)
+
+pub sequence-write-back : (s : List ℕ) (h : Mpeg2SequenceHeader) → Below 256 s → sequenceHeader s ≡ record { answer = Accepted; header = h }
+    → h .«constrained_parameters» ≡ false
+    → writeHeader sequenceHeaderCode (paramsFields (paramsOf h)) (paramsValues (paramsOf h)) ≡ take (sequenceHeaderBytes h) s
+unfolding headerOf
+sequence-write-back s h b e c =
+    let p = header-parts s (ap (λ (r : SequenceHeaderRead). r .answer) e) in
+    let x : h ≡ headerOf (p .fields) (p .intra) (p .nonIntra) = sym (ap (λ (r : SequenceHeaderRead). r .header) e) ∙ p .header-is in
+    rw x (parts-back s (p .fields) (p .intra) (p .nonIntra) b (p .fields-read) (p .intra-read) (p .non-intra-read) (rw x at (c)))

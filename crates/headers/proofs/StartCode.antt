@@ -1,0 +1,155 @@
+-- Zero bytes passed over, the prefix 00 00 01, and where next_start_code() finds it.
+-- Assumes nothing.
+use mathlib.Core.Path.{_≡_, refl, ap, _∙_}
+use mathlib.Core.List.{List, [], _∷_, _++_}
+use mathlib.Core.Bool.{Bool, true, false, _&&_, and-assoc, and-true}
+use Prim.Native.Nat.{ℕ, zero, suc, _+_, _-_, _≤_, _<_}
+use native.Mathlib.Numerals.{add-one}
+use native.Mathlib.Omega.{arith}
+use lib.Dec.{eqb}
+use lib.ListN.{length, getD, take, drop, length-drop, drop-of-length-le}
+use lib.Seq.{take-all, drop-cons, drop-append-le, take-append-le}
+use borrow.Author.Tests.{eqb-true, eqb-false}
+use Rattle.bits.specs.Bits.{pick}
+use Rattle.bits.proofs.Reading.{same-bytes, same-none, same-more, same-self}
+use Rattle.headers.specs.StartCode.{zeros, prefixAt, nextStartCode}
+use Rattle.headers.specs.declared.NextStartCode.the-variants.{At, Missing}
+
+-- the first byte from byte k on that is not zero: k itself past the end or where it is not zero, else the first from k + 1 on
+module _ (s : List ℕ) (k : ℕ) where
+  pub zeros-past : length s ≤ k → k + zeros (drop k s) ≡ k
+  unfolding zeros
+  zeros-past h = rw (drop-of-length-le s h) (omega arith)
+
+  pub zeros-none : k < length s → eqb (getD s k 0) 0 ≡ false → k + zeros (drop k s) ≡ k
+  unfolding zeros
+  zeros-none h n = rw (drop-cons s k 0 h) (first (getD s k 0) (eqb-false (getD s k 0) 0 n))
+    where
+      first : (b : ℕ) → (b ≡ 0 → ⊥) → k + zeros (b ∷ drop (suc k) s) ≡ k
+      first zero m = absurd (m refl)
+      first (suc b) m = omega arith
+
+  pub zeros-more : k < length s → eqb (getD s k 0) 0 ≡ true → k + zeros (drop k s) ≡ k + 1 + zeros (drop (k + 1) s)
+  unfolding zeros
+  zeros-more h z = rw (add-one k, drop-cons s k 0 h, eqb-true (getD s k 0) 0 z) (omega arith)
+
+pub zeros-zero : (s : List ℕ) (k : ℕ) → k < zeros s → _≡_ {A = ℕ} (getD s k 0) 0
+unfolding zeros
+zeros-zero [] k h = refl
+zeros-zero (zero ∷ s) zero h = refl
+zeros-zero (zero ∷ s) (suc k) h = zeros-zero s k (omega arith)
+zeros-zero (suc b ∷ s) k h = absurd (omega arith)
+
+pub zeros-append : (s t : List ℕ) → zeros s < length s → zeros (s ++ t) ≡ zeros s
+unfolding zeros
+zeros-append [] t h = omega arith
+zeros-append (zero ∷ s) t h = ap suc (zeros-append s t (omega arith))
+zeros-append (suc b ∷ s) t h = refl
+
+-- the prefix, byte by byte
+three : (s : List ℕ) (p : ℕ) → p + 3 ≤ length s → take 3 (drop p s) ≡ getD s p 0 ∷ getD s (p + 1) 0 ∷ getD s (p + 2) 0 ∷ []
+three s p h =
+    let a : p + 1 ≡ suc p = omega arith in
+    let b : p + 2 ≡ suc (suc p) = omega arith in
+    rw (a, b, drop-cons s p 0 (omega arith), drop-cons s (suc p) 0 (omega arith), drop-cons s (suc (suc p)) 0 (omega arith))
+
+pub prefix-is : (s : List ℕ) (p : ℕ) → p + 3 ≤ length s
+    → (eqb (getD s p 0) 0 && eqb (getD s (p + 1) 0) 0) && eqb (getD s (p + 2) 0) 1 ≡ prefixAt s p
+unfolding prefixAt
+prefix-is s p h = rw (three s p h, same-more, same-more, same-more, same-none) (simp (and-assoc, and-true))
+
+pub record Prefix (s : List ℕ) (p : ℕ) : Type 0 where
+  pub room : p + 3 ≤ length s
+  pub is : take 3 (drop p s) ≡ 0 ∷ 0 ∷ 1 ∷ []
+
+pub prefix-true : (s : List ℕ) (p : ℕ) → prefixAt s p ≡ true → Prefix s p
+unfolding prefixAt
+prefix-true s p e =
+    let q = same-bytes (take 3 (drop p s)) (0 ∷ 0 ∷ 1 ∷ []) e in
+    record { room = long (drop p s) q (length-drop p s); is = q }
+  where
+    long : (d : List ℕ) → take 3 d ≡ 0 ∷ 0 ∷ 1 ∷ [] → length d ≡ length s - p → p + 3 ≤ length s
+    long [] q l = let z : _≡_ {A = ℕ} 0 1 = cc in omega arith
+    long (a ∷ []) q l = let z : _≡_ {A = ℕ} 0 1 = cc in omega arith
+    long (a ∷ b ∷ []) q l = let z : _≡_ {A = ℕ} 0 1 = cc in omega arith
+    long (a ∷ b ∷ c ∷ d) q l = omega arith
+
+pub prefix-none : (s : List ℕ) (p : ℕ) → length s < p + 3 → prefixAt s p ≡ false
+prefix-none s p h = case (prefixAt s p) refl
+  where
+    case : (b : Bool) → prefixAt s p ≡ b → prefixAt s p ≡ false
+    case true e = absurd (omega (arith, prefix-true s p e .room))
+    case false e = e
+
+-- a prefix at byte 0 has two zeros to pass over, so that none ends before byte 2
+first-zeros : (s : List ℕ) (k : ℕ) → take 3 s ≡ 0 ∷ 0 ∷ 1 ∷ [] → 2 ≤ k + zeros (drop k s)
+unfolding zeros
+first-zeros [] k q = let z : _≡_ {A = ℕ} 0 1 = cc in omega arith
+first-zeros (suc a ∷ s) k q = let z : suc a ≡ 0 = cc in omega arith
+first-zeros (zero ∷ []) k q = let z : _≡_ {A = ℕ} 0 1 = cc in omega arith
+first-zeros (zero ∷ suc b ∷ s) k q = let z : suc b ≡ 0 = cc in omega arith
+first-zeros (zero ∷ zero ∷ s) zero q = omega arith
+first-zeros (zero ∷ zero ∷ s) (suc zero) q = omega arith
+first-zeros (zero ∷ zero ∷ s) (suc (suc k)) q = omega arith
+
+prefix-early : (s : List ℕ) (k : ℕ) → k + zeros (drop k s) < 2 → prefixAt s 0 ≡ false
+prefix-early s k h = case (prefixAt s 0) refl
+  where
+    case : (b : Bool) → prefixAt s 0 ≡ b → prefixAt s 0 ≡ false
+    case true e = absurd (omega (arith, first-zeros s k (prefix-true s 0 e .is)))
+    case false e = e
+
+-- the three ways that next_start_code() goes; e is the first byte that is not zero
+module _ (s : List ℕ) (k e : ℕ) (h : e ≡ k + zeros (drop k s)) where
+  pub next-early : e < 2 → nextStartCode s k ≡ Missing
+  unfolding nextStartCode pick
+  next-early l =
+      let z : k + zeros (drop k s) - 2 ≡ 0 = omega arith in
+      rw (z, prefix-early s k (omega arith))
+
+  pub next-missing : prefixAt s (e - 2) ≡ false → nextStartCode s k ≡ Missing
+  unfolding nextStartCode pick
+  next-missing q = rw (← h, q)
+
+  pub next-at : prefixAt s (e - 2) ≡ true → nextStartCode s k ≡ At (e - 2)
+  unfolding nextStartCode pick
+  next-at q = rw (← h, q)
+
+-- what a prefix that was found says: it stands there, and ends with the first byte that is not zero
+pub record Found (s : List ℕ) (k p : ℕ) : Type 0 where
+  pub prefix : Prefix s p
+  pub ends : p + 2 ≡ k + zeros (drop k s)
+
+pub next-found : (s : List ℕ) (k p : ℕ) → nextStartCode s k ≡ At p → Found s k p
+unfolding nextStartCode pick
+next-found s k p e = case (prefixAt s (k + zeros (drop k s) - 2)) refl e
+  where
+    late : (q : ℕ) → q ≡ k + zeros (drop k s) - 2 → Prefix s q → q + 2 ≡ k + zeros (drop k s)
+    late zero x r = omega (arith, first-zeros s k (r .is))
+    late (suc q) x r = omega arith
+
+    case : (b : Bool) → prefixAt s (k + zeros (drop k s) - 2) ≡ b → pick b (At (k + zeros (drop k s) - 2)) Missing ≡ At p → Found s k p
+    case true t q =
+        let x : p ≡ k + zeros (drop k s) - 2 = cc in
+        let r = prefix-true s p (rw x t) in
+        record { prefix = r; ends = late p x r }
+    case false t q = let z : _≡_ {A = ℕ} 0 1 = cc in absurd (omega arith)
+
+-- what stands behind does not move it
+pub next-append : (s t : List ℕ) (k p : ℕ) → nextStartCode s k ≡ At p → nextStartCode (s ++ t) k ≡ At p
+unfolding prefixAt
+next-append s t k p e =
+    let f = next-found s k p e in
+    let r : p + 3 ≤ length s = f .prefix .room in
+    let d : drop k (s ++ t) ≡ drop k s ++ t = drop-append-le k s t (omega arith) in
+    let l : zeros (drop k s) < length (drop k s) = omega (arith, length-drop k s) in
+    let z : zeros (drop k (s ++ t)) ≡ zeros (drop k s) = rw (d, zeros-append (drop k s) t l) in
+    let m : 3 ≤ length (drop p s) = omega (arith, length-drop p s) in
+    let w : k + zeros (drop k s) - 2 ≡ p = omega arith in
+    let q : prefixAt (s ++ t) (k + zeros (drop k s) - 2) ≡ true =
+    rw (w, drop-append-le p s t (omega arith), take-append-le 3 (drop p s) t m, f .prefix .is) (same-self (0 ∷ 0 ∷ 1 ∷ [])) in
+    next-at (s ++ t) k (k + zeros (drop k s)) (rw z) q ∙ ap At w
+
+-- the slice from a byte on
+pub rest-is : (s : List ℕ) (p : ℕ) → take (length s - p) (drop p s) ≡ drop p s
+rest-is s p = take-all (length s - p) (drop p s) (omega (arith, length-drop p s))

@@ -1,0 +1,56 @@
+use borrow.Author.Needs.{needs}
+use mathlib.Core.Path.{sym, _∙_}
+use Rattle.headers.proofs.QuantMatrix.{flag-missed, flag-unset, flag-set}
+use Rattle.headers.proofs.quant_matrix_extension.read_matrix.Statement.{statement}
+use Rattle.headers.proofs.quant_matrix_extension.read_matrix.Tie as tie
+
+read-bits-requires : tie.Need-read-bits-requires
+read-bits-requires c κs = search needs
+
+enum-known-read : tie.Need-enum-known-read
+enum-known-read c = search needs
+
+enum-told : tie.Need-enum-told
+enum-told c = search needs
+
+no-matrix-requires : tie.Need-no-matrix-requires
+no-matrix-requires c κs = search needs
+
+returns : tie.Need-returns
+returns c =
+    rw (c .no-matrix .ensures)
+    (flag-missed _ _ (sym (c .before .enum-told .given .1) ∙ c .before .before .before .read-bits .ensures))
+
+no-matrix-requires-2 : tie.Need-no-matrix-requires-2
+no-matrix-requires-2 c κs = search needs
+
+returns-2 : tie.Need-returns-2
+returns-2 c =
+    let v = c .before .before .before in
+    rw (c .no-matrix2 .ensures) (flag-unset _ _ _ (sym (v .read .given .1) ∙ v .before .before .read-bits .ensures) (c .before .if1 .taken))
+
+add-read-bytes : tie.Need-add-read-bytes
+add-read-bytes c = search needs
+
+read-bytes-requires : tie.Need-read-bytes-requires
+read-bytes-requires c κs = search needs
+
+returns-3 : tie.Need-returns-3
+returns-3 c =
+    let v = c .before .before .before in
+    c .read-bytes .ensures ∙ flag-set _ _ _ (sym (v .read .given .1) ∙ v .before .before .read-bits .ensures) (c .before .if1 .left)
+
+pub read-matrix-spec : {M : Type 1} → statement M
+read-matrix-spec =
+    tie.close
+    (tie.spec
+    read-bits-requires
+    enum-known-read
+    enum-told
+    no-matrix-requires
+    returns
+    no-matrix-requires-2
+    returns-2
+    add-read-bytes
+    read-bytes-requires
+    returns-3)

@@ -1,0 +1,11 @@
+pub mod Answers
+pub mod StartCode
+pub mod QuantMatrix
+pub mod SequenceHeader
+pub mod SequenceExtension
+pub mod Sequence
+pub mod PictureHeader
+pub mod CodingExtension
+pub mod Picture
+pub mod GopHeader
+pub mod StreamWriter

@@ -1,0 +1,24 @@
+-- next_start_code() (ISO/IEC 13818-2 5.2.3), as the headers look for the extension behind them.
+-- Assumes nothing.
+use Prim.Native.Nat.{ℕ, zero, suc, _+_, _-_}
+use mathlib.Core.List.{List, [], _∷_}
+use mathlib.Core.Bool.{Bool}
+use lib.ListN.{take, drop}
+use Rattle.bits.specs.Bits.{pick}
+use Rattle.bits.specs.Fields.{sameBytes}
+use Rattle.headers.specs.declared.NextStartCode.{NextStartCode}
+use Rattle.headers.specs.declared.NextStartCode.the-variants.{At, Missing}
+
+-- how many zero bytes come first
+unfoldable pub zeros : List ℕ → ℕ
+zeros [] = 0
+zeros (zero ∷ s) = suc (zeros s)
+zeros (suc b ∷ s) = 0
+
+-- 00 00 01 stands at byte p
+unfoldable pub prefixAt : List ℕ → ℕ → Bool
+prefixAt s p = sameBytes (take 3 (drop p s)) (0 ∷ 0 ∷ 1 ∷ [])
+
+-- the prefix that ends with the first byte, from byte k on, that is not zero; its two zeros may lie before byte k (docs/DIFFERENCES.md), and no byte need follow it
+unfoldable pub nextStartCode : List ℕ → ℕ → NextStartCode
+nextStartCode s k = pick (prefixAt s (k + zeros (drop k s) - 2)) (At (k + zeros (drop k s) - 2)) Missing
