@@ -1,0 +1,134 @@
+-- What the tests of parameters and of a state say: bounds, and back.
+-- Assumes nothing.
+use mathlib.Core.Path.{_≡_, refl, sym, _∙_}
+use mathlib.Core.Bool.{Bool, true, false, _&&_}
+use Prim.Native.Nat.{ℕ, _*_, _/_, _^_, _≤_, _<_}
+use native.Mathlib.Omega.{arith}
+use lib.Arith.{digits-div}
+use lib.Dec.{leb, ltb}
+use borrow.Author.Tests.{leb-true, ltb-true, le-leb, lt-ltb}
+use Rattle.vbv.specs.declared.RemovalInterval.{RemovalInterval}
+use Rattle.vbv.specs.declared.RemovalInterval.the-variants.{Frame, Field}
+use Rattle.vbv.specs.declared.VbvParams.{VbvParams}
+use Rattle.vbv.specs.declared.VbvCbrModel.{VbvCbrModel}
+use Rattle.vbv.specs.Annex.{unit}
+use Rattle.vbv.specs.Fits.{ParamsFit, ModelFits, EndFits}
+use Rattle.vbv.specs.Model.{paramsFit, delivered, modelFits, periods, endFits}
+
+-- a flag that a callee returned and a branch tested
+pub told-by : (r v t : Bool) → r ≡ v → r ≡ t → v ≡ t
+told-by r v t p q = sym p ∙ q
+
+pub and-l : (a b : Bool) → (a && b) ≡ true → a ≡ true
+and-l true b h = refl
+and-l false b h = h
+
+and-r : (a b : Bool) → (a && b) ≡ true → b ≡ true
+and-r true b h = h
+and-r false b h = cc
+
+-- the ranges of the parameters, which keep the test of the ratio in 64 bits
+abbrev ranges : VbvParams → Bool
+ranges p =
+    leb 1 (p .«bit_rate»)
+    && leb (p .«bit_rate») 429496729200
+    && leb 1 (p .«buffer_size_bits»)
+    && leb (p .«buffer_size_bits») 4294950912
+    && leb 1 (p .frn)
+    && leb (p .frn) 240000
+    && leb 1 (p .frd)
+    && leb (p .frd) 32032
+
+pub in-range : (p : VbvParams) → ranges p ≡ true → (p .«bit_rate» ≤ 429496729200) × (p .«buffer_size_bits» ≤ 4294950912)
+in-range p h = (leb-true _ _ (search (and-l, and-r) depth 14), leb-true _ _ (search (and-l, and-r) depth 14))
+
+pub params-fit : {p : VbvParams} → paramsFit p ≡ true → ParamsFit p
+unfolding paramsFit
+params-fit h =
+    record {
+      rate-low = leb-true _ _ (search (and-l, and-r) depth 14);
+      rate-high = leb-true _ _ (search (and-l, and-r) depth 14);
+      size-low = leb-true _ _ (search (and-l, and-r) depth 14);
+      size-high = leb-true _ _ (search (and-l, and-r) depth 14);
+      frn-low = leb-true _ _ (search (and-l, and-r) depth 14);
+      frn-high = leb-true _ _ (search (and-l, and-r) depth 14);
+      frd-low = leb-true _ _ (search (and-l, and-r) depth 14);
+      frd-high = leb-true _ _ (search (and-l, and-r) depth 14);
+      full = leb-true _ _ (search (and-l, and-r));
+    }
+
+pub model-fits : {m : VbvCbrModel} → modelFits m ≡ true → ModelFits m
+unfolding modelFits unit
+model-fits h =
+    record {
+      params-fit = params-fit (search (and-l, and-r) depth 8);
+      whole-high = leb-true _ _ (search (and-l, and-r) depth 8);
+      rest-low = ltb-true _ _ (search (and-l, and-r) depth 8);
+      end-high = leb-true _ _ (search (and-l, and-r) depth 8);
+      removed-high = leb-true _ _ (search (and-l, and-r) depth 8);
+    }
+
+pub end-fits : {m : VbvCbrModel} {end : ℕ} → endFits m end ≡ true → EndFits m end
+unfolding endFits
+end-fits h =
+    record {
+      end-far = leb-true _ _ (search (and-l, and-r));
+      end-low = leb-true _ _ (search (and-l, and-r));
+      count = ltb-true _ _ (search (and-l, and-r));
+    }
+
+-- the test of a state by that of its parameters
+pub by-params : (m : VbvCbrModel) → paramsFit (m .params) ≡ true
+    → (leb (m .whole) (2 ^ 55) && ltb (m .rest) (180000 * m .params .frn) && leb (m .«prev_end_bits») (2 ^ 48) && leb (m .removed) (2 ^ 48))
+    ≡ modelFits m
+unfolding modelFits unit
+by-params m h = rw h
+
+pub no-params : (m : VbvCbrModel) → paramsFit (m .params) ≡ false → false ≡ modelFits m
+unfolding modelFits
+no-params m h = rw h
+
+-- and back
+pub fitting-params : (p : VbvParams) → ParamsFit p → paramsFit p ≡ true
+unfolding paramsFit
+fitting-params p f =
+    simp (
+      le-leb _ _ (f .rate-low),
+      le-leb _ _ (f .rate-high),
+      le-leb _ _ (f .size-low),
+      le-leb _ _ (f .size-high),
+      le-leb _ _ (f .frn-low),
+      le-leb _ _ (f .frn-high),
+      le-leb _ _ (f .frd-low),
+      le-leb _ _ (f .frd-high),
+      le-leb _ _ (f .full),
+    )
+
+pub fitting-model : (m : VbvCbrModel) → ModelFits m → modelFits m ≡ true
+unfolding modelFits unit
+fitting-model m f =
+    simp (
+      fitting-params (m .params) (f .params-fit),
+      le-leb _ _ (f .whole-high),
+      lt-ltb _ _ (f .rest-low),
+      le-leb _ _ (f .end-high),
+      le-leb _ _ (f .removed-high),
+    )
+
+pub fitting-end : (m : VbvCbrModel) (end : ℕ) → EndFits m end → endFits m end ≡ true
+unfolding endFits
+fitting-end m end f = simp (le-leb _ _ (f .end-far), le-leb _ _ (f .end-low), lt-ltb _ _ (f .count))
+
+pub unit-pos : (p : VbvParams) → paramsFit p ≡ true → 0 < unit p
+unfolding unit
+unit-pos p h = omega (arith, params-fit h)
+
+-- the whole bits of what is delivered
+pub delivered-div : (m : VbvCbrModel) → modelFits m ≡ true → delivered m / unit (m .params) ≡ m .whole
+unfolding delivered unit
+delivered-div m h = digits-div (m .whole) (model-fits h .rest-low)
+
+-- an interval is two periods at most
+pub periods-most : (i : RemovalInterval) → periods i ≤ 2
+periods-most Frame = omega arith
+periods-most Field = omega arith

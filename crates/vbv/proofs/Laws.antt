@@ -1,0 +1,386 @@
+-- The laws of the model that the crates above cite: of Annex C's quantities, and of each step that gave a model.
+-- Assumes nothing.
+use mathlib.Core.Path.{_≡_, refl, ap, sym, _∙_}
+use mathlib.Core.Bool.{true, false}
+use mathlib.Core.Logic.{⊎-elim}
+use Prim.Native.Nat.{ℕ, _+_, _-_, _*_, _/_, _^_, _≤_, _<_}
+use native.Mathlib.Omega.{arith}
+use native.Mathlib.Nat.{mod-lt, div-add-mod', mul-le-mul, le-of-mul-le-mul-right, div-lt-iff-lt-mul, le-div-iff-mul-le}
+use lib.Arith.{digits-div}
+use lib.Dec.{ltb}
+use borrow.Author.Tests.{leb-true, ltb-false, le-ltb, le-leb}
+use Rattle.bits.proofs.Appending.{lt-or-le}
+use Rattle.vbv.specs.declared.RemovalInterval.{RemovalInterval}
+use Rattle.vbv.specs.declared.VbvParams.{VbvParams}
+use Rattle.vbv.specs.declared.VbvCbrModel.{VbvCbrModel}
+use Rattle.vbv.specs.declared.VbvError.{VbvError}
+use Rattle.vbv.specs.declared.VbvViolation.{VbvViolation}
+use Rattle.vbv.specs.declared.VbvModel.the-variants.{Model, Refused}
+use Rattle.vbv.specs.declared.VbvRemoval.the-variants as rm
+use Rattle.vbv.specs.declared.VbvDelay.the-variants as dl
+use Rattle.vbv.specs.declared.VbvBits.the-variants as bt
+use Rattle.vbv.specs.Annex.{unit, firstDelivered, gain, overflows, underflows, early, expectedDelay, occupancy, greatestEnd, leastEnd}
+use Rattle.vbv.specs.Model.{paramsFit, delivered, modelFits, atDelivered, afterRemoval, periods, nextDelivered, newModel, startModel, delayForPicture, endFits, removePicture, ofStarted, maxEndBits, minEndBits, occupancyBeforeRemoval}
+use Rattle.vbv.specs.Fits.{ModelFits, EndFits}
+use Rattle.vbv.proofs.Arith.{same-lt, below-floor, above-ceiling, ceiling-beyond, start-div, next-div, ticks-most, next-most}
+use Rattle.vbv.proofs.Picks.{yes, no, was-yes, was-no}
+use Rattle.vbv.proofs.Fitting.{params-fit, model-fits, end-fits, fitting-params, fitting-model, unit-pos, periods-most}
+
+-- the tests as orders of units, both ways
+module _ (p : VbvParams) where
+  pub over-units : (previous d : ℕ) → overflows p previous d ≡ false → d ≤ (previous + p .«buffer_size_bits») * unit p
+  unfolding overflows
+  over-units previous d h = ltb-false _ _ h
+
+  pub units-over : (previous d : ℕ) → d ≤ (previous + p .«buffer_size_bits») * unit p → overflows p previous d ≡ false
+  unfolding overflows
+  units-over previous d h = le-ltb _ _ h
+
+  pub under-units : (end d : ℕ) → underflows p end d ≡ false → end * unit p ≤ d
+  unfolding underflows
+  under-units end d h = ltb-false _ _ h
+
+  pub units-under : (end d : ℕ) → end * unit p ≤ d → underflows p end d ≡ false
+  unfolding underflows
+  units-under end d h = le-ltb _ _ h
+
+  pub early-units : (position d : ℕ) → early p position d ≡ false → position * unit p ≤ d
+  unfolding early
+  early-units position d h = ltb-false _ _ h
+
+  pub units-early : (position d : ℕ) → position * unit p ≤ d → early p position d ≡ false
+  unfolding early
+  units-early position d h = le-ltb _ _ h
+
+  -- what was all there stays so
+  pub later-under : (end d later : ℕ) → d ≤ later → underflows p end d ≡ false → underflows p end later ≡ false
+  later-under end d later h g = units-under end later (omega (arith, under-units end d g))
+
+-- the ends: a test of either kind is a comparison with the greatest or the least end
+module _ (p : VbvParams) (f : paramsFit p ≡ true) where
+  pub underflow-is : (end d : ℕ) → underflows p end d ≡ ltb (greatestEnd p d) end
+  unfolding underflows greatestEnd
+  underflow-is end d = below-floor d end (unit p) (unit-pos p f)
+
+  pub early-is : (position d : ℕ) → early p position d ≡ ltb (greatestEnd p d) position
+  unfolding early greatestEnd
+  early-is position d = below-floor d position (unit p) (unit-pos p f)
+
+  pub overflow-is : (previous d : ℕ) → overflows p previous d ≡ ltb (previous + p .«buffer_size_bits») ((d + (unit p - 1)) / unit p)
+  unfolding overflows
+  overflow-is previous d = above-ceiling (previous + p .«buffer_size_bits») d (unit p) (unit-pos p f)
+
+  pub least-is : (d : ℕ) → leastEnd p d ≡ (d + (unit p - 1)) / unit p - p .«buffer_size_bits»
+  unfolding leastEnd
+  least-is d = ceiling-beyond d (p .«buffer_size_bits») (unit p) (unit-pos p f)
+
+  pub least-end : (end d : ℕ) → overflows p end d ≡ ltb end (leastEnd p d)
+  least-end end d =
+      overflow-is end d
+      ∙ same-lt _ _ _ _
+      (λ (h : end + p .«buffer_size_bits» < (d + (unit p - 1)) / unit p). rw (least-is d) (omega arith))
+      (λ (h : end < leastEnd p d). let g = rw (least-is d) at (h) in omega arith)
+
+  -- the same for ends on a byte edge, counted in bytes
+  pub least-byte : (k d : ℕ) → overflows p (8 * k) d ≡ ltb k ((leastEnd p d + 7) / 8)
+  least-byte k d =
+      least-end (8 * k) d
+      ∙ same-lt _ _ _ _ (λ (h : 8 * k < leastEnd p d). omega arith) (λ (h : k < (leastEnd p d + 7) / 8). omega arith)
+
+  pub not-early : (position d : ℕ) → position ≤ greatestEnd p d → early p position d ≡ false
+  not-early position d h = early-is position d ∙ le-ltb _ _ h
+
+  pub not-under : (end d : ℕ) → end ≤ greatestEnd p d → underflows p end d ≡ false
+  not-under end d h = underflow-is end d ∙ le-ltb _ _ h
+
+  pub not-over : (end d : ℕ) → leastEnd p d ≤ end → overflows p end d ≡ false
+  not-over end d h = least-end end d ∙ le-ltb _ _ h
+
+  -- a position is in time where a later end is
+  pub before-end : (position end d : ℕ) → position ≤ end → underflows p end d ≡ false → early p position d ≡ false
+  before-end position end d h g =
+      let l : end ≤ greatestEnd p d = ltb-false _ _ (sym (underflow-is end d) ∙ g) in
+      not-early position d (omega arith)
+
+  -- the buffer: at most full before a removal, and all of the picture is in it
+  pub occupancy-most : (previous d : ℕ) → overflows p previous d ≡ false → occupancy p previous d ≤ p .«buffer_size_bits»
+  unfolding occupancy
+  occupancy-most previous d h =
+      let u = unit-pos p f in
+      let l = over-units p previous d h in
+      let q = div-lt-iff-lt-mul {k = unit p} {x = d - previous * unit p} {y = p .«buffer_size_bits» + 1} u .1 (omega arith) in
+      omega arith
+
+  pub occupancy-least : (previous end d : ℕ) → underflows p end d ≡ false → end - previous ≤ occupancy p previous d
+  unfolding occupancy
+  occupancy-least previous end d h =
+      let l = under-units p end d h in
+      ⊎-elim
+      (λ (g : end < previous). omega arith)
+      (λ (g : previous ≤ end).
+      let e : (end - previous + previous) * unit p ≡ end * unit p = ap (λ (x : ℕ). x * unit p) (omega arith) in
+      le-div-iff-mul-le {k = unit p} {x = end - previous} {y = d - previous * unit p} (unit-pos p f) .1 (omega arith))
+      (lt-or-le end previous)
+
+  -- the delay: what a buffer that does not overflow holds can be said, and the first delay is the coded one
+  pub delay-most : (previous position d : ℕ) → overflows p previous d ≡ false → previous ≤ position → expectedDelay p position d ≤ 65534
+  unfolding expectedDelay unit
+  delay-most previous position d h g =
+      let a = params-fit f in
+      let l = over-units p previous d h in
+      let k : 1 ≤ p .frn * p .«bit_rate» = mul-le-mul {n₁ = 1} {m₁ = 1} (a .frn-low) (a .rate-low) in
+      let b = mul-le-mul {n₁ = 90000 * p .«buffer_size_bits»} {m₁ = p .frn} {n₂ = 65534 * p .«bit_rate»} {m₂ = p .frn} (a .full) (omega arith) in
+      let c = mul-le-mul {n₁ = previous} {m₁ = p .frn} {n₂ = position} {m₂ = p .frn} g (omega arith) in
+      let q =
+      div-lt-iff-lt-mul {k = 2 * p .frn * p .«bit_rate»} {x = d - position * (180000 * p .frn) + p .frn * p .«bit_rate»} {y = 65535}
+      (omega arith) .1 (omega arith) in
+      omega arith
+
+  pub first-delay : (position delay : ℕ) → expectedDelay p position (firstDelivered p position delay) ≡ delay
+  unfolding expectedDelay firstDelivered
+  first-delay position delay =
+      let a = params-fit f in
+      let k : 1 ≤ p .frn * p .«bit_rate» = mul-le-mul {n₁ = 1} {m₁ = 1} (a .frn-low) (a .rate-low) in
+      let e : position * unit p + delay * p .«bit_rate» * 2 * p .frn - position * unit p + p .frn * p .«bit_rate»
+      ≡ delay * (2 * p .frn * p .«bit_rate») + p .frn * p .«bit_rate» = omega arith in
+      rw e (digits-div delay {m = 2 * p .frn * p .«bit_rate»} {r = p .frn * p .«bit_rate»} (omega arith))
+
+-- a state that fits has parameters that fit
+pub fits-params : (m : VbvCbrModel) → modelFits m ≡ true → paramsFit (m .params) ≡ true
+fits-params m f = fitting-params (m .params) (model-fits f .params-fit)
+
+-- what the state is said to have delivered it has
+pub delivered-at : (m : VbvCbrModel) (d : ℕ) → delivered (atDelivered m d) ≡ d
+unfolding delivered atDelivered
+delivered-at m d = div-add-mod' d (unit (m .params))
+
+pub delivered-after : (m : VbvCbrModel) (end d : ℕ) → delivered (afterRemoval m end d) ≡ d
+unfolding delivered afterRemoval
+delivered-after m end d = div-add-mod' d (unit (m .params))
+
+pub next-is : (m : VbvCbrModel) (i : RemovalInterval) → nextDelivered m i ≡ delivered m + gain (m .params) (periods i)
+unfolding nextDelivered
+next-is m i = refl
+
+-- whole bits after a start and after an advance
+start-whole : (m : VbvCbrModel) (delay position : ℕ) → ModelFits m → delay < 65536 → position ≤ 2 ^ 48
+    → firstDelivered (m .params) position delay / unit (m .params) ≤ 2 ^ 55
+unfolding firstDelivered unit
+start-whole m delay position f l h =
+    let b = ticks-most delay (m .params .«bit_rate») l (omega arith) in
+    rw (start-div position (delay * m .params .«bit_rate») (m .params .frn) (omega arith)) (omega arith)
+
+pub next-whole : (m : VbvCbrModel) (i : RemovalInterval) → ModelFits m → nextDelivered m i / unit (m .params) ≤ m .whole + 27515364859468800
+unfolding nextDelivered delivered gain unit
+next-whole m i f =
+    let p = m .params in
+    rw (next-div (m .whole) (m .rest) (p .«bit_rate») (p .frd) (periods i) (p .frn) (omega arith))
+    (next-most (m .whole) (m .rest) (p .«bit_rate») (p .frd) (periods i) (p .frn)
+    (omega arith) (omega arith) (omega arith) (omega arith) (omega arith) (omega arith) (periods-most i))
+
+-- validity is kept
+start-stays : (m : VbvCbrModel) (delay position : ℕ) → ModelFits m → delay < 65536 → position ≤ 2 ^ 48
+    → ModelFits (atDelivered m (firstDelivered (m .params) position delay))
+unfolding atDelivered unit
+start-stays m delay position v l h =
+    record {
+      params-fit = v .params-fit;
+      whole-high = start-whole m delay position v l h;
+      rest-low = mod-lt (firstDelivered (m .params) position delay) (omega arith);
+      end-high = omega arith;
+      removed-high = omega arith;
+    }
+
+removal-stays : (m : VbvCbrModel) (end : ℕ) (i : RemovalInterval) → ModelFits m → EndFits m end
+    → overflows (m .params) (m .«prev_end_bits») (delivered m) ≡ false → ModelFits (afterRemoval m end (nextDelivered m i))
+unfolding afterRemoval delivered unit
+removal-stays m end i v g o =
+    let u = 180000 * m .params .frn in
+    let d = over-units (m .params) (m .«prev_end_bits») (delivered m) o in
+    let w : m .whole ≤ m .«prev_end_bits» + m .params .«buffer_size_bits» = le-of-mul-le-mul-right {k = u} (omega arith) (omega arith) in
+    record {
+      params-fit = v .params-fit;
+      whole-high = omega (arith, next-whole m i v);
+      rest-low = mod-lt (nextDelivered m i) (omega arith);
+      end-high = omega arith;
+      removed-high = omega arith;
+    }
+
+-- no refusal and no violation is a model or a delay
+refused-model : {e : VbvError} {m : VbvCbrModel} → Refused e ≡ Model m → ⊥
+refused-model h = let z : _≡_ {A = ℕ} 0 1 = cc in omega arith
+
+refused-removal : {e : VbvError} {m : VbvCbrModel} → rm.Refused e ≡ rm.Model m → ⊥
+refused-removal h = let z : _≡_ {A = ℕ} 0 1 = cc in omega arith
+
+violation-removal : {v : VbvViolation} {m : VbvCbrModel} → rm.Violation v ≡ rm.Model m → ⊥
+violation-removal h = let z : _≡_ {A = ℕ} 0 1 = cc in omega arith
+
+refused-delay : {e : VbvError} {d : ℕ} → dl.Refused e ≡ dl.Delay d → ⊥
+refused-delay h = let z : _≡_ {A = ℕ} 0 1 = cc in omega arith
+
+-- a model made of parameters
+pub record Made (p : VbvParams) (m : VbvCbrModel) : Type 0 where
+  pub params-fit : paramsFit p ≡ true
+  pub params-kept : m .params ≡ p
+  pub at-zero : m .«prev_end_bits» ≡ 0
+  pub none-removed : m .removed ≡ 0
+  pub unstarted : m .started ≡ false
+  pub fits : modelFits m ≡ true
+
+pub made : (p : VbvParams) (m : VbvCbrModel) → newModel p ≡ Model m → Made p m
+unfolding newModel
+made p m h =
+    let a = was-yes _ _ _ refused-model h in
+    let e : m ≡ record { params = p; whole = 0; rest = 0; «prev_end_bits» = 0; removed = 0; started = false } = cc (a .1) in
+    rw e
+    (record {
+      params-fit = a .0;
+      params-kept = refl;
+      at-zero = refl;
+      none-removed = refl;
+      unstarted = refl;
+      fits =
+          fitting-model _
+          (record { params-fit = params-fit (a .0); whole-high = omega arith; rest-low = omega (arith, params-fit (a .0)); end-high = omega arith; removed-high = omega arith });
+    })
+
+-- a started model
+pub record Started (m : VbvCbrModel) (delay position : ℕ) (next : VbvCbrModel) : Type 0 where
+  pub fitted : modelFits m ≡ true
+  pub unstarted : m .started ≡ false
+  pub position-far : position ≤ 2 ^ 48
+  pub next-is : next ≡ atDelivered m (firstDelivered (m .params) position delay)
+  pub delivered-is : delivered next ≡ firstDelivered (m .params) position delay
+  pub params-kept : next .params ≡ m .params
+  pub end-kept : next .«prev_end_bits» ≡ m .«prev_end_bits»
+  pub count-kept : next .removed ≡ m .removed
+  pub is-started : next .started ≡ true
+  pub fits : delay < 65536 → modelFits next ≡ true
+
+pub started : (m : VbvCbrModel) (delay position : ℕ) (next : VbvCbrModel) → startModel m delay position ≡ Model next
+    → Started m delay position next
+unfolding startModel atDelivered
+started m delay position next h =
+    let a = was-yes _ _ _ refused-model h in
+    let b = was-no _ _ _ refused-model (a .1) in
+    let c = was-yes _ _ _ refused-model (b .1) in
+    let far : position ≤ 2 ^ 48 = leb-true _ _ (c .0) in
+    let e : next ≡ atDelivered m (firstDelivered (m .params) position delay) = cc (c .1) in
+    rw e
+    (record {
+      fitted = a .0;
+      unstarted = b .0;
+      position-far = far;
+      next-is = refl;
+      delivered-is = delivered-at m (firstDelivered (m .params) position delay);
+      params-kept = refl;
+      end-kept = refl;
+      count-kept = refl;
+      is-started = refl;
+      fits = λ l. fitting-model _ (start-stays m delay position (model-fits (a .0)) l far);
+    })
+
+pub starts : (m : VbvCbrModel) (delay position : ℕ) → modelFits m ≡ true → m .started ≡ false → position ≤ 2 ^ 48
+    → startModel m delay position ≡ Model (atDelivered m (firstDelivered (m .params) position delay))
+unfolding startModel
+starts m delay position f s h = sym (yes _ _ _ f (no _ _ _ s (yes _ _ _ (le-leb _ _ h) refl)))
+
+-- a delay told
+pub record Delayed (m : VbvCbrModel) (position r : ℕ) : Type 0 where
+  pub fitted : modelFits m ≡ true
+  pub was-started : m .started ≡ true
+  pub position-far : position ≤ 2 ^ 48
+  pub in-time : early (m .params) position (delivered m) ≡ false
+  pub delay-is : r ≡ expectedDelay (m .params) position (delivered m)
+  pub delay-low : r ≤ 65534
+
+pub delayed : (m : VbvCbrModel) (position r : ℕ) → delayForPicture m position ≡ dl.Delay r → Delayed m position r
+unfolding delayForPicture
+delayed m position r h =
+    let a = was-yes _ _ _ refused-delay h in
+    let b = was-yes _ _ _ refused-delay (a .1) in
+    let c = was-yes _ _ _ refused-delay (b .1) in
+    let d = was-no _ _ _ refused-delay (c .1) in
+    let e = was-yes _ _ _ refused-delay (d .1) in
+    let same : r ≡ expectedDelay (m .params) position (delivered m) = cc (e .1) in
+    record {
+      fitted = a .0;
+      was-started = b .0;
+      position-far = leb-true _ _ (c .0);
+      in-time = d .0;
+      delay-is = same;
+      delay-low = rw same (leb-true _ _ (e .0));
+    }
+
+pub delays : (m : VbvCbrModel) (position : ℕ) → modelFits m ≡ true → m .started ≡ true → position ≤ 2 ^ 48
+    → early (m .params) position (delivered m) ≡ false → expectedDelay (m .params) position (delivered m) ≤ 65534
+    → delayForPicture m position ≡ dl.Delay (expectedDelay (m .params) position (delivered m))
+unfolding delayForPicture
+delays m position f s h e l =
+    sym (yes _ _ _ f (yes _ _ _ s (yes _ _ _ (le-leb _ _ h) (no _ _ _ e (yes _ _ _ (le-leb _ _ l) refl)))))
+
+-- a picture removed
+pub record Removed (m : VbvCbrModel) (end : ℕ) (i : RemovalInterval) (next : VbvCbrModel) : Type 0 where
+  pub fitted : modelFits m ≡ true
+  pub was-started : m .started ≡ true
+  pub end-fitted : EndFits m end
+  pub no-overflow : overflows (m .params) (m .«prev_end_bits») (delivered m) ≡ false
+  pub no-underflow : underflows (m .params) end (delivered m) ≡ false
+  pub next-is : next ≡ afterRemoval m end (nextDelivered m i)
+  pub delivered-is : delivered next ≡ nextDelivered m i
+  pub params-kept : next .params ≡ m .params
+  pub end-is : next .«prev_end_bits» ≡ end
+  pub count-is : next .removed ≡ m .removed + 1
+  pub is-started : next .started ≡ true
+  pub fits : modelFits next ≡ true
+
+pub removed : (m : VbvCbrModel) (end : ℕ) (i : RemovalInterval) (next : VbvCbrModel) → removePicture m end i ≡ rm.Model next
+    → Removed m end i next
+unfolding removePicture afterRemoval
+removed m end i next h =
+    let a = was-yes _ _ _ refused-removal h in
+    let b = was-yes _ _ _ refused-removal (a .1) in
+    let c = was-yes _ _ _ refused-removal (b .1) in
+    let o = was-no _ _ _ violation-removal (c .1) in
+    let u = was-no _ _ _ violation-removal (o .1) in
+    let e : next ≡ afterRemoval m end (nextDelivered m i) = cc (u .1) in
+    rw e
+    (record {
+      fitted = a .0;
+      was-started = b .0;
+      end-fitted = end-fits (c .0);
+      no-overflow = o .0;
+      no-underflow = u .0;
+      next-is = refl;
+      delivered-is = delivered-after m end (nextDelivered m i);
+      params-kept = refl;
+      end-is = refl;
+      count-is = refl;
+      is-started = refl;
+      fits = fitting-model _ (removal-stays m end i (model-fits (a .0)) (end-fits (c .0)) (o .0));
+    })
+
+pub removes : (m : VbvCbrModel) (end : ℕ) (i : RemovalInterval) → modelFits m ≡ true → m .started ≡ true → endFits m end ≡ true
+    → overflows (m .params) (m .«prev_end_bits») (delivered m) ≡ false → underflows (m .params) end (delivered m) ≡ false
+    → removePicture m end i ≡ rm.Model (afterRemoval m end (nextDelivered m i))
+unfolding removePicture
+removes m end i f s g o u = sym (yes _ _ _ f (yes _ _ _ s (yes _ _ _ g (no _ _ _ o (no _ _ _ u refl)))))
+
+-- the bits that a started model tells
+module _ (m : VbvCbrModel) (f : modelFits m ≡ true) (s : m .started ≡ true) where
+  told : (b : ℕ) → ofStarted m b ≡ bt.Bits b
+  unfolding ofStarted
+  told b = sym (yes _ _ _ f (yes _ _ _ s refl))
+
+  pub max-end : maxEndBits m ≡ bt.Bits (greatestEnd (m .params) (delivered m))
+  unfolding maxEndBits
+  max-end = told _
+
+  pub min-end : (i : RemovalInterval) → minEndBits m i ≡ bt.Bits (leastEnd (m .params) (nextDelivered m i))
+  unfolding minEndBits
+  min-end i = told _
+
+  pub occupancy-told : occupancyBeforeRemoval m ≡ bt.Bits (occupancy (m .params) (m .«prev_end_bits») (delivered m))
+  unfolding occupancyBeforeRemoval
+  occupancy-told = told _

@@ -1,0 +1,34 @@
+use Rattle.vbv.specs.Model.{delayForPicture}
+use mathlib.Core.Path.{refl}
+use borrow.Author.Tests.{lt-leb}
+use Rattle.vbv.proofs.Fitting.{told-by, model-fits}
+use Rattle.vbv.proofs.Picks.{yes, no}
+use borrow.Author.Needs.{needs}
+use native.Mathlib.Omega.{arith}
+use Rattle.vbv.proofs.VbvCbrModel.delay_for_picture.Statement.{statement}
+use Rattle.vbv.proofs.VbvCbrModel.delay_for_picture.Tie as tie
+
+fits-requires : tie.Need-fits-requires
+fits-requires c κs = search needs
+
+delay-from-requires : tie.Need-delay-from-requires
+delay-from-requires c κs = (model-fits (search told-by), (search, omega arith))
+
+returns : tie.Need-returns
+returns c = search needs
+
+returns-2 : tie.Need-returns-2
+unfolding delayForPicture
+returns-2 c = yes _ _ _ (search told-by) (yes _ _ _ (search) (no _ _ _ (search lt-leb) refl))
+
+returns-3 : tie.Need-returns-3
+unfolding delayForPicture
+returns-3 c = yes _ _ _ (search told-by) (no _ _ _ (search) refl)
+
+returns-4 : tie.Need-returns-4
+unfolding delayForPicture
+returns-4 c = no _ _ _ (search told-by) refl
+
+pub delay-for-picture-spec : {M : Type 1} → statement M
+delay-for-picture-spec =
+    tie.close (tie.spec fits-requires delay-from-requires returns returns-2 returns-3 returns-4)

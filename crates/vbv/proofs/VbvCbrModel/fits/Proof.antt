@@ -1,0 +1,21 @@
+use mathlib.Core.Path.{sym, _∙_}
+use Rattle.vbv.proofs.Fitting.{told-by, params-fit, by-params, no-params}
+use borrow.Author.Needs.{needs}
+use native.Mathlib.Omega.{arith}
+use Rattle.vbv.proofs.VbvCbrModel.fits.Statement.{statement}
+use Rattle.vbv.proofs.VbvCbrModel.fits.Tie as tie
+
+fit-requires : tie.Need-fit-requires
+fit-requires c κs = search needs
+
+mul-result : tie.Need-mul-result
+mul-result c = let p = params-fit (sym (c .before .before .before .fit .ensures) ∙ c .before .before .if1 .taken) in omega arith
+
+returns : tie.Need-returns
+returns c = by-params _ (search told-by)
+
+returns-2 : tie.Need-returns-2
+returns-2 c = no-params _ (search told-by)
+
+pub fits-spec : {M : Type 1} → statement M
+fits-spec = tie.close (tie.spec fit-requires mul-result returns returns-2)

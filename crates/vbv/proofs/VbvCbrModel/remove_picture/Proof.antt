@@ -1,0 +1,33 @@
+use Rattle.vbv.specs.Model.{endFits, removePicture}
+use mathlib.Core.Path.{refl}
+use Rattle.vbv.proofs.Fitting.{told-by, model-fits, end-fits}
+use Rattle.vbv.proofs.Picks.{yes, no}
+use borrow.Author.Needs.{needs}
+use Rattle.vbv.proofs.VbvCbrModel.remove_picture.Statement.{statement}
+use Rattle.vbv.proofs.VbvCbrModel.remove_picture.Tie as tie
+
+fits-requires : tie.Need-fits-requires
+fits-requires c κs = search needs
+
+remove-requires : tie.Need-remove-requires
+unfolding endFits
+remove-requires c κs = (model-fits (search told-by), (search, end-fits (search)))
+
+returns : tie.Need-returns
+returns c = search needs
+
+returns-2 : tie.Need-returns-2
+unfolding removePicture endFits
+returns-2 c = yes _ _ _ (search told-by) (yes _ _ _ (search) (no _ _ _ (search) refl))
+
+returns-3 : tie.Need-returns-3
+unfolding removePicture
+returns-3 c = yes _ _ _ (search told-by) (no _ _ _ (search) refl)
+
+returns-4 : tie.Need-returns-4
+unfolding removePicture
+returns-4 c = no _ _ _ (search told-by) refl
+
+pub remove-picture-spec : {M : Type 1} → statement M
+remove-picture-spec =
+    tie.close (tie.spec fits-requires remove-requires returns returns-2 returns-3 returns-4)

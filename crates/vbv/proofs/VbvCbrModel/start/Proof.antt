@@ -1,0 +1,35 @@
+use Rattle.vbv.specs.Model.{startModel}
+use mathlib.Core.Path.{refl}
+use borrow.Author.Tests.{le-leb, lt-leb}
+use Rattle.vbv.proofs.Fitting.{told-by, model-fits}
+use Rattle.vbv.proofs.Picks.{yes, no}
+use borrow.Author.Needs.{needs}
+use native.Mathlib.Omega.{arith}
+use Rattle.vbv.proofs.VbvCbrModel.start.Statement.{statement}
+use Rattle.vbv.proofs.VbvCbrModel.start.Tie as tie
+
+fits-requires : tie.Need-fits-requires
+fits-requires c κs = search needs
+
+begun-requires : tie.Need-begun-requires
+begun-requires c κs = (model-fits (search told-by), omega arith)
+
+returns : tie.Need-returns
+unfolding startModel
+returns c = yes _ _ _ (search told-by) (yes _ _ _ (search) refl)
+
+returns-2 : tie.Need-returns-2
+unfolding startModel
+returns-2 c = yes _ _ _ (search told-by) (no _ _ _ (search) (yes _ _ _ (search le-leb) (rw (c .begun .ensures))))
+
+returns-3 : tie.Need-returns-3
+unfolding startModel
+returns-3 c = yes _ _ _ (search told-by) (no _ _ _ (search) (no _ _ _ (search lt-leb) refl))
+
+returns-4 : tie.Need-returns-4
+unfolding startModel
+returns-4 c = no _ _ _ (search told-by) refl
+
+pub start-spec : {M : Type 1} → statement M
+start-spec =
+    tie.close (tie.spec fits-requires begun-requires returns returns-2 returns-3 returns-4)

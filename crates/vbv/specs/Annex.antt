@@ -1,0 +1,45 @@
+-- The video buffering verifier at a constant rate (ISO/IEC 13818-2 Annex C; 11172-2 Annex C), exact, in unbounded ℕ.
+-- Bits delivered to the buffer are counted in 1/unit bit: in these every tick of 1/90,000 s and every field period delivers a whole number.
+-- Assumes nothing.
+use Prim.Native.Nat.{ℕ, _+_, _-_, _*_, _/_}
+use mathlib.Core.Bool.{Bool}
+use lib.Dec.{ltb}
+use Rattle.vbv.specs.declared.VbvParams.{VbvParams}
+
+unfoldable pub unit : VbvParams → ℕ
+unit p = 180000 * p .frn
+
+-- C.3.1; 11172-2 C.1.3: delivered at the first removal: all up to `position`, where the picture start code ends, and what `delay` ticks bring
+unfoldable pub firstDelivered : VbvParams → ℕ → ℕ → ℕ
+firstDelivered p position delay = position * unit p + delay * p .«bit_rate» * 2 * p .frn
+
+-- C.9, C.11: what so many field periods of frd / (2 × frn) s bring
+unfoldable pub gain : VbvParams → ℕ → ℕ
+gain p periods = p .«bit_rate» * 90000 * p .frd * periods
+
+-- C.5; 11172-2 C.1.4: with d delivered and all before `previous` removed, more is in the buffer than it holds
+unfoldable pub overflows : VbvParams → ℕ → ℕ → Bool
+overflows p previous d = ltb ((previous + p .«buffer_size_bits») * unit p) d
+
+-- C.6; 11172-2 C.1.4: the picture that ends at `end` is not all there
+unfoldable pub underflows : VbvParams → ℕ → ℕ → Bool
+underflows p end d = ltb d (end * unit p)
+
+-- the picture start code that ends at `position` is not all there
+unfoldable pub early : VbvParams → ℕ → ℕ → Bool
+early p position d = ltb d (position * unit p)
+
+-- C.3.1, 6.3.9; 11172-2 2.4.3.4: ticks from the arrival of `position` to the removal; halves up (paper 01)
+unfoldable pub expectedDelay : VbvParams → ℕ → ℕ → ℕ
+expectedDelay p position d = (d - position * unit p + p .frn * p .«bit_rate») / (2 * p .frn * p .«bit_rate»)
+
+-- whole bits in the buffer before a removal
+unfoldable pub occupancy : VbvParams → ℕ → ℕ → ℕ
+occupancy p previous d = (d - previous * unit p) / unit p
+
+-- the greatest end that is all there, and the least after which a removal at d does not overflow
+unfoldable pub greatestEnd : VbvParams → ℕ → ℕ
+greatestEnd p d = d / unit p
+
+unfoldable pub leastEnd : VbvParams → ℕ → ℕ
+leastEnd p d = (d - p .«buffer_size_bits» * unit p + (unit p - 1)) / unit p

@@ -1,0 +1,6 @@
+pub mod Annex
+pub mod Answers
+pub mod Model
+pub mod Fits
+pub mod Patch
+pub mod Figures

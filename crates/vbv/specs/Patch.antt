@@ -1,0 +1,23 @@
+-- The 16 bits of vbv_delay in a picture header (ISO/IEC 13818-2 6.2.3, 6.3.9): behind 32 bits of start code, 10 of temporal_reference and 3 of picture_coding_type.
+-- Assumes nothing.
+use Prim.Native.Nat.{ℕ}
+use mathlib.Core.List.{List, [], _∷_}
+use mathlib.Core.Bool.{Bool, _&&_}
+use lib.Dec.{leb}
+use lib.ListN.{length, take}
+use Rattle.bits.specs.Bits.{pick, digits, setBits}
+use Rattle.bits.specs.Fields.{sameBytes}
+use Rattle.vbv.specs.declared.VbvError.the-variants.{NoPicture}
+use Rattle.vbv.specs.declared.VbvPatch.{VbvPatch}
+use Rattle.vbv.specs.declared.VbvPatch.the-variants.{Done, Refused}
+
+-- eight bytes at least, from 00 00 01 00 on
+unfoldable pub startsPicture : List ℕ → Bool
+startsPicture s = leb 8 (length s) && sameBytes (take 4 s) (0x00 ∷ 0x00 ∷ 0x01 ∷ 0x00 ∷ [])
+
+unfoldable pub patchAnswer : List ℕ → VbvPatch
+patchAnswer s = pick (startsPicture s) Done (Refused NoPicture)
+
+-- bits 45 to 60 are the delay, every other bit is as it was
+unfoldable pub patched : List ℕ → ℕ → List ℕ
+patched s delay = pick (startsPicture s) (setBits s 45 (digits 16 delay)) s
