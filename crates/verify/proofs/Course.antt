@@ -1,0 +1,112 @@
+-- The model's course over coded pictures is the run of Annex C.
+-- Assumes nothing.
+use mathlib.Core.Path.{_≡_, refl, subst, _∙_}
+use mathlib.Core.Bool.{true, false}
+use mathlib.Core.List.{List, [], _∷_}
+use Prim.Native.Nat.{ℕ, suc, _+_, _≤_}
+use native.Mathlib.Omega.{arith}
+use native.Mathlib.Numerals.{add-one}
+use Rattle.vbv.specs.Annex.{gain, overflows, underflows}
+use Rattle.vbv.specs.Model.{paramsFit, delivered, modelFits, afterRemoval, periods, nextDelivered}
+use Rattle.vbv.specs.Fits.{EndFits}
+use Rattle.vbv.specs.declared.VbvParams.{VbvParams}
+use Rattle.vbv.specs.declared.VbvCbrModel.{VbvCbrModel}
+use Rattle.vbv.proofs.Picks.{was-no}
+use Rattle.vbv.proofs.Fitting.{fitting-end}
+use Rattle.vbv.proofs.Laws.{fits-params, occupancy-most, Removed as WasRemoved, removed as was-removed, removes}
+use Rattle.vbv.proofs.Told.{next-told}
+use Rattle.verify.specs.declared.CodedPicture.{CodedPicture}
+use Rattle.verify.specs.declared.VbvPictureRecord.{VbvPictureRecord}
+use Rattle.verify.specs.declared.VbvVerifyError.{VbvVerifyError}
+use Rattle.verify.specs.declared.Removed.the-variants.{Recorded, Refused}
+use Rattle.verify.specs.Run.{Removal, refused, recorded, recordOf, removal, Run, stopped, ran, onward, after, run}
+use Rattle.verify.specs.Walk.{removed}
+use Rattle.verify.proofs.Rising.{Placed, Rising, last, next}
+use Rattle.verify.proofs.Removal.{removedBy, removal-is}
+
+-- a started model
+pub record Ready (p : VbvParams) (m : VbvCbrModel) : Type 0 where
+  pub fits : modelFits m ≡ true
+  pub on : m .started ≡ true
+  pub kept : m .params ≡ p
+  pub few : m .removed ≤ m .«prev_end_bits»
+
+-- a removal that Annex C records
+recorded-not : {e : VbvVerifyError} {r : VbvPictureRecord} → refused e ≡ recorded r → ⊥
+recorded-not h = let z : _≡_ {A = ℕ} 0 1 = cc in omega arith
+
+pub was-recorded : (p : VbvParams) (n previous d : ℕ) (c : CodedPicture) (r : VbvPictureRecord) → removal p n previous d c ≡ recorded r
+    → (overflows p previous d ≡ false) × (underflows p (c .«end_bits») d ≡ false) × (recordOf p previous d c ≡ r)
+unfolding removal
+was-recorded p n previous d c r h =
+    let a = was-no _ _ _ recorded-not h in
+    let b = was-no _ _ _ recorded-not (a .1) in
+    let e = was-no _ _ _ recorded-not (b .1) in
+    let o = was-no _ _ _ recorded-not (e .1) in
+    let u = was-no _ _ _ recorded-not (o .1) in
+    (o .0, u .0, cc (u .1))
+
+module _ {p : VbvParams} {m : VbvCbrModel} (y : Ready p m) {c : CodedPicture} (q : Placed (m .«prev_end_bits») c) where
+  end-fits : EndFits m (c .«end_bits»)
+  end-fits =
+      record { end-far = q .end-far; end-low = omega (arith, q .grows); count = omega (arith, q .grows, q .end-far, y .few) }
+
+  by-annex : removed m c ≡ removedBy m c (removal p (m .removed) (m .«prev_end_bits») (delivered m) c)
+  by-annex = rw (← y .kept) (removal-is m c (y .fits) (y .on) (q .position-far) end-fits)
+
+  -- the model behind a removal
+  step : {r : VbvPictureRecord} → removal p (m .removed) (m .«prev_end_bits») (delivered m) c ≡ recorded r
+      → WasRemoved m (c .«end_bits») (c .interval) (afterRemoval m (c .«end_bits») (nextDelivered m (c .interval)))
+  step {r} h =
+      let w = was-recorded p (m .removed) (m .«prev_end_bits») (delivered m) c r h in
+      was-removed _ _ _ _
+      (removes m (c .«end_bits») (c .interval) (y .fits) (y .on) (fitting-end m (c .«end_bits») end-fits) (rw (← y .kept) at (w .0)) (rw (← y .kept) at (w .1)))
+
+  within : {r : VbvPictureRecord} → removal p (m .removed) (m .«prev_end_bits») (delivered m) c ≡ recorded r
+      → r .«occupancy_before_bits» ≤ p .«buffer_size_bits»
+  unfolding recordOf
+  within {r} h =
+      let w = was-recorded p (m .removed) (m .«prev_end_bits») (delivered m) c r h in
+      let f : paramsFit p ≡ true = rw (y .kept) at (fits-params m (y .fits)) in
+      rw (← w .2) (occupancy-most p f (m .«prev_end_bits») (delivered m) (w .0))
+
+-- the course: each removal's record and the model behind it, up to the end or a refusal
+pub data Course (p : VbvParams) : VbvCbrModel → List CodedPicture → Run → Type 0 where
+  ended : {m : VbvCbrModel} → Course p m [] (ran [])
+  ceased : {m : VbvCbrModel} {c : CodedPicture} {cs : List CodedPicture} {e : VbvVerifyError} → removed m c ≡ Refused e → Course p m (c ∷ cs) (stopped e)
+  went : {m k : VbvCbrModel} {c : CodedPicture} {cs : List CodedPicture} {r : VbvPictureRecord} {rs : List VbvPictureRecord}
+      → removed m c ≡ Recorded r k → r .«occupancy_before_bits» ≤ p .«buffer_size_bits» → Course p k cs (ran rs) → Course p m (c ∷ cs) (ran (r ∷ rs))
+  halted : {m k : VbvCbrModel} {c : CodedPicture} {cs : List CodedPicture} {r : VbvPictureRecord} {e : VbvVerifyError}
+      → removed m c ≡ Recorded r k → Course p k cs (stopped e) → Course p m (c ∷ cs) (stopped e)
+
+goes : {p : VbvParams} {m k : VbvCbrModel} {c : CodedPicture} {cs : List CodedPicture} {r : VbvPictureRecord} (o : Run)
+    → removed m c ≡ Recorded r k → r .«occupancy_before_bits» ≤ p .«buffer_size_bits» → Course p k cs o → Course p m (c ∷ cs) (onward r o)
+unfolding onward
+goes (stopped e) h b t = halted h t
+goes (ran rs) h b t = went h b t
+
+pub course : {p : VbvParams} {m : VbvCbrModel} {previous : ℕ} {cs : List CodedPicture} → Ready p m → m .«prev_end_bits» ≡ previous → Rising previous cs
+    → Course p m cs (run p (m .removed) (m .«prev_end_bits») (delivered m) cs)
+unfolding run after removedBy
+course y x last = ended
+course {p} {m} y x (next {previous} {c} {cs} q t) =
+    go (λ k z w. course z w t) (rw x q) (removal p (m .removed) (m .«prev_end_bits») (delivered m) c) refl
+  where
+    k : VbvCbrModel
+    k = afterRemoval m (c .«end_bits») (nextDelivered m (c .interval))
+
+    go : ((k : VbvCbrModel) → Ready p k → k .«prev_end_bits» ≡ c .«end_bits» → Course p k cs (run p (k .removed) (k .«prev_end_bits») (delivered k) cs))
+        → Placed (m .«prev_end_bits») c → (o : Removal) → removal p (m .removed) (m .«prev_end_bits») (delivered m) c ≡ o
+        → Course p m (c ∷ cs) (after o (run p (suc (m .removed)) (c .«end_bits») (delivered m + gain p (periods (c .interval))) cs))
+    go ih q (refused e) h = ceased {e = e} (by-annex y q ∙ rw h)
+    go ih q (recorded r) h =
+        let w = step y q h in
+        let z : Ready p k
+        = record { fits = w .fits; on = w .is-started; kept = w .params-kept ∙ y .kept; few = rw (w .count-is, w .end-is) (omega (arith, q .grows, y .few)) } in
+        let d : delivered k ≡ delivered m + gain p (periods (c .interval)) = w .delivered-is ∙ next-told m (c .interval) ∙ rw (y .kept) in
+        let e : run p (k .removed) (k .«prev_end_bits») (delivered k) cs
+        ≡ run p (suc (m .removed)) (c .«end_bits») (delivered m + gain p (periods (c .interval))) cs = cc (add-one (m .removed)) in
+        goes (run p (suc (m .removed)) (c .«end_bits») (delivered m + gain p (periods (c .interval))) cs)
+        (by-annex y q ∙ rw h)
+        (within y q h)
+        (subst (λ (o : Run). Course p k cs o) e (ih k z (w .end-is)))

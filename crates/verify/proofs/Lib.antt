@@ -1,0 +1,15 @@
+pub mod NextCode
+pub mod Codes
+pub mod Walk
+pub mod Pictures
+pub mod Laid
+pub mod Parts
+pub mod Rising
+pub mod Storing
+pub mod Pieces
+pub mod Examples
+pub mod Walking
+pub mod Removal
+pub mod Course
+pub mod Fold
+pub mod Verdict

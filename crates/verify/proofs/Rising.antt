@@ -1,0 +1,105 @@
+-- The coded pictures of a stream lie one behind another, within it.
+-- Assumes nothing.
+use mathlib.Core.Path.{_≡_, refl, sym, ap, _∙_}
+use Prim.Native.Nat.{ℕ, _+_, _*_, _^_, _≤_, _<_}
+use mathlib.Core.List.{List, [], _∷_}
+use native.Mathlib.Omega.{arith}
+use lib.ListN.{length, drop}
+use Rattle.headers.specs.PictureHeader.{pictureHeader}
+use Rattle.headers.specs.Picture.{picture}
+use Rattle.headers.specs.declared.picture_header.PictureHeaderRead.{PictureHeaderRead}
+use Rattle.headers.specs.declared.picture_header.PictureHeaderRead.the-variants.{Parsed as HeaderParsed, Refused as HeaderRefused}
+use Rattle.headers.specs.declared.picture_header.PictureRead.{PictureRead}
+use Rattle.headers.specs.declared.picture_header.PictureRead.the-variants.{Parsed as PictureParsed, Refused as PictureRefused}
+use Rattle.headers.proofs.PictureHeader.{picture-header-parsed, delay-high}
+use Rattle.headers.proofs.Picture.{picture-parsed}
+use Rattle.vbv.specs.declared.RemovalInterval.{RemovalInterval}
+use Rattle.verify.specs.declared.scan.Next.{Next}
+use Rattle.verify.specs.declared.scan.Next.the-variants.{Picture, Done}
+use Rattle.verify.specs.declared.VbvStandard.{VbvStandard}
+use Rattle.verify.specs.declared.VbvStandard.the-variants.{Mpeg1, Mpeg2}
+use Rattle.verify.specs.declared.Told.{Told}
+use Rattle.verify.specs.declared.Told.the-variants.{Delay, Refused}
+use Rattle.verify.specs.declared.CodedPicture.{CodedPicture}
+use Rattle.verify.specs.declared.Coded.the-variants as cd
+use Rattle.verify.specs.Pictures.{Pic, pictures, picturesAt, nextPicture}
+use Rattle.verify.specs.Coded.{toldByHeader, toldByPicture, told, read, codedOf}
+use Rattle.verify.specs.Walk.{codedBy, codedAt}
+use Rattle.verify.proofs.Pictures.{walked, pictures-done, pictures-walk}
+use Rattle.verify.proofs.Fold.{Reads, none, good}
+
+-- a picture within the stream, behind what ends at `previous`
+pub record Placed (previous : ℕ) (c : CodedPicture) : Type 0 where
+  pub position-far : c .«pos_bits» ≤ 2 ^ 48
+  pub grows : previous < c .«end_bits»
+  pub end-far : c .«end_bits» ≤ 2 ^ 48
+  pub delay-small : c .«vbv_delay» < 65536
+
+pub data Rising : ℕ → List CodedPicture → Type 0 where
+  last : {previous : ℕ} → Rising previous []
+  next : {previous : ℕ} {c : CodedPicture} {cs : List CodedPicture} → Placed previous c → Rising (c .«end_bits») cs → Rising previous (c ∷ cs)
+
+-- a coded delay is a number of 16 bits
+header-small : (s : List ℕ) (r : PictureHeaderRead) → pictureHeader s ≡ r → (d : ℕ) (i : RemovalInterval) → toldByHeader r ≡ Delay d i → d < 65536
+unfolding toldByHeader
+header-small s (HeaderParsed h) e d i t =
+    let x : h .«vbv_delay» ≡ d = cc in omega (arith, delay-high (picture-header-parsed s h e))
+header-small s (HeaderRefused e) q d i t = let z : _≡_ {A = ℕ} 0 1 = cc in absurd (omega arith)
+
+picture-small : (s : List ℕ) (r : PictureRead) → picture s ≡ r → (d : ℕ) (i : RemovalInterval) → toldByPicture r ≡ Delay d i → d < 65536
+unfolding toldByPicture
+picture-small s (PictureParsed h x) e d i t =
+    let y : h .«vbv_delay» ≡ d = cc in omega (arith, delay-high (picture-header-parsed s h (picture-parsed s h x e .header)))
+picture-small s (PictureRefused e) q d i t = let z : _≡_ {A = ℕ} 0 1 = cc in absurd (omega arith)
+
+told-small : (standard : VbvStandard) (s : List ℕ) (d : ℕ) (i : RemovalInterval) → told standard s ≡ Delay d i → d < 65536
+unfolding told
+told-small Mpeg1 s d i t = header-small s (pictureHeader s) refl d i t
+told-small Mpeg2 s d i t = picture-small s (picture s) refl d i t
+
+-- where a coded picture lies
+coded-from : (standard : VbvStandard) (s : List ℕ) (q : Pic) (c : CodedPicture) → codedAt standard s q ≡ cd.Picture c
+    → (c .«pos_bits» ≡ 8 * (q .start + 4)) × (c .«end_bits» ≡ 8 * q .end) × (c .«vbv_delay» < 65536)
+unfolding codedAt codedBy codedOf
+coded-from standard s q c h = go (told standard (drop (q .start) s)) refl h
+  where
+    go : (t : Told) → told standard (drop (q .start) s) ≡ t → codedBy q t ≡ cd.Picture c
+        → (c .«pos_bits» ≡ 8 * (q .start + 4)) × (c .«end_bits» ≡ 8 * q .end) × (c .«vbv_delay» < 65536)
+    go (Delay d i) e h =
+        let x : codedOf q d i ≡ c = cc in (
+          sym (ap (λ (y : CodedPicture). y .«pos_bits») x),
+          sym (ap (λ (y : CodedPicture). y .«end_bits») x),
+          omega (arith, ap (λ (y : CodedPicture). y .«vbv_delay») x, told-small standard (drop (q .start) s) d i e),
+        )
+    go (Refused e) t h = let z : _≡_ {A = ℕ} 0 1 = cc in absurd (omega arith)
+
+module _ {standard : VbvStandard} {s : List ℕ} (short : 8 * length s ≤ 2 ^ 48) where
+  -- from place i on, behind what ends at byte e
+  from : {qs : List Pic} {cs : List CodedPicture} (i e : ℕ) → picturesAt s i ≡ qs → ((a b k : ℕ) → nextPicture s i ≡ Picture a b k → e ≤ a)
+      → Reads standard s qs (read cs) → Rising (8 * e) cs
+  from i e l clear none = last
+  from i e l clear (good {q} {qs} {c} {cs} t r) = go (λ k b x y. from k b x y r) (nextPicture s i) refl
+    where
+      go : ((k b : ℕ) → picturesAt s k ≡ qs → ((a₂ b₂ k₂ : ℕ) → nextPicture s k ≡ Picture a₂ b₂ k₂ → b ≤ a₂) → Rising (8 * b) cs)
+          → (o : Next) → nextPicture s i ≡ o → Rising (8 * e) (c ∷ cs)
+      go ih Done h = let z = sym (pictures-done s i h) ∙ l in let w : _≡_ {A = ℕ} 0 1 = cc in absurd (omega arith)
+      go ih (Picture a b k) h =
+          let w = walked s i a b k h in
+          let x = sym (w .list) ∙ l in
+          let y : _≡_ {A = Pic} (record { start = a; end = b }) q = cc in
+          let z : picturesAt s k ≡ qs = cc in
+          let f = coded-from standard s q c t in
+          let ea : a ≡ q .start = ap (λ (u : Pic). u .start) y in
+          let eb : b ≡ q .end = ap (λ (u : Pic). u .end) y in
+          let ec : c .«end_bits» ≡ 8 * b = omega arith in
+          next {previous = 8 * e} {c = c} {cs = cs}
+          (record {
+            position-far = omega (arith, w .low, w .on, w .high);
+            grows = omega (arith, clear a b k h, w .low, w .on);
+            end-far = omega (arith, w .high);
+            delay-small = f .2;
+          })
+          (rw ec (ih k b z (w .clear)))
+
+  pub rising : {cs : List CodedPicture} → Reads standard s (pictures s) (read cs) → Rising 0 cs
+  rising r = from 0 0 (pictures-walk s) (λ a b k h. omega arith) r

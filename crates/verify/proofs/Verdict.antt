@@ -1,0 +1,367 @@
+-- The walk's judgement is the verdict, and what it stores are the verdict's records.
+-- Assumes nothing.
+use mathlib.Core.Path.{_≡_, refl, sym, ap, subst, _∙_}
+use mathlib.Core.Bool.{Bool, true, false}
+use Prim.Native.Nat.{ℕ, suc, _+_, _*_, _/_, _^_, _≤_, _<_, min, max}
+use mathlib.Core.List.{List, [], _∷_}
+use native.Mathlib.Omega.{arith}
+use lib.Dec.{eqb, leb}
+use lib.ListN.{length}
+use lib.Seq.{sets}
+use borrow.Author.Tests.{lt-ltb, le-ltb, lt-leb, le-leb, leb-true}
+use Rattle.bits.specs.Bits.{pick}
+use Rattle.bits.specs.Answers.{over}
+use Rattle.headers.specs.declared.Error.{Error}
+use Rattle.vbv.specs.Annex.{firstDelivered}
+use Rattle.vbv.specs.Model.{paramsFit, delivered, atDelivered}
+use Rattle.vbv.specs.declared.VbvParams.{VbvParams}
+use Rattle.vbv.specs.declared.VbvCbrModel.{VbvCbrModel}
+use Rattle.vbv.specs.declared.VbvError.the-variants.{Params as ParamsError, Range}
+use Rattle.vbv.proofs.Laws.{made, started, starts}
+use Rattle.vbv.proofs.Told.{makes, unmade}
+use Rattle.verify.specs.declared.VbvStandard.{VbvStandard}
+use Rattle.verify.specs.declared.Declared.the-variants.{Params, Refused as NotDeclared}
+use Rattle.verify.specs.declared.VbvPictureRecord.{VbvPictureRecord}
+use Rattle.verify.specs.declared.VbvVerifyError.{VbvVerifyError}
+use Rattle.verify.specs.declared.VbvVerifyError.the-variants.{Model, NoPictures, VariableRate, RecordPlaces}
+use Rattle.verify.specs.declared.VbvStreamReport.{VbvStreamReport}
+use Rattle.verify.specs.declared.VbvVerified.{VbvVerified}
+use Rattle.verify.specs.declared.VbvVerified.the-variants as vf
+use Rattle.verify.specs.declared.CodedPicture.{CodedPicture}
+use Rattle.verify.specs.declared.Coded.{Coded}
+use Rattle.verify.specs.declared.Coded.the-variants as cd
+use Rattle.verify.specs.declared.Progress.{Progress}
+use Rattle.verify.specs.declared.Progress.the-variants.{Fresh, Unmodelled, Running, Stopped}
+use Rattle.verify.specs.Layout.{recordsBytes}
+use Rattle.verify.specs.Pictures.{Pic, pictures}
+use Rattle.verify.specs.Sequence.{declared}
+use Rattle.verify.specs.Coded.{Headers, unread, read, headers, codedPictures}
+use Rattle.verify.specs.Run.{Run, stopped, ran, run, occupancyAfter, leastAfter, greatestBefore}
+use Rattle.verify.specs.Check.{Verdict, no, yes, judged, withPictures, withParams, verdict, verified, records}
+use Rattle.verify.specs.Walk.{codedAt, removed, onward, begun, first, advanced, putAt, ifCoded, walked, stored, placed, judgedAs, judgement}
+use Rattle.verify.specs.Walk.{made as madeBy}
+use Rattle.verify.proofs.Storing.{records-cons, records-over}
+use Rattle.verify.proofs.Fold.{advancedAll, storedAll, Reads, reads, walked-unread, walked-read, stored-read}
+use Rattle.verify.proofs.Rising.{Placed, Rising, next, rising}
+use Rattle.verify.proofs.Course.{Ready, Course, ended, ceased, went, halted, course}
+
+-- ---- states that no picture changes
+
+stays-stopped : (p : VbvParams) (e : VbvVerifyError) (cs : List CodedPicture) → advancedAll p (Stopped e) cs ≡ Stopped e
+unfolding advancedAll advanced
+stays-stopped p e [] = refl
+stays-stopped p e (c ∷ cs) = stays-stopped p e cs
+
+stays-unmodelled : (p : VbvParams) (e : VbvVerifyError) (cs : List CodedPicture) → advancedAll p (Unmodelled e) cs ≡ Unmodelled e
+unfolding advancedAll advanced
+stays-unmodelled p e [] = refl
+stays-unmodelled p e (c ∷ cs) = stays-unmodelled p e cs
+
+-- ---- least and greatest so far, and of the records still to come
+
+unfoldable leastOf : ℕ → List VbvPictureRecord → ℕ
+leastOf l [] = l
+leastOf l (r ∷ rs) = leastOf (min l (occupancyAfter r)) rs
+
+unfoldable greatestOf : ℕ → List VbvPictureRecord → ℕ
+greatestOf g [] = g
+greatestOf g (r ∷ rs) = greatestOf (max g (r .«occupancy_before_bits»)) rs
+
+unfoldable report : VbvParams → ℕ → ℕ → ℕ → ℕ → VbvVerified
+report p places n least greatest =
+    placed n places
+    (vf.Report record {
+      «bit_rate» = p .«bit_rate»;
+      «buffer_size_bits» = p .«buffer_size_bits»;
+      pictures = n;
+      «min_occupancy_after_bits» = least;
+      «max_occupancy_before_bits» = greatest;
+    })
+
+least-is : (l : ℕ) (r : VbvPictureRecord) (rs : List VbvPictureRecord) → leastOf l (r ∷ rs) ≡ min l (leastAfter r rs)
+unfolding leastOf leastAfter
+least-is l r [] = refl
+least-is l r (q ∷ rs) = least-is (min l (occupancyAfter r)) q rs ∙ omega arith
+
+greatest-is : (g : ℕ) (rs : List VbvPictureRecord) → greatestOf g rs ≡ max g (greatestBefore rs)
+unfolding greatestOf greatestBefore
+greatest-is g [] = omega arith
+greatest-is g (r ∷ rs) = greatest-is (max g (r .«occupancy_before_bits»)) rs ∙ omega arith
+
+least-most : (r : VbvPictureRecord) (rs : List VbvPictureRecord) → leastAfter r rs ≤ r .«occupancy_before_bits»
+unfolding leastAfter occupancyAfter
+least-most r [] = omega arith
+least-most r (q ∷ rs) = omega arith
+
+-- ---- from a running model on
+
+module _ {p : VbvParams} where
+  stopped-course : {m : VbvCbrModel} {cs : List CodedPicture} {e : VbvVerifyError} → Course p m cs (stopped e)
+      → (r : VbvPictureRecord) (l g : ℕ) → advancedAll p (Running m r l g) cs ≡ Stopped e
+  unfolding advancedAll advanced onward
+  stopped-course (ceased {m} {c} {cs} {e} h) r l g = rw h (stays-stopped p e cs)
+  stopped-course (halted h t) r l g = rw h (stopped-course t _ _ _)
+
+  ran-course : {m : VbvCbrModel} {cs : List CodedPicture} {rs : List VbvPictureRecord} → Course p m cs (ran rs) → (places n : ℕ)
+      → (r : VbvPictureRecord) (l g : ℕ) → judgedAs p places n (advancedAll p (Running m r l g) cs) ≡ report p places n (leastOf l rs) (greatestOf g rs)
+  unfolding advancedAll advanced onward judgedAs report leastOf greatestOf
+  ran-course ended places n r l g = refl
+  ran-course (went h b t) places n r l g = rw h (ran-course t places n _ _ _)
+
+  ran-stored : {m : VbvCbrModel} {cs : List CodedPicture} {rs : List VbvPictureRecord} → Course p m cs (ran rs) → (places n : ℕ)
+      → (r : VbvPictureRecord) (l g : ℕ) (out : List ℕ) → n + length rs ≤ places
+      → storedAll p places n (Running m r l g) cs out ≡ sets out (32 * n) (recordsBytes rs)
+  unfolding storedAll advanced onward putAt pick recordsBytes
+  ran-stored ended places n r l g out b = refl
+  ran-stored (went {r = q} {rs} h x t) places n r l g out b =
+      rw (h, lt-ltb n places (omega arith)) (ran-stored t places (n + 1) _ _ _ _ (omega arith) ∙ records-cons out n q rs)
+
+  ran-length : {m : VbvCbrModel} {cs : List CodedPicture} {rs : List VbvPictureRecord} → Course p m cs (ran rs) → length rs ≡ length cs
+  ran-length ended = refl
+  ran-length (went h b t) = ap suc (ran-length t)
+
+  ran-least : {m : VbvCbrModel} {cs : List CodedPicture} {r : VbvPictureRecord} {rs : List VbvPictureRecord} → Course p m cs (ran (r ∷ rs))
+      → leastOf (p .«buffer_size_bits») (r ∷ rs) ≡ leastAfter r rs
+  ran-least {m} {cs} {r} {rs} (went h b t) = least-is (p .«buffer_size_bits») r rs ∙ omega (arith, least-most r rs)
+
+-- ---- the first picture starts the model
+
+record Begun (p : VbvParams) (c : CodedPicture) : Type 0 where
+  model : VbvCbrModel
+  ready : Ready p model
+  at-zero : model .«prev_end_bits» ≡ 0
+  none-removed : model .removed ≡ 0
+  delivers : delivered model ≡ firstDelivered p (c .«pos_bits») (c .«vbv_delay»)
+  goes : first p c ≡ onward (p .«buffer_size_bits») 0 (removed model c)
+
+begins : (p : VbvParams) (c : CodedPicture) → eqb (c .«vbv_delay») 0xFFFF ≡ false → paramsFit p ≡ true → Placed 0 c → Begun p c
+unfolding first madeBy begun pick
+begins p c v f q =
+    let m : VbvCbrModel = record { params = p; whole = 0; rest = 0; «prev_end_bits» = 0; removed = 0; started = false } in
+    let a = made p m (makes p f) in
+    let e = starts m (c .«vbv_delay») (c .«pos_bits») (a .fits) (a .unstarted) (q .position-far) in
+    let b = started m (c .«vbv_delay») (c .«pos_bits») _ e in
+    record {
+      model = atDelivered m (firstDelivered p (c .«pos_bits») (c .«vbv_delay»));
+      ready = record { fits = b .fits (q .delay-small); on = b .is-started; kept = b .params-kept; few = omega (arith, b .count-kept, b .end-kept) };
+      at-zero = b .end-kept;
+      none-removed = b .count-kept;
+      delivers = b .delivered-is;
+      goes = rw (v, makes p f, e);
+    }
+
+-- ---- a list of coded pictures
+
+record Judged (p : VbvParams) (places : ℕ) (cs : List CodedPicture) : Type 0 where
+  answer : judgedAs p places (length cs) (advancedAll p Fresh cs) ≡ verified (withPictures places p (read cs))
+  bytes : (out : List ℕ) → 32 * places ≤ length out → (x : VbvStreamReport) → verified (withPictures places p (read cs)) ≡ vf.Report x
+      → storedAll p places 0 Fresh cs out ≡ over (recordsBytes (records (withPictures places p (read cs)))) out
+
+refusing : {p : VbvParams} {places : ℕ} {cs : List CodedPicture} (e : VbvVerifyError)
+    → judgedAs p places (length cs) (advancedAll p Fresh cs) ≡ vf.Refused e → withPictures places p (read cs) ≡ no e → Judged p places cs
+unfolding verified
+refusing e a b =
+    record {
+      answer = a ∙ rw b;
+      bytes = λ out l x h. let y : vf.Refused e ≡ vf.Report x = rw b at h in let z : _≡_ {A = ℕ} 0 1 = cc in absurd (omega arith);
+    }
+
+reporting : {p : VbvParams} {places : ℕ} {cs : List CodedPicture} (r : VbvPictureRecord) (rs : List VbvPictureRecord)
+    → judgedAs p places (length cs) (advancedAll p Fresh cs) ≡ verified (yes p r rs) → withPictures places p (read cs) ≡ yes p r rs
+    → length (r ∷ rs) ≤ places → ((out : List ℕ) → storedAll p places 0 Fresh cs out ≡ sets out 0 (recordsBytes (r ∷ rs)))
+    → Judged p places cs
+unfolding records
+reporting r rs a b l s =
+    record {
+      answer = a ∙ rw b;
+      bytes = λ out h x y. s out ∙ rw b (records-over out (r ∷ rs) (omega arith));
+    }
+
+-- no model
+unmodelled : (p : VbvParams) (places n : ℕ) (c : CodedPicture) (cs : List CodedPicture) (e : VbvVerifyError) → first p c ≡ Unmodelled e
+    → judgedAs p places n (advancedAll p Fresh (c ∷ cs)) ≡ vf.Refused e
+unfolding advancedAll advanced judgedAs
+unmodelled p places n c cs e h = rw (h, stays-unmodelled p e cs)
+
+first-variable : (p : VbvParams) (c : CodedPicture) → eqb (c .«vbv_delay») 0xFFFF ≡ true → first p c ≡ Unmodelled VariableRate
+unfolding first pick
+first-variable p c v = rw v
+
+first-unfit : (p : VbvParams) (c : CodedPicture) → eqb (c .«vbv_delay») 0xFFFF ≡ false → paramsFit p ≡ false → first p c ≡ Unmodelled (Model ParamsError)
+unfolding first madeBy pick
+first-unfit p c v f = rw (v, unmade p f)
+
+-- a model: the walk goes on as if it ran already
+nothing : VbvPictureRecord
+nothing = record { «vbv_delay» = 0; «expected_delay» = 0; «data_bits» = 0; «occupancy_before_bits» = 0 }
+
+module _ {p : VbvParams} {c : CodedPicture} (b : Begun p c) (cs : List CodedPicture) where
+  as-running : advancedAll p Fresh (c ∷ cs) ≡ advancedAll p (Running (b .model) nothing (p .«buffer_size_bits») 0) (c ∷ cs)
+  unfolding advancedAll advanced
+  as-running = rw (b .goes)
+
+  as-stored : (places : ℕ) (out : List ℕ)
+      → storedAll p places 0 Fresh (c ∷ cs) out ≡ storedAll p places 0 (Running (b .model) nothing (p .«buffer_size_bits») 0) (c ∷ cs) out
+  unfolding storedAll advanced
+  as-stored places out = rw (b .goes)
+
+  first-course : Rising 0 (c ∷ cs) → Course p (b .model) (c ∷ cs) (run p 0 0 (firstDelivered p (c .«pos_bits») (c .«vbv_delay»)) (c ∷ cs))
+  first-course t =
+      let e : run p (b .model .removed) (b .model .«prev_end_bits») (delivered (b .model)) (c ∷ cs)
+      ≡ run p 0 0 (firstDelivered p (c .«pos_bits») (c .«vbv_delay»)) (c ∷ cs) = cc in
+      subst (λ (o : Run). Course p (b .model) (c ∷ cs) o) e (course (b .ready) (b .at-zero) t)
+
+-- the verdict where the model runs
+verdict-run : (p : VbvParams) (places : ℕ) (c : CodedPicture) (cs : List CodedPicture) (o : Run)
+    → eqb (c .«vbv_delay») 0xFFFF ≡ false → paramsFit p ≡ true → run p 0 0 (firstDelivered p (c .«pos_bits») (c .«vbv_delay»)) (c ∷ cs) ≡ o
+    → withPictures places p (read (c ∷ cs)) ≡ pick (leb (length (c ∷ cs)) places) (judged p o) (no RecordPlaces)
+unfolding withPictures pick
+verdict-run p places c cs o v f h = rw (v, f, h)
+
+runs : (p : VbvParams) (places : ℕ) (c : CodedPicture) (cs : List CodedPicture) (b : Begun p c) (o : Run)
+    → withPictures places p (read (c ∷ cs)) ≡ pick (leb (length (c ∷ cs)) places) (judged p o) (no RecordPlaces)
+    → Course p (b .model) (c ∷ cs) o → (t : Bool) → leb (length (c ∷ cs)) places ≡ t → Judged p places (c ∷ cs)
+unfolding judged judgedAs placed report verified pick
+runs p places c cs b (stopped e) w k true l = refusing e (rw (as-running b cs, stopped-course k nothing (p .«buffer_size_bits») 0, l)) (w ∙ rw l)
+runs p places c cs b (stopped e) w k false l = refusing RecordPlaces (rw (as-running b cs, stopped-course k nothing (p .«buffer_size_bits») 0, l)) (w ∙ rw l)
+runs p places c cs b (ran rs) w k false l =
+    refusing RecordPlaces (rw (as-running b cs, ran-course k places (length (c ∷ cs)) nothing (p .«buffer_size_bits») 0, l)) (w ∙ rw l)
+runs p places c cs b (ran []) w k true l = absurd (omega (arith, ran-length k))
+runs p places c cs b (ran (r ∷ rs)) w k true l =
+    let g : greatestOf 0 (r ∷ rs) ≡ greatestBefore (r ∷ rs) = greatest-is 0 (r ∷ rs) ∙ omega arith in
+    reporting r rs
+    (rw (as-running b cs, ran-course k places (length (c ∷ cs)) nothing (p .«buffer_size_bits») 0, l, ran-least k, g, ← ran-length k))
+    (w ∙ rw l)
+    (omega (arith, leb-true (length (c ∷ cs)) places l, ran-length k))
+    (λ out. as-stored b cs places out ∙ ran-stored k places 0 nothing (p .«buffer_size_bits») 0 out (omega (arith, leb-true (length (c ∷ cs)) places l, ran-length k)))
+
+verdict-none : (p : VbvParams) (places : ℕ) → withPictures places p (read []) ≡ no NoPictures
+unfolding withPictures
+verdict-none p places = refl
+
+verdict-variable : (p : VbvParams) (places : ℕ) (c : CodedPicture) (cs : List CodedPicture) → eqb (c .«vbv_delay») 0xFFFF ≡ true
+    → withPictures places p (read (c ∷ cs)) ≡ no VariableRate
+unfolding withPictures pick
+verdict-variable p places c cs v = rw v
+
+verdict-unfit : (p : VbvParams) (places : ℕ) (c : CodedPicture) (cs : List CodedPicture) → eqb (c .«vbv_delay») 0xFFFF ≡ false → paramsFit p ≡ false
+    → withPictures places p (read (c ∷ cs)) ≡ no (Model ParamsError)
+unfolding withPictures pick
+verdict-unfit p places c cs v f = rw (v, f)
+
+judges : (p : VbvParams) (places : ℕ) (cs : List CodedPicture) → Rising 0 cs → Judged p places cs
+unfolding advancedAll judgedAs
+judges p places [] t = refusing NoPictures refl (verdict-none p places)
+judges p places (c ∷ cs) (next q t) = by-delay (eqb (c .«vbv_delay») 0xFFFF) refl
+  where
+    by-params : eqb (c .«vbv_delay») 0xFFFF ≡ false → (b : Bool) → paramsFit p ≡ b → Judged p places (c ∷ cs)
+    by-params v false f =
+        refusing (Model ParamsError) (unmodelled p places _ c cs _ (first-unfit p c v f)) (verdict-unfit p places c cs v f)
+    by-params v true f =
+        let b = begins p c v f q in
+        runs p places c cs b _ (verdict-run p places c cs _ v f refl) (first-course b cs (next q t)) (leb (length (c ∷ cs)) places) refl
+
+    by-delay : (b : Bool) → eqb (c .«vbv_delay») 0xFFFF ≡ b → Judged p places (c ∷ cs)
+    by-delay true v = refusing VariableRate (unmodelled p places _ c cs _ (first-variable p c v)) (verdict-variable p places c cs v)
+    by-delay false v = by-params v (paramsFit p) refl
+
+-- ---- a stream
+
+module _ (standard : VbvStandard) (s : List ℕ) (short : 8 * length s ≤ 2 ^ 48) (p : VbvParams) (places : ℕ) where
+  pub judgement-is : judgement p places (walked standard s p 0 Fresh (pictures s)) ≡ verified (withPictures places p (codedPictures standard s))
+  unfolding codedPictures judgement withPictures verified
+  judgement-is = go (headers standard s (pictures s)) (reads standard s (pictures s))
+    where
+      go : (h : Headers) → Reads standard s (pictures s) h
+          → judgement p places (walked standard s p 0 Fresh (pictures s)) ≡ verified (withPictures places p h)
+      go (unread e) r = rw (walked-unread p r 0 Fresh)
+      go (read cs) r =
+          let e : 0 + length cs ≡ length cs = omega arith in
+          rw (walked-read p r 0 Fresh, e) (judges p places cs (rising short r) .answer)
+
+  pub stored-is : (out : List ℕ) → 32 * places ≤ length out → (x : VbvStreamReport)
+      → verified (withPictures places p (codedPictures standard s)) ≡ vf.Report x
+      → stored standard s p places 0 Fresh (pictures s) out ≡ over (recordsBytes (records (withPictures places p (codedPictures standard s)))) out
+  unfolding codedPictures withPictures verified
+  stored-is out l x a = go (headers standard s (pictures s)) (reads standard s (pictures s)) a
+    where
+      go : (h : Headers) → Reads standard s (pictures s) h → verified (withPictures places p h) ≡ vf.Report x
+          → stored standard s p places 0 Fresh (pictures s) out ≡ over (recordsBytes (records (withPictures places p h))) out
+      go (unread e) r a = let z : _≡_ {A = ℕ} 0 1 = cc in absurd (omega arith)
+      go (read cs) r a = stored-read p r places 0 Fresh out ∙ judges p places cs (rising short r) .bytes out l x a
+
+-- a walk without places stores nothing
+put-none : (n : ℕ) (st : Progress) (out : List ℕ) → putAt 0 n st out ≡ out
+unfolding putAt pick
+put-none n Fresh out = refl
+put-none n (Unmodelled e) out = refl
+put-none n (Running m r l g) out = rw (le-ltb n 0 (omega arith))
+put-none n (Stopped e) out = refl
+
+stored-none : (standard : VbvStandard) (s : List ℕ) (p : VbvParams) (n : ℕ) (st : Progress) (qs : List Pic) (out : List ℕ)
+    → stored standard s p 0 n st qs out ≡ out
+unfolding stored ifCoded
+stored-none standard s p n st [] out = refl
+stored-none standard s p n st (q ∷ qs) out = go (λ k t. stored-none standard s p k t qs out) (codedAt standard s q)
+  where
+    go : ((k : ℕ) (t : Progress) → stored standard s p 0 k t qs out ≡ out) → (o : Coded)
+        → ifCoded o (λ (e : Error). out) (λ (c : CodedPicture). stored standard s p 0 (n + 1) (advanced p st c) qs (putAt 0 n (advanced p st c) out)) ≡ out
+    go ih (cd.Picture c) = rw (put-none n (advanced p st c) out) (ih (n + 1) (advanced p st c))
+    go ih (cd.Refused e) = refl
+
+-- ---- the ways that the check goes
+
+no-records : (v : Verdict) (e : VbvVerifyError) → verified v ≡ vf.Refused e → records v ≡ []
+unfolding verified records
+no-records (no x) e h = refl
+no-records (yes p r rs) e h = let z : _≡_ {A = ℕ} 0 1 = cc in absurd (omega arith)
+
+over-none : (v : Verdict) (e : VbvVerifyError) (out : List ℕ) → verified v ≡ vf.Refused e → out ≡ over (recordsBytes (records v)) out
+unfolding over recordsBytes
+over-none v e out h = rw (no-records v e h)
+
+module _ (standard : VbvStandard) (s out : List ℕ) where
+  pub range-refused : 35184372088832 < length s
+      → (vf.Refused (Model Range) ≡ verified (verdict standard s (length out / 32)))
+      × (out ≡ over (recordsBytes (records (verdict standard s (length out / 32)))) out)
+  unfolding verdict verified pick
+  range-refused h =
+      let v : verdict standard s (length out / 32) ≡ no (Model Range) = rw (lt-leb (8 * length s) (2 ^ 48) (omega arith)) in
+      (rw v, over-none _ (Model Range) out (rw v))
+
+  module _ (h : length s ≤ 35184372088832) where
+    pub undeclared : (e : VbvVerifyError) → declared standard s ≡ NotDeclared e
+        → (vf.Refused e ≡ verified (verdict standard s (length out / 32)))
+        × (out ≡ over (recordsBytes (records (verdict standard s (length out / 32)))) out)
+    unfolding verdict withParams verified pick
+    undeclared e d =
+        let v : verdict standard s (length out / 32) ≡ no e = rw (le-leb (8 * length s) (2 ^ 48) (omega arith), d) in
+        (rw v, over-none _ e out (rw v))
+
+    module _ (p : VbvParams) (d : declared standard s ≡ Params p) {answer : VbvVerified}
+        (a : answer ≡ judgement p (length out / 32) (walked standard s p 0 Fresh (pictures s)))
+        {first : List ℕ} (f : first ≡ stored standard s p 0 0 Fresh (pictures s) out) where
+      verdict-is : verdict standard s (length out / 32) ≡ withPictures (length out / 32) p (codedPictures standard s)
+      unfolding verdict withParams pick
+      verdict-is = rw (le-leb (8 * length s) (2 ^ 48) (omega arith), d)
+
+      answer-is : answer ≡ verified (verdict standard s (length out / 32))
+      answer-is = a ∙ judgement-is standard s (omega arith) p (length out / 32) ∙ rw verdict-is
+
+      untouched : first ≡ out
+      untouched = f ∙ stored-none standard s p 0 Fresh (pictures s) out
+
+      pub refused : (e : VbvVerifyError) → answer ≡ vf.Refused e
+          → (answer ≡ verified (verdict standard s (length out / 32)))
+          × (first ≡ over (recordsBytes (records (verdict standard s (length out / 32)))) out)
+      refused e q = (answer-is, untouched ∙ over-none _ e out (sym answer-is ∙ q))
+
+      pub reported : (x : VbvStreamReport) → answer ≡ vf.Report x → {last : List ℕ}
+          → last ≡ stored standard s p (length out / 32) 0 Fresh (pictures s) first
+          → (answer ≡ verified (verdict standard s (length out / 32)))
+          × (last ≡ over (recordsBytes (records (verdict standard s (length out / 32)))) out)
+      reported x q l = (
+        answer-is,
+        l ∙ rw (untouched, verdict-is)
+            (stored-is standard s (omega arith) p (length out / 32) out (omega arith) x (rw verdict-is at (sym answer-is ∙ q))),
+      )

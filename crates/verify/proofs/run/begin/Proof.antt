@@ -1,0 +1,63 @@
+use Rattle.bits.specs.Bits.{pick}
+use borrow.Author.Tests.{ne-eqb}
+use Rattle.verify.specs.Walk.{first, made, begun}
+use borrow.Author.Needs.{needs}
+use Rattle.verify.proofs.run.begin.Statement.{statement}
+use Rattle.verify.proofs.run.begin.Tie as tie
+
+returns : tie.Need-returns
+unfolding first pick
+returns c = rw (c .if1 .taken)
+
+new-requires : tie.Need-new-requires
+new-requires c κs = search needs
+
+enum-known-unfit : tie.Need-enum-known-unfit
+enum-known-unfit c = search needs
+
+enum-known-model : tie.Need-enum-known-model
+enum-known-model c = search needs
+
+start-requires : tie.Need-start-requires
+start-requires c κs = search needs
+
+enum-known-error : tie.Need-enum-known-error
+enum-known-error c = search needs
+
+enum-known-started : tie.Need-enum-known-started
+enum-known-started c = search needs
+
+remove-requires : tie.Need-remove-requires
+remove-requires c κs = search needs
+
+go-on-requires : tie.Need-go-on-requires
+go-on-requires c κs = search needs
+
+returns-2 : tie.Need-returns-2
+unfolding first made pick
+returns-2 c = rw (ne-eqb _ _ (c .before .before .before .before .if1 .left), ← c .before .before .before .new .ensures, c .before .unfit .given .1)
+
+returns-3 : tie.Need-returns-3
+unfolding first made begun pick
+returns-3 c = let k = c .before .before .before .before in rw (ne-eqb _ _ (k .before .before .before .before .if1 .left), ← k .before .before .before .new .ensures, k .before .model .given .1, ← c .before .before .before .start .ensures, c .before .error .given .1)
+
+returns-4 : tie.Need-returns-4
+unfolding first made begun pick
+returns-4 c = let k = c .before .before .before .before .before .before in rw (ne-eqb _ _ (k .before .before .before .before .if1 .left), ← k .before .before .before .new .ensures, k .before .model .given .1, ← c .before .before .before .before .before .start .ensures, c .before .before .before .started .given .1, ← c .before .remove .ensures) (c .go-on .ensures)
+
+pub begin-spec : {M : Type 1} → statement M
+begin-spec =
+    tie.close
+    (tie.spec
+    returns
+    new-requires
+    enum-known-unfit
+    enum-known-model
+    start-requires
+    enum-known-error
+    enum-known-started
+    remove-requires
+    go-on-requires
+    returns-2
+    returns-3
+    returns-4)

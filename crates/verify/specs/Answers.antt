@@ -1,0 +1,22 @@
+-- The refusals of the check: paper 01's number, and the picture, coded and expected delay that each carries.
+-- Assumes nothing.
+use Prim.Native.Nat.{ℕ}
+use Rattle.headers.specs.Answers.{errorNumber}
+use Rattle.vbv.specs.Answers.{errorNumber as modelNumber, violationNumber, violationPicture, violationCoded, violationExpected}
+use Rattle.verify.specs.declared.VbvVerifyError.{VbvVerifyError}
+use Rattle.verify.specs.declared.VbvVerifyError.the-variants.{Parse, Model, NoSequenceHeader, NoPictures, VariableRate, RecordPlaces, Violation}
+use Rattle.verify.specs.declared.VbvRefusal.{VbvRefusal}
+
+-- 9 to 11 carry all three, every other refusal zeros
+abbrev pub plain : ℕ → VbvRefusal
+plain n = record { number = n; picture = 0; coded = 0; expected = 0 }
+
+abbrev pub refusalOf : VbvVerifyError → VbvRefusal
+refusalOf (Parse e) = plain (errorNumber e)
+refusalOf (Model e) = plain (modelNumber e)
+refusalOf NoSequenceHeader = plain 3
+refusalOf NoPictures = plain 4
+refusalOf VariableRate = plain 5
+refusalOf RecordPlaces = plain 15
+refusalOf (Violation v) =
+    record { number = violationNumber v; picture = violationPicture v; coded = violationCoded v; expected = violationExpected v }

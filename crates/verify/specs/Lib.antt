@@ -1,0 +1,10 @@
+pub mod Codes
+pub mod Pictures
+pub mod Laid
+pub mod Sequence
+pub mod Coded
+pub mod Run
+pub mod Check
+pub mod Answers
+pub mod Layout
+pub mod Walk

@@ -1,0 +1,189 @@
+// The buffer report of a constant-rate stream: start codes, pictures, and the check of Annex C.
+ghost use mathlib.Core.Path.{_≡_};
+ghost use Rattle.verify.specs.Answers.{refusalOf, plain as plainOf};
+ghost use Rattle.verify.specs.declared.VbvVerifyError.the-variants.{Violation};
+
+mod report; // the check of a stream
+mod reading; // what the headers tell
+mod records; // records as bytes
+mod run; // one removal after another
+pub mod scan; // start codes and pictures
+
+pub use crate::report::verify_cbr_stream;
+use headers::Error;
+use vbv::RemovalInterval;
+use vbv::VbvCbrModel;
+use vbv::VbvError;
+use vbv::VbvParams;
+use vbv::VbvViolation;
+
+pub enum VbvStandard {
+    Mpeg1,
+    Mpeg2,
+}
+
+// One removal. Occupancy is in whole bits, just before it.
+pub struct VbvPictureRecord {
+    pub vbv_delay: u16,
+    pub expected_delay: u16,
+    pub data_bits: u64,
+    pub occupancy_before_bits: u64,
+}
+
+pub struct VbvStreamReport {
+    pub bit_rate: u64,
+    pub buffer_size_bits: u64,
+    pub pictures: u64,
+    pub min_occupancy_after_bits: u64,
+    pub max_occupancy_before_bits: u64,
+}
+
+// Why a stream is refused.
+pub enum VbvVerifyError {
+    // A header.
+    Parse(Error),
+    // The stream's length, the frame rate code, the parameters, a position or a delay.
+    Model(VbvError),
+    NoSequenceHeader,
+    NoPictures,
+    // The first delay is 0xFFFF.
+    VariableRate,
+    // Fewer record places than pictures.
+    RecordPlaces,
+    // Overflow, underflow or a delay unlike the expected one.
+    Violation(VbvViolation),
+}
+
+// A refusal as paper 01 writes it.
+pub struct VbvRefusal {
+    pub number: u8,
+    pub picture: u64,
+    pub coded: u16,
+    pub expected: u16,
+}
+
+pub enum VbvVerified {
+    Report(VbvStreamReport),
+    Refused(VbvVerifyError),
+}
+
+// What the first sequence header declares.
+pub enum Declared {
+    Params(VbvParams),
+    Refused(VbvVerifyError),
+}
+
+// A picture as the model sees it: the end of its start code and the end of its data, in bits, its coded delay, and the
+// interval up to the next removal.
+pub struct CodedPicture {
+    pub pos_bits: u64,
+    pub end_bits: u64,
+    pub vbv_delay: u16,
+    pub interval: RemovalInterval,
+}
+
+// What a picture's headers tell.
+pub enum Told {
+    Delay(u16, RemovalInterval),
+    Refused(Error),
+}
+
+// A picture as the model sees it, or why its headers are refused.
+enum Coded {
+    Picture(CodedPicture),
+    Refused(Error),
+}
+
+// A removal: its record and the model behind it, or why it is refused.
+enum Removed {
+    Recorded(VbvPictureRecord, VbvCbrModel),
+    Refused(VbvVerifyError),
+}
+
+// How far the model has come.
+enum Progress {
+    // No picture yet.
+    Fresh,
+    // No model is started: 5 or 12.
+    Unmodelled(VbvVerifyError),
+    // The model behind the last removal and that removal's record; the least occupancy after one so far, the greatest before.
+    Running {
+        model: VbvCbrModel,
+        last: VbvPictureRecord,
+        least: u64,
+        greatest: u64,
+    },
+    // A removal was refused.
+    Stopped(VbvVerifyError),
+}
+
+// What a walk comes to: a header refused, or the number of pictures and how far the model came.
+enum Walked {
+    Unread(Error),
+    Read(usize, Progress),
+}
+
+impl VbvVerifyError {
+    // Paper 01's number, and what the refusal carries (docs/REFUSALS.md).
+    pub fn refusal(self) -> VbvRefusal
+        ensures { λ r. ⌜ r ≡ refusalOf self ⌝ }
+    {
+        match self {
+            VbvVerifyError::Parse(e) => plain(e.number()),
+            VbvVerifyError::Model(e) => plain(e.number()),
+            VbvVerifyError::NoSequenceHeader => plain(3),
+            VbvVerifyError::NoPictures => plain(4),
+            VbvVerifyError::VariableRate => plain(5),
+            VbvVerifyError::RecordPlaces => plain(15),
+            VbvVerifyError::Violation(v) => violation(v),
+        }
+    }
+}
+
+fn plain(number: u8) -> VbvRefusal
+    ensures { λ r. ⌜ r ≡ plainOf number ⌝ }
+{
+    VbvRefusal {
+        number,
+        picture: 0,
+        coded: 0,
+        expected: 0,
+    }
+}
+
+fn violation(v: VbvViolation) -> VbvRefusal
+    ensures { λ r. ⌜ r ≡ refusalOf (Violation v) ⌝ }
+{
+    match v {
+        VbvViolation::Overflow {
+            picture,
+            coded,
+            expected,
+        } => VbvRefusal {
+            number: 9,
+            picture,
+            coded,
+            expected,
+        },
+        VbvViolation::Underflow {
+            picture,
+            coded,
+            expected,
+        } => VbvRefusal {
+            number: 10,
+            picture,
+            coded,
+            expected,
+        },
+        VbvViolation::DelayMismatch {
+            picture,
+            coded,
+            expected,
+        } => VbvRefusal {
+            number: 11,
+            picture,
+            coded,
+            expected,
+        },
+    }
+}

@@ -1,0 +1,182 @@
+// One removal after another, and what the report needs of them.
+ghost use mathlib.Core.Path.{_≡_};
+ghost use Prim.Native.Nat.{_-_, min, max};
+ghost use Rattle.vbv.specs.Model.{occupancyBeforeRemoval};
+ghost use Rattle.verify.specs.Run.{apart};
+ghost use Rattle.verify.specs.Walk.{withDelays, byOccupancy, removed, onward, first, advanced};
+use crate::CodedPicture;
+use crate::Progress;
+use crate::Removed;
+use crate::VbvPictureRecord;
+use crate::VbvVerifyError;
+use vbv::VbvBits;
+use vbv::VbvCbrModel;
+use vbv::VbvDelay;
+use vbv::VbvModel;
+use vbv::VbvParams;
+use vbv::VbvRemoval;
+use vbv::VbvViolation;
+
+// The difference, or 0.
+fn less(a: u64, b: u64) -> u64
+    ensures { λ r. ⌜ r ≡ a - b ⌝ }
+{
+    if b < a { a - b } else { 0 }
+}
+
+fn least_of(a: u64, b: u64) -> u64
+    ensures { λ r. ⌜ r ≡ min a b ⌝ }
+{
+    if b < a { b } else { a }
+}
+
+fn greatest_of(a: u64, b: u64) -> u64
+    ensures { λ r. ⌜ r ≡ max a b ⌝ }
+{
+    if a < b { b } else { a }
+}
+
+// Whether two delays differ by more than one tick.
+fn are_apart(coded: u16, expected: u16) -> bool
+    ensures { λ r. ⌜ r ≡ apart coded expected ⌝ }
+{
+    let c = coded as u32;
+    let e = expected as u32;
+    (c + 1 < e) | (e + 1 < c)
+}
+
+// A violation with the delays that the model does not know.
+fn with_delays(violation: VbvViolation, coded: u16, expected: u16) -> VbvViolation
+    ensures { λ r. ⌜ r ≡ withDelays coded expected violation ⌝ }
+{
+    match violation {
+        VbvViolation::Overflow {
+            picture,
+            coded: _,
+            expected: _,
+        } => VbvViolation::Overflow {
+            picture,
+            coded,
+            expected,
+        },
+        VbvViolation::Underflow {
+            picture,
+            coded: _,
+            expected: _,
+        } => VbvViolation::Underflow {
+            picture,
+            coded,
+            expected,
+        },
+        VbvViolation::DelayMismatch {
+            picture,
+            coded: _,
+            expected: _,
+        } => VbvViolation::DelayMismatch {
+            picture,
+            coded,
+            expected,
+        },
+    }
+}
+
+// Removes a picture whose coded delay agrees with the expected one.
+fn remove_expected(model: VbvCbrModel, coded: CodedPicture, expected: u16) -> Removed
+    ensures { λ r. ⌜ r ≡ byOccupancy model coded expected (occupancyBeforeRemoval model) ⌝ }
+{
+    match model.occupancy_before_removal_bits() {
+        VbvBits::Refused(error) => Removed::Refused(VbvVerifyError::Model(error)),
+        VbvBits::Bits(before) => {
+            let interval = coded.interval;
+            match model.remove_picture(coded.end_bits, interval) {
+                VbvRemoval::Refused(error) => Removed::Refused(VbvVerifyError::Model(error)),
+                VbvRemoval::Violation(violation) => {
+                    Removed::Refused(VbvVerifyError::Violation(with_delays(
+                        violation,
+                        coded.vbv_delay,
+                        expected,
+                    )))
+                }
+                VbvRemoval::Model(next) => Removed::Recorded(
+                    VbvPictureRecord {
+                        vbv_delay: coded.vbv_delay,
+                        expected_delay: expected,
+                        data_bits: less(coded.end_bits, model.prev_end_bits),
+                        occupancy_before_bits: before,
+                    },
+                    next,
+                ),
+            }
+        }
+    }
+}
+
+// Refused by 7, 8, 11, 9, 10, in this order, or recorded.
+fn remove(model: VbvCbrModel, coded: CodedPicture) -> Removed
+    ensures { λ r. ⌜ r ≡ removed model coded ⌝ }
+{
+    match model.delay_for_picture(coded.pos_bits) {
+        VbvDelay::Refused(error) => Removed::Refused(VbvVerifyError::Model(error)),
+        VbvDelay::Delay(expected) => {
+            if are_apart(coded.vbv_delay, expected) {
+                return Removed::Refused(VbvVerifyError::Violation(VbvViolation::DelayMismatch {
+                    picture: model.removed,
+                    coded: coded.vbv_delay,
+                    expected,
+                }));
+            }
+            remove_expected(model, coded, expected)
+        }
+    }
+}
+
+// The progress behind a removal.
+fn go_on(removed: Removed, least: u64, greatest: u64) -> Progress
+    ensures { λ r. ⌜ r ≡ onward least greatest «removed» ⌝ }
+{
+    match removed {
+        Removed::Recorded(last, model) => {
+            let before = last.occupancy_before_bits;
+            Progress::Running {
+                model,
+                last,
+                least: least_of(least, less(before, last.data_bits)),
+                greatest: greatest_of(greatest, before),
+            }
+        }
+        Removed::Refused(error) => Progress::Stopped(error),
+    }
+}
+
+// The first removal. No occupancy is above B.
+fn begin(params: VbvParams, coded: CodedPicture) -> Progress
+    ensures { λ r. ⌜ r ≡ first params coded ⌝ }
+{
+    if coded.vbv_delay == 0xFFFF {
+        return Progress::Unmodelled(VbvVerifyError::VariableRate);
+    }
+    match VbvCbrModel::new(params) {
+        VbvModel::Refused(unfit) => Progress::Unmodelled(VbvVerifyError::Model(unfit)),
+        VbvModel::Model(model) => match model.start(coded.vbv_delay, coded.pos_bits) {
+            VbvModel::Refused(error) => Progress::Unmodelled(VbvVerifyError::Model(error)),
+            VbvModel::Model(started) => go_on(remove(started, coded), params.buffer_size_bits, 0),
+        },
+    }
+}
+
+// The progress behind one more picture.
+pub(crate) fn advance(progress: Progress, params: VbvParams, coded: CodedPicture) -> Progress
+    ensures { λ r. ⌜ r ≡ advanced params progress coded ⌝ }
+{
+    match progress {
+        Progress::Fresh => begin(params, coded),
+        Progress::Unmodelled(error) => Progress::Unmodelled(error),
+        Progress::Running {
+            model,
+            last: _,
+            least,
+            greatest,
+        } => go_on(remove(model, coded), least, greatest),
+        Progress::Stopped(error) => Progress::Stopped(error),
+    }
+}
