@@ -1,0 +1,59 @@
+// Kinds 17 and 18: what the check answers to a stream, as oracle/FORMAT.md lays it out: at the start of out, its length
+// returned, 0 where s is malformed.
+use crate::put::put;
+use crate::put::put64;
+use crate::take::number16;
+use verify::VbvRefusal;
+use verify::VbvStandard;
+use verify::VbvStreamReport;
+use verify::VbvVerified;
+
+// The length of the record part, and the stream.
+pub(crate) fn check(s: &[u8], standard: VbvStandard, out: &mut [u8]) -> usize {
+    if s.len() < 2 {
+        return 0;
+    }
+    let end = put_pattern(out, 41, number16(s, 0));
+    if end < 41 || out.len() < end {
+        return 0;
+    }
+    let verified = verify::verify_cbr_stream(&s[2..], standard, &mut out[41..end]);
+    put_verified(out, verified);
+    end
+}
+
+// What the record part holds before the check.
+fn put_pattern(out: &mut [u8], at: usize, count: u16) -> usize {
+    let mut next = at;
+    let mut i: u16 = 0;
+    while i < count {
+        next = put(out, next, (i % 251) as u8);
+        i += 1;
+    }
+    next
+}
+
+fn put_verified(out: &mut [u8], verified: VbvVerified) -> usize {
+    match verified {
+        VbvVerified::Refused(e) => put_refusal(out, e.refusal()),
+        VbvVerified::Report(report) => put_report(out, report),
+    }
+}
+
+fn put_refusal(out: &mut [u8], r: VbvRefusal) -> usize {
+    let picture = put(out, 0, r.number);
+    let coded = put64(out, picture, r.picture);
+    let expected = put64(out, coded, r.coded as u64);
+    let rest = put64(out, expected, r.expected as u64);
+    let last = put64(out, rest, 0);
+    put64(out, last, 0)
+}
+
+fn put_report(out: &mut [u8], r: VbvStreamReport) -> usize {
+    let rate = put(out, 0, 0);
+    let buffer = put64(out, rate, r.bit_rate);
+    let pictures = put64(out, buffer, r.buffer_size_bits);
+    let least = put64(out, pictures, r.pictures);
+    let greatest = put64(out, least, r.min_occupancy_after_bits);
+    put64(out, greatest, r.max_occupancy_before_bits)
+}

@@ -1,0 +1,138 @@
+//! Kinds 17 and 18: the check of a stream. The original has no refusal 15, and its 9 and 10 name the picture alone: these
+//! the oracle completes from pictures that it finds itself, run through the original's model.
+
+use crate::answers::{Answer, number};
+use crate::model::{Refusal, refusal};
+use original::picture_header::{Mpeg2PictureHeader, PictureStructure};
+use original::sequence_extension::Mpeg2Sequence;
+use original::sequence_header::Mpeg2SequenceHeader;
+use original::vbv::{
+    RemovalInterval, VbvCbrModel, VbvParams, VbvStandard, VbvStreamReport, VbvVerifyError, VbvViolation,
+    frame_rate_value, oracle_scan_start_codes, verify_cbr_stream,
+};
+
+const PLACES: Refusal = (15, "fewer record places than pictures");
+
+struct Picture {
+    position: u64,
+    end: u64,
+    delay: u16,
+    interval: RemovalInterval,
+}
+
+/// The pictures of a stream whose headers the original has parsed.
+fn pictures(standard: VbvStandard, stream: &[u8]) -> Vec<Picture> {
+    let codes = oracle_scan_start_codes(stream);
+    let slice = |i: &usize| (0x01..=0xAF).contains(&codes[*i].1);
+    let mut found = vec![];
+    let mut i = 0;
+    while let Some(at) = (i..codes.len()).find(|&i| codes[i].1 == 0) {
+        let first = (at + 1..codes.len()).find(slice).unwrap_or(codes.len());
+        i = (first..codes.len()).find(|i| !slice(i)).unwrap_or(codes.len());
+        let end = match codes.get(i) {
+            Some(&(offset, 0xB7)) => offset + 4,
+            Some(&(offset, _)) => offset,
+            None => stream.len(),
+        };
+        let (offset, _) = codes[at];
+        let (delay, interval) = told(standard, &stream[offset..]);
+        found.push(Picture { position: 8 * (offset as u64 + 4), end: 8 * end as u64, delay, interval });
+    }
+    found
+}
+
+fn told(standard: VbvStandard, picture: &[u8]) -> (u16, RemovalInterval) {
+    match standard {
+        VbvStandard::Mpeg1 => (Mpeg2PictureHeader::parse(picture).unwrap().vbv_delay, RemovalInterval::Frame),
+        _ => {
+            let (header, extension) = Mpeg2PictureHeader::parse_with_extension(picture).unwrap();
+            let frame = extension.picture_structure == PictureStructure::Frame;
+            (header.vbv_delay, if frame { RemovalInterval::Frame } else { RemovalInterval::Field })
+        }
+    }
+}
+
+/// What the first sequence header declares.
+fn params(standard: VbvStandard, stream: &[u8]) -> VbvParams {
+    let (at, _) = oracle_scan_start_codes(stream).into_iter().find(|&(_, code)| code == 0xB3).unwrap();
+    let header = Mpeg2SequenceHeader::parse(&stream[at..]).unwrap();
+    let (rate, buffer) = match standard {
+        VbvStandard::Mpeg1 => (header.bit_rate, header.vbv_buffer_size.into()),
+        _ => {
+            let sequence = Mpeg2Sequence::from_buf(&stream[at..]).unwrap();
+            (sequence.bit_rate, sequence.vbv_buffer_size)
+        }
+    };
+    let frame_rate = frame_rate_value(header.frame_rate_code).unwrap();
+    VbvParams::new(400 * u64::from(rate), 16_384 * u64::from(buffer), frame_rate)
+}
+
+/// The delay that the original's model expects of a picture behind others that it has removed.
+fn expected(standard: VbvStandard, stream: &[u8], all: &[Picture], picture: usize) -> u16 {
+    let params = params(standard, stream);
+    let mut model = VbvCbrModel::new(&params).unwrap();
+    model.start(all[0].delay, all[0].position);
+    for p in &all[..picture] {
+        model.remove_picture(p.end, p.interval, params.frame_rate.1).unwrap();
+    }
+    model.delay_for_picture(all[picture].position).unwrap()
+}
+
+/// The refusal of a violation, with its picture, coded and expected delay.
+fn violation(standard: VbvStandard, stream: &[u8], all: &[Picture], v: VbvViolation) -> (Refusal, [u64; 5]) {
+    let (refusal, picture) = match v {
+        VbvViolation::Overflow { picture } => ((9, "overflow"), picture),
+        VbvViolation::Underflow { picture } => ((10, "underflow"), picture),
+        VbvViolation::DelayMismatch { picture, .. } => ((11, "delay mismatch"), picture),
+        _ => unreachable!("no other violation"),
+    };
+    let (coded, expected) = (all[picture].delay, expected(standard, stream, all, picture));
+    if let VbvViolation::DelayMismatch { coded: c, expected: e, .. } = v {
+        assert_eq!((coded, expected), (c, e), "the oracle's own run is not the original's");
+    }
+    (refusal, [picture as u64, coded.into(), expected.into(), 0, 0])
+}
+
+/// The report's values, with the records stored in the part.
+fn report(report: &VbvStreamReport, part: &mut [u8]) -> [u64; 5] {
+    for (record, place) in report.pictures.iter().zip(part.chunks_mut(32)) {
+        let words = [
+            record.vbv_delay.into(),
+            record.expected_delay.into(),
+            record.data_bits,
+            record.occupancy_before_bits as u64,
+        ];
+        for (word, bytes) in words.iter().zip(place.chunks_mut(8)) {
+            bytes.copy_from_slice(&word.to_le_bytes());
+        }
+    }
+    let (least, greatest) = (report.min_occupancy_after_bits, report.max_occupancy_before_bits);
+    assert!(0 <= least && least <= greatest);
+    [report.bit_rate, report.buffer_size_bits, report.pictures.len() as u64, least as u64, greatest as u64]
+}
+
+/// The number, five words, and the record part.
+pub fn checked(standard: VbvStandard, input: &[u8]) -> Answer {
+    let mut part: Vec<u8> = (0..number(&input[..2])).map(|i| (i % 251) as u8).collect();
+    let stream = &input[2..];
+    let result = verify_cbr_stream(stream, standard);
+    let run = match &result {
+        Err(VbvVerifyError::Parse(e)) => matches!(refusal(*e).0, 7 | 8),
+        _ => true,
+    };
+    let all = if run { pictures(standard, stream) } else { vec![] };
+    let (met, words) = match result {
+        _ if part.len() / 32 < all.len() => (PLACES, [0; 5]),
+        Ok(r) => {
+            assert_eq!(r.pictures.len(), all.len(), "the oracle's own pictures are not the original's");
+            ((0, ""), report(&r, &mut part))
+        }
+        Err(VbvVerifyError::Parse(e)) => (refusal(e), [0; 5]),
+        Err(VbvVerifyError::Violation(v)) => violation(standard, stream, &all, v),
+        Err(_) => unreachable!("no other refusal"),
+    };
+    let mut bytes = vec![met.0];
+    bytes.extend(words.iter().flat_map(|w| w.to_le_bytes()));
+    bytes.extend(part);
+    Answer { bytes, met: vec![met] }
+}

@@ -1,0 +1,115 @@
+//! Inputs for kinds 17 and 18: a record part's length and a stream, good, damaged, cut or at random.
+
+use crate::draw::Draw;
+use crate::headers::damage;
+use crate::known::{KNOWN, bytes};
+use crate::streams::{self, Fault};
+use original::vbv::{VbvStandard, verify_cbr_stream};
+
+/// The record part has room for that many records, and the input fits its bytes.
+const MOST_PLACES: usize = 120;
+
+/// One input of a kind.
+pub fn drawn(kind: u8, d: &mut Draw) -> Vec<u8> {
+    let mut stream = if d.one_in(16) { noise(d) } else { a_stream(kind == 18, d) };
+    if d.one_in(3) {
+        for _ in 0..1 + d.below(3) {
+            damage(&mut stream, d);
+        }
+    }
+    let n = pictures(&stream);
+    let places = match d.below(8) {
+        0 => d.below(n + 1),
+        1 => n + d.below(3),
+        _ => n,
+    };
+    let more = if d.one_in(4) { d.below(32) } else { 0 };
+    input(32 * places + more, &stream)
+}
+
+/// The streams of a kind that have a name, each with room for three records.
+pub fn known(kind: u8) -> impl Iterator<Item = (&'static str, Vec<u8>)> {
+    KNOWN.iter().filter(move |k| k.1 == kind).map(|&(name, _, hex)| (name, input(96, &bytes(hex))))
+}
+
+/// What the original answers, in words.
+pub fn told(kind: u8, input: &[u8]) -> String {
+    let standard = if kind == 18 { VbvStandard::Mpeg2 } else { VbvStandard::Mpeg1 };
+    match verify_cbr_stream(&input[2..], standard) {
+        Err(refusal) => refusal.to_string(),
+        Ok(r) => {
+            let records = r
+                .pictures
+                .iter()
+                .map(|p| format!("; {} {} {} {}", p.vbv_delay, p.expected_delay, p.data_bits, p.occupancy_before_bits));
+            let least_greatest = (r.min_occupancy_after_bits, r.max_occupancy_before_bits);
+            format!("{} {} {} {:?}", r.bit_rate, r.buffer_size_bits, r.pictures.len(), least_greatest)
+                + &records.collect::<String>()
+        }
+    }
+}
+
+fn a_stream(mpeg2: bool, d: &mut Draw) -> Vec<u8> {
+    let fault = streams::fault(d);
+    streams::drawn(mpeg2, fault, d)
+}
+
+fn input(part: usize, stream: &[u8]) -> Vec<u8> {
+    [&(part.min(32 * MOST_PLACES) as u16).to_le_bytes()[..], stream].concat()
+}
+
+/// At least as many pictures as the original finds.
+fn pictures(stream: &[u8]) -> usize {
+    stream.windows(4).filter(|w| w == &[0, 0, 1, 0]).count()
+}
+
+/// Bytes at random, many of them 00 or 01, and start codes.
+fn noise(d: &mut Draw) -> Vec<u8> {
+    let mut bytes = vec![];
+    for _ in 0..d.below(60) {
+        match d.below(6) {
+            0 => bytes.push(d.byte()),
+            1 => bytes.extend([0, 0, 1, [0, 1, 0xAF, 0xB0, 0xB2, 0xB3, 0xB5, 0xB7, 0xB8][d.below(9)]]),
+            2 => bytes.push(1),
+            _ => bytes.push(0),
+        }
+    }
+    bytes
+}
+
+/// Around each boundary: some streams, each cut at every byte, with every bit flipped and every byte removed, doubled or
+/// followed by a zero; and each with every number of record places.
+pub fn edges(kind: u8, d: &mut Draw, put: &mut impl FnMut(&[u8])) {
+    for _ in 0..8 {
+        let stream = short(kind == 18, d);
+        let n = pictures(&stream);
+        for part in 0..32 * (n + 1) {
+            put(&input(part, &stream));
+        }
+        for i in 0..stream.len() {
+            put(&input(32 * n, &stream[..i]));
+            for bit in 0..8 {
+                let mut other = stream.clone();
+                other[i] ^= 1 << bit;
+                put(&input(32 * (n + 1), &other));
+            }
+            let mut other = stream.clone();
+            let byte = other.remove(i);
+            put(&input(32 * n, &other));
+            other.splice(i..i, [byte, byte]);
+            put(&input(32 * n, &other));
+            other[i + 1] = 0;
+            put(&input(32 * n, &other));
+        }
+    }
+}
+
+/// A valid stream of at most 150 bytes with at least two pictures.
+fn short(mpeg2: bool, d: &mut Draw) -> Vec<u8> {
+    loop {
+        let stream = streams::drawn(mpeg2, Fault::None, d);
+        if stream.len() <= 150 && 2 <= pictures(&stream) {
+            return stream;
+        }
+    }
+}

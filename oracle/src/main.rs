@@ -1,0 +1,142 @@
+//! Writes cases with the original's answers to standard output, and counts them on standard error.
+//!
+//!     cases [known] [short] [edges] SEED COUNT KIND..|all
+//!
+//! known: first the streams that have a name; short: then all inputs of at most two bytes; edges: then those around each
+//! boundary; then COUNT drawn ones.
+
+mod answers;
+mod calls;
+mod check;
+mod checks;
+mod draw;
+mod headers;
+mod known;
+mod model;
+mod streams;
+mod writers;
+
+use answers::{KINDS, answer};
+use draw::Draw;
+use std::collections::BTreeMap;
+use std::io::{BufWriter, Stdout, Write, stdout};
+use std::process::exit;
+
+/// How often each kind is drawn.
+const WEIGHTS: [usize; 18] = [12, 8, 16, 12, 8, 16, 6, 10, 2, 6, 3, 1, 1, 1, 24, 4, 40, 60];
+
+struct Cases {
+    out: BufWriter<Stdout>,
+    seen: BTreeMap<(u8, u8, &'static str), u64>,
+    count: u64,
+}
+
+impl Cases {
+    fn put(&mut self, kind: u8, input: &[u8]) {
+        let answer = answer(kind, input);
+        for (number, reason) in answer.met {
+            *self.seen.entry((kind, number, reason)).or_default() += 1;
+        }
+        self.count += 1;
+        let length = |bytes: &[u8]| u16::try_from(bytes.len()).unwrap().to_le_bytes();
+        let case = [&[kind], &length(input)[..], &length(&answer.bytes), input, &answer.bytes].concat();
+        self.out.write_all(&case).unwrap_or_else(|_| exit(1));
+    }
+
+    fn known(&mut self, kind: u8) {
+        for (name, input) in checks::known(kind) {
+            self.put(kind, &input);
+            eprintln!("known: {name}: {}", checks::told(kind, &input));
+        }
+    }
+
+    fn short(&mut self, kind: u8) {
+        if kind <= 7 {
+            headers::short(kind, &mut |input| self.put(kind, input));
+        }
+    }
+
+    fn edges(&mut self, kind: u8, d: &mut Draw) {
+        let put = &mut |input: &[u8]| self.put(kind, input);
+        match kind {
+            1..=7 => headers::edges(kind, d, put),
+            8..=13 => writers::edges(kind, d, put),
+            14..=16 => calls::edges(kind, d, put),
+            _ => checks::edges(kind, d, put),
+        }
+    }
+
+    /// Says what was made; false where a refusal that a kind can give is missing.
+    fn report(&self, kinds: &[u8]) -> bool {
+        let mut complete = true;
+        for &kind in kinds {
+            let (name, refusals) = KINDS[kind as usize - 1];
+            let of = |number: u8| self.seen.iter().filter(move |((k, n, _), _)| (*k, *n) == (kind, number));
+            eprintln!("{name}: {} accepted", of(0).map(|(_, n)| n).sum::<u64>());
+            for &number in refusals {
+                for ((_, _, reason), n) in of(number) {
+                    eprintln!("    {n} refused {number}: {reason}");
+                }
+                complete &= of(number).next().is_some();
+            }
+            complete &= of(0).next().is_some();
+        }
+        eprintln!("cases {}", self.count);
+        complete
+    }
+}
+
+/// One input of a kind.
+fn drawn(kind: u8, d: &mut Draw) -> Vec<u8> {
+    match kind {
+        1..=7 => headers::drawn(kind, d),
+        8..=13 => writers::drawn(kind, d),
+        14..=16 => calls::drawn(kind, d),
+        _ => checks::drawn(kind, d),
+    }
+}
+
+fn main() {
+    let mut words: Vec<String> = std::env::args().skip(1).collect();
+    let mut flag = |name: &str| {
+        let at = words.iter().position(|w| w == name);
+        at.map(|i| words.remove(i)).is_some()
+    };
+    let (known, short, edges, all) = (flag("known"), flag("short"), flag("edges"), flag("all"));
+    let numbers: Vec<u64> = words.iter().filter_map(|w| w.parse().ok()).collect();
+    let mut kinds: Vec<u8> = numbers.iter().skip(2).map(|&k| k as u8).collect();
+    if all {
+        kinds = (1..=18).collect();
+    }
+    if numbers.len() < 2
+        || numbers.len() != words.len()
+        || kinds.is_empty()
+        || kinds.iter().any(|k| !(1..=18).contains(k))
+    {
+        eprintln!("usage: cases [known] [short] [edges] SEED COUNT KIND..|all   (kinds 1 to 18)");
+        exit(2);
+    }
+
+    let mut d = Draw(numbers[0]);
+    let mut cases = Cases { out: BufWriter::new(stdout()), seen: BTreeMap::new(), count: 0 };
+    for &kind in &kinds {
+        if known {
+            cases.known(kind);
+        }
+        if short {
+            cases.short(kind);
+        }
+        if edges {
+            cases.edges(kind, &mut d);
+        }
+    }
+    let lots: Vec<u8> = kinds.iter().flat_map(|&k| vec![k; WEIGHTS[k as usize - 1]]).collect();
+    for _ in 0..numbers[1] {
+        let kind = lots[d.below(lots.len())];
+        cases.put(kind, &drawn(kind, &mut d));
+    }
+    cases.out.flush().unwrap_or_else(|_| exit(1));
+    if !cases.report(&kinds) {
+        exit(1);
+    }
+}

@@ -1,0 +1,83 @@
+//! Stand-in for the bit reader and writer of `oxideav_core`, which is not among the files of the original.
+//! Bits go high first; a read or skip of n bits fails if fewer remain; alignment pads with zeros.
+
+pub mod bits {
+    #[derive(Debug)]
+    pub struct Short;
+
+    pub struct BitReader<'a> {
+        bytes: &'a [u8],
+        at: usize,
+    }
+
+    impl<'a> BitReader<'a> {
+        pub fn new(bytes: &'a [u8]) -> Self {
+            Self { bytes, at: 0 }
+        }
+
+        pub fn read_u32(&mut self, n: u32) -> Result<u32, Short> {
+            assert!(n <= 32);
+            let from = self.at;
+            self.skip(n)?;
+            let bit = |i: usize| u32::from(self.bytes[i / 8] >> (7 - i % 8) & 1);
+            Ok((from..self.at).fold(0, |value, i| value << 1 | bit(i)))
+        }
+
+        pub fn skip(&mut self, n: u32) -> Result<(), Short> {
+            if 8 * self.bytes.len() - self.at < n as usize {
+                return Err(Short);
+            }
+            self.at += n as usize;
+            Ok(())
+        }
+
+        pub fn bit_position(&self) -> usize {
+            self.at
+        }
+
+        pub fn byte_position(&self) -> usize {
+            self.at / 8
+        }
+
+        pub fn is_byte_aligned(&self) -> bool {
+            self.at % 8 == 0
+        }
+    }
+
+    #[derive(Default)]
+    pub struct BitWriter {
+        bytes: Vec<u8>,
+        free: u32,
+    }
+
+    impl BitWriter {
+        pub fn new() -> Self {
+            Self::default()
+        }
+
+        pub fn write_bit(&mut self, bit: bool) {
+            if self.free == 0 {
+                self.bytes.push(0);
+                self.free = 8;
+            }
+            self.free -= 1;
+            *self.bytes.last_mut().unwrap() |= u8::from(bit) << self.free;
+        }
+
+        pub fn write_u32(&mut self, value: u32, n: u32) {
+            assert!(n <= 32);
+            for i in (0..n).rev() {
+                self.write_bit(value >> i & 1 == 1);
+            }
+        }
+
+        pub fn align_to_byte(&mut self) {
+            self.free = 0;
+        }
+
+        pub fn finish(mut self) -> Vec<u8> {
+            self.align_to_byte();
+            self.bytes
+        }
+    }
+}

@@ -1,0 +1,301 @@
+//! Streams for kinds 17 and 18, made picture by picture with the original's model: valid ones, and ones with a fault.
+
+use crate::draw::Draw;
+use crate::headers::{self, pack};
+use crate::model::{Call, Model};
+
+pub const FRAME_RATES: [(u64, u64); 8] =
+    [(24_000, 1001), (24, 1), (25, 1), (30_000, 1001), (30, 1), (50, 1), (60_000, 1001), (60, 1)];
+
+/// Bytes that a picture is at most filled up with to reach its least end.
+const FILL: u64 = 240;
+
+#[derive(Clone, Copy, PartialEq)]
+pub enum Fault {
+    None,
+    /// A delay off by some ticks, 0xFFFE or 0xFFFF.
+    Delay,
+    /// A picture a byte beyond a limit.
+    Size,
+    /// User data longer than a picture's delay lets through.
+    Early,
+    /// A picture without slices.
+    NoSlice,
+    /// The first delay is 0xFFFF.
+    VariableRate,
+    /// A delay off, and the last picture's header bad.
+    LastHeader,
+    RateCode,
+    /// The buffer is too large for the rate, or 0.
+    Ratio,
+    /// The low 18 bits of the rate are zero.
+    LowRate,
+    /// The sequence header stands behind a picture.
+    Late,
+    NoSequence,
+    NoPicture,
+}
+
+const FAULTS: [Fault; 15] = [
+    Fault::Delay,
+    Fault::Delay,
+    Fault::Size,
+    Fault::Size,
+    Fault::Early,
+    Fault::NoSlice,
+    Fault::VariableRate,
+    Fault::LastHeader,
+    Fault::RateCode,
+    Fault::Ratio,
+    Fault::LowRate,
+    Fault::Late,
+    Fault::Late,
+    Fault::NoSequence,
+    Fault::NoPicture,
+];
+
+/// What a stream is made of.
+struct Plan {
+    mpeg2: bool,
+    fault: Fault,
+    pictures: usize,
+    /// The picture at which the fault is.
+    faulty: usize,
+    rate: u64,
+    buffer: u64,
+    rate_code: u64,
+    /// Of eight pictures, how many are fields.
+    fields: usize,
+    /// Zeros at the end of a header serve as those of the next start code.
+    shared: bool,
+    end_code: bool,
+}
+
+/// A stream on the way, with the original's model as long as it refuses nothing.
+struct Stream {
+    plan: Plan,
+    model: Option<Model>,
+    bytes: Vec<u8>,
+}
+
+/// The least rate field that allows a buffer field.
+pub fn least_rate(buffer: u64) -> u64 {
+    (90_000 * 16_384 * buffer).div_ceil(65_534 * 400)
+}
+
+/// None in half of the cases.
+pub fn fault(d: &mut Draw) -> Fault {
+    if d.one_in(2) { Fault::None } else { FAULTS[d.below(FAULTS.len())] }
+}
+
+fn plan(mpeg2: bool, fault: Fault, d: &mut Draw) -> Plan {
+    let mut pictures = if d.one_in(8) { 1 + d.below(30) } else { 1 + d.below(7) };
+    let (rate_bits, buffer_bits) = if mpeg2 && d.one_in(2) { (30, 18) } else { (18, 10) };
+    let mut buffer = if d.one_in(3) { d.nonzero(buffer_bits) } else { 1 + d.below(3) as u64 };
+    let more = [0, d.below(3), d.below(60), d.below(1 << 18)][d.below(4)] as u64;
+    let mut rate = (least_rate(buffer) + more).min((1 << rate_bits) - 1);
+    if rate % (1 << 18) == 0 {
+        rate += 1;
+    }
+    let mut rate_code = 1 + d.below(8) as u64;
+    let mut faulty = d.below(pictures);
+    match fault {
+        Fault::RateCode => rate_code = if d.one_in(4) { 0 } else { 9 + d.below(7) as u64 },
+        Fault::Ratio if d.one_in(2) => buffer = 0,
+        Fault::Ratio => rate = (least_rate(buffer) - 1).max(1),
+        Fault::LowRate => rate &= !0x3FFFF,
+        Fault::Early => {
+            (buffer, rate, rate_code) = (1, 57 + d.below(9) as u64, 6 + d.below(3) as u64);
+            (pictures, faulty) = (pictures + 1, faulty + 1);
+        }
+        Fault::NoPicture => pictures = 0,
+        _ => {}
+    }
+    Plan {
+        mpeg2,
+        fault,
+        pictures,
+        faulty,
+        rate,
+        buffer,
+        rate_code,
+        fields: if mpeg2 { [0, 0, 4, 8][d.below(4)] } else { 0 },
+        shared: d.one_in(4),
+        end_code: d.one_in(2),
+    }
+}
+
+/// One stream.
+pub fn drawn(mpeg2: bool, fault: Fault, d: &mut Draw) -> Vec<u8> {
+    let plan = plan(mpeg2, fault, d);
+    let (frn, frd) = FRAME_RATES[plan.rate_code.clamp(1, 8) as usize - 1];
+    let model = Model::new([400 * plan.rate, 16_384 * plan.buffer, frn, frd]).ok();
+    let mut stream = Stream { plan, model, bytes: vec![] };
+    let late = stream.plan.fault == Fault::Late;
+    if !late && stream.plan.fault != Fault::NoSequence {
+        stream.sequence(d);
+    }
+    for n in 0..stream.plan.pictures {
+        stream.between(n, d);
+        stream.picture(n, d);
+        if late && n == stream.plan.faulty {
+            stream.sequence(d);
+        }
+    }
+    stream.bytes
+}
+
+/// Bytes in which no start code can be.
+fn filler(n: usize, d: &mut Draw) -> Vec<u8> {
+    (0..n).map(|_| 2 + d.below(254) as u8).collect()
+}
+
+fn asked(model: &mut Model, which: u8, small: u16) -> u64 {
+    model.call(Call { which, place: 0, small }).map_or(0, |v| v[0])
+}
+
+impl Stream {
+    fn faulty(&self, n: usize, fault: Fault) -> bool {
+        self.plan.fault == fault && self.plan.faulty == n
+    }
+
+    /// A start code and what follows.
+    fn put(&mut self, bytes: &[u8]) {
+        let zeros = self.bytes.iter().rev().take(2).take_while(|&&b| b == 0).count();
+        self.bytes.extend_from_slice(if self.plan.shared { &bytes[zeros..] } else { bytes });
+    }
+
+    fn sequence(&mut self, d: &mut Draw) {
+        let matrices = if d.one_in(32) { d.below(4) } else { 0 };
+        let mut header = headers::sequence_header(matrices, d);
+        header[4].1 = self.plan.rate_code;
+        header[5].1 = self.plan.rate % (1 << 18);
+        header[7].1 = self.plan.buffer % (1 << 10);
+        self.put(&pack(&header));
+        if self.plan.mpeg2 {
+            let mut extension = headers::sequence_extension(d);
+            extension[7].1 = self.plan.rate >> 18;
+            extension[9].1 = self.plan.buffer >> 10;
+            self.put(&pack(&extension));
+        }
+    }
+
+    /// What may stand before a picture: another sequence header, a group header, user data.
+    fn between(&mut self, n: usize, d: &mut Draw) {
+        if n != 0 && d.one_in(16) {
+            let declared = (self.plan.rate, self.plan.buffer);
+            (self.plan.rate, self.plan.buffer) = (d.nonzero(18), d.value(10));
+            self.sequence(d);
+            (self.plan.rate, self.plan.buffer) = declared;
+        }
+        if d.one_in(8) {
+            self.put(&[&[0, 0, 1, 0xB8][..], &filler(4, d)].concat());
+        }
+        if d.one_in(8) || self.faulty(n, Fault::Early) {
+            let most = if self.faulty(n, Fault::Early) { 150 } else { 12 };
+            let length = d.below(most);
+            self.put(&[&[0, 0, 1, 0xB2][..], &filler(length, d)].concat());
+        }
+    }
+
+    fn picture(&mut self, n: usize, d: &mut Draw) {
+        let field = d.below(8) < self.plan.fields;
+        self.picture_header(n, field, d);
+        if self.faulty(n, Fault::NoSlice) {
+            return;
+        }
+        let last = n + 1 == self.plan.pictures;
+        let tail = if last && self.plan.end_code { 4 } else { 0 };
+        let end = self.end(n, field.into(), tail, last, d);
+        self.slices(end - tail, d);
+        if tail != 0 {
+            self.bytes.extend([0, 0, 1, 0xB7]);
+        }
+        let end = Call { which: 3, place: 8 * self.bytes.len() as u64, small: field.into() };
+        if self.model.as_mut().is_some_and(|m| m.call(end).is_err()) {
+            self.model = None;
+        }
+    }
+
+    fn picture_header(&mut self, n: usize, field: bool, d: &mut Draw) {
+        let zeros = self.bytes.iter().rev().take(2).take_while(|&&b| b == 0).count();
+        let at = self.bytes.len() - if self.plan.shared { zeros } else { 0 };
+        let delay = self.delay(n, 8 * (at as u64 + 4), d);
+        let extra = if d.one_in(16) { d.below(4) } else { 0 };
+        let mut header = headers::picture_header(1 + d.below(3) as u64, extra, d);
+        header[3].1 = delay;
+        let bad = self.plan.fault == Fault::LastHeader && n + 1 == self.plan.pictures;
+        if bad && d.one_in(2) {
+            header[2].1 = [0, 5, 6, 7][d.below(4)];
+        }
+        self.put(&pack(&header));
+        if self.plan.mpeg2 {
+            let mut extension = headers::picture_coding_extension(d);
+            extension[7].1 = if field { 1 + d.below(2) as u64 } else { 3 };
+            if bad {
+                extension[1 + d.below(7)].1 = 0;
+            }
+            self.put(&pack(&extension));
+        }
+    }
+
+    /// The delay to code for a picture whose start code ends at a position.
+    fn delay(&mut self, n: usize, position: u64, d: &mut Draw) -> u64 {
+        let expected = match &mut self.model {
+            None => d.value(16),
+            Some(model) if n == 0 => {
+                let (rate, buffer) = (400 * self.plan.rate, 16_384 * self.plan.buffer);
+                let most = (buffer.saturating_sub(position) * 90_000 / rate).min(0xFFFE);
+                let early = self.plan.fault == Fault::Early;
+                let little = 500 * 90_000 / rate + d.below(200) as u64;
+                let some = [little, most, d.next() % (most + 1)][if early { 0 } else { d.below(3) }];
+                let delay = if self.plan.shared && d.one_in(2) { some & !0x1FFF } else { some };
+                let delay = if self.plan.fault == Fault::VariableRate { 0xFFFF } else { delay };
+                let _ = model.call(Call { which: 1, place: position, small: delay as u16 });
+                return delay;
+            }
+            Some(model) => match model.call(Call { which: 2, place: position, small: 0 }) {
+                Ok(v) => v[0],
+                Err(_) => d.value(16),
+            },
+        };
+        if self.faulty(n, Fault::Delay) || self.plan.fault == Fault::LastHeader {
+            let off = [1, 2, 0xFFFF, 0xFFFE, d.value(16)][d.below(5)];
+            return [(expected + off) & 0xFFFF, 0xFFFE, 0xFFFF][[0, 0, 0, 1, 2][d.below(5)]];
+        }
+        expected
+    }
+
+    /// Where the picture ends: between the limits, or a byte beyond one.
+    fn end(&mut self, n: usize, interval: u16, tail: u64, last: bool, d: &mut Draw) -> u64 {
+        let shortest = self.bytes.len() as u64 + 5 + tail;
+        let Some(model) = &mut self.model else { return shortest + d.below(8) as u64 };
+        let most = asked(model, 4, 0) / 8;
+        let least = if last { 0 } else { asked(model, 5, interval).div_ceil(8) };
+        if self.faulty(n, Fault::Size) {
+            let beyond = if d.one_in(2) { most + 1 } else { least.saturating_sub(1) };
+            return beyond.clamp(shortest, shortest + FILL);
+        }
+        let least = least.clamp(shortest, shortest + FILL);
+        let most = most.clamp(least, least + FILL / 4);
+        if self.plan.fault == Fault::Early {
+            return most;
+        }
+        [least, most, least + d.below((most - least + 1).min(24) as usize) as u64][[0, 1, 2, 2][d.below(4)]]
+    }
+
+    /// Slices and stuffing up to an end.
+    fn slices(&mut self, end: u64, d: &mut Draw) {
+        self.put(&[0, 0, 1, 1 + d.below(0xAF) as u8]);
+        let left = end as usize - self.bytes.len();
+        let stuffing = if d.one_in(2) { d.below(left + 1) } else { 0 };
+        let data = left - stuffing;
+        self.bytes.extend(filler(data.min(7), d));
+        if 11 < data && d.one_in(2) {
+            self.bytes.extend([0, 0, 1, 1 + d.below(0xAF) as u8]);
+        }
+        let rest = end as usize - stuffing - self.bytes.len();
+        self.bytes.extend(filler(rest, d));
+        self.bytes.resize(end as usize, 0);
+    }
+}
