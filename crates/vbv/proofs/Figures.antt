@@ -1,14 +1,37 @@
 -- The figures hold.
-use mathlib.Core.Path.{refl}
-use Rattle.bits.specs.Bits.{pick, num, digits, bitList, bytesOf, pack, setBits}
-use Rattle.bits.specs.Fields.{sameBytes}
+use mathlib.Core.Path.{_≡_, refl, sym}
+use mathlib.Core.Bool.{true}
+use mathlib.Core.List.{List, [], _∷_}
+use Prim.Native.Nat.{ℕ, zero, suc, _<_}
+use lib.Dec.{lit<, lit≤}
+use lib.ListN.{getD}
+use Rattle.bits.specs.Bits.{pick}
 use Rattle.vbv.specs.Annex.{unit, firstDelivered, gain, overflows, underflows, early, expectedDelay}
 use Rattle.vbv.specs.Model.{paramsFit, delivered, modelFits, atDelivered, afterRemoval, nextDelivered, newModel, startModel, delayForPicture, endFits, removePicture}
-use Rattle.vbv.specs.Patch.{startsPicture, patched}
+use Rattle.vbv.specs.Patch.{startsPicture}
 use Rattle.vbv.specs.Figures.{Figures}
+use Rattle.vbv.proofs.Patching.{starts-is, patched-bytes}
+
+-- the header whose delay is patched
+abbrev header : List ℕ
+header = 0x00 ∷ 0x00 ∷ 0x01 ∷ 0x00 ∷ 0x00 ∷ 0x0F ∷ 0xFF ∷ 0xF8 ∷ []
+
+header-bytes : (k : ℕ) → getD header k 0 < 256
+header-bytes zero = lit< tt
+header-bytes (suc zero) = lit< tt
+header-bytes (suc (suc zero)) = lit< tt
+header-bytes (suc (suc (suc zero))) = lit< tt
+header-bytes (suc (suc (suc (suc zero)))) = lit< tt
+header-bytes (suc (suc (suc (suc (suc zero))))) = lit< tt
+header-bytes (suc (suc (suc (suc (suc (suc zero)))))) = lit< tt
+header-bytes (suc (suc (suc (suc (suc (suc (suc zero))))))) = lit< tt
+header-bytes (suc (suc (suc (suc (suc (suc (suc (suc k)))))))) = lit< tt
+
+header-starts : startsPicture header ≡ true
+header-starts = sym (starts-is header (lit≤ tt))
 
 pub figures : Figures
-unfolding pick num digits bitList bytesOf pack setBits sameBytes unit firstDelivered gain overflows underflows early expectedDelay paramsFit delivered modelFits atDelivered afterRemoval nextDelivered newModel startModel delayForPicture endFits removePicture startsPicture patched
+unfolding pick unit firstDelivered gain overflows underflows early expectedDelay paramsFit delivered modelFits atDelivered afterRemoval nextDelivered newModel startModel delayForPicture endFits removePicture
 figures = record {
   first-delay = refl;
   end-246755 = refl;
@@ -20,5 +43,5 @@ figures = record {
   rate-22800 = refl;
   half-up = refl;
   three-frames = refl;
-  delay-patched = refl;
+  delay-patched = patched-bytes header 22118 header-starts header-bytes (lit< tt);
 }
