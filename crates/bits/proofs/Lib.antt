@@ -7,5 +7,7 @@ pub mod Patching
 pub mod Putting
 pub mod ReadLoop
 pub mod Reading
+pub mod Same
 pub mod Storing
 pub mod Writing
+pub mod Over
