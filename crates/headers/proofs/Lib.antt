@@ -1,7 +1,7 @@
 pub mod Answers
 pub mod CodingExtension
+pub mod Extent
 pub mod ExtraInformation
-pub mod GopHeader
 pub mod MatrixLoop
 pub mod Picture
 pub mod PictureHeader
@@ -12,3 +12,4 @@ pub mod SequenceHeader
 pub mod SequenceRoundTrip
 pub mod StartCode
 pub mod StreamWriter
+pub mod OtherDelay

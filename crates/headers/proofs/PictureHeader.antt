@@ -135,16 +135,16 @@ module _ (r : Fields) (s h : List ℕ) (e : r ≡ fieldsAnswer (readFields (moti
       case (bytes k) y = let z : n ≡ k = cc in rw z
 
 -- what a parsed header comes from
-record From (s : List ℕ) (h : Mpeg2PictureHeader) : Type 0 where
-  vs : List ℕ
-  m : List ℕ
-  n : ℕ
-  header-is : readHeader pictureStartCode pictureFields s ≡ got vs
-  motion-is : readFields (motionFields (getD vs 1 0)) s 61 ≡ got m
-  extra-is : extraAt s (extraBit (getD vs 1 0)) ≡ bytes n
-  made : h ≡ pictureOf vs m n
+pub record From (s : List ℕ) (h : Mpeg2PictureHeader) : Type 0 where
+  pub vs : List ℕ
+  pub m : List ℕ
+  pub n : ℕ
+  pub header-is : readHeader pictureStartCode pictureFields s ≡ got vs
+  pub motion-is : readFields (motionFields (getD vs 1 0)) s 61 ≡ got m
+  pub extra-is : extraAt s (extraBit (getD vs 1 0)) ≡ bytes n
+  pub made : h ≡ pictureOf vs m n
 
-from : (s : List ℕ) (h : Mpeg2PictureHeader) → pictureHeader s ≡ Accepted h → From s h
+pub from : (s : List ℕ) (h : Mpeg2PictureHeader) → pictureHeader s ≡ Accepted h → From s h
 unfolding pictureHeader behindDelay pictureThen pictureEnd
 from s h e = case (readHeader pictureStartCode pictureFields s) refl e
   where
@@ -161,7 +161,7 @@ from s h e = case (readHeader pictureStartCode pictureFields s) refl e
     case (got vs) a q = inner vs a (readFields (motionFields (getD vs 1 0)) s 61) (extraAt s (extraBit (getD vs 1 0))) refl refl q
 
 -- the three fields before the motion vectors, and the type's range
-fields-are : (s vs : List ℕ) → readFields pictureFields s 32 ≡ got vs
+pub fields-are : (s vs : List ℕ) → readFields pictureFields s 32 ≡ got vs
     → (getD vs 0 0 ≡ bitsAt s 32 10) × (getD vs 1 0 ≡ bitsAt s 42 3) × (getD vs 2 0 ≡ bitsAt s 45 16) × (1 ≤ bitsAt s 42 3) × (bitsAt s 42 3 ≤ 4)
 fields-are s vs e =
     let a = step (any 10) (field 3 1 4 ∷ any 16 ∷ []) s 32 vs e in

@@ -1,7 +1,7 @@
 -- Writing a sequence header: a matrix behind its flag, and the whole as the fixed fields gone on with.
 -- Assumes nothing.
 use mathlib.Core.Path.{_≡_, refl, ap, _∙_}
-use mathlib.Core.List.{List, [], _++_, append-nil}
+use mathlib.Core.List.{List, [], _∷_, _++_, append-nil}
 use mathlib.Core.Bool.{Bool, true, false}
 use Prim.Native.Nat.{ℕ, zero, suc, _+_, _*_, _/_, _≤_, _<_, zero-le}
 use native.Mathlib.Omega.{arith}
@@ -20,7 +20,9 @@ use Rattle.bits.proofs.Joining.{field-bits-more, field-bits-none, fits-append, 
 use Rattle.headers.specs.Answers.{written, flagOf}
 use Rattle.headers.specs.QuantMatrix.{matrixBytes, matrixFields, matrixValues}
 use Rattle.headers.specs.SequenceHeader.{sequenceHeaderCode, sequenceHeaderFields}
-use Rattle.headers.specs.StreamWriter.{paramsFields, baseValues, paramsValues}
+use Rattle.headers.specs.SequenceExtension.{extensionValues, chromaCode}
+use Rattle.headers.specs.StreamWriter.{paramsFields, baseValues, paramsValues, profileAndLevel, plainExtension}
+use Rattle.headers.specs.declared.sequence_extension.ChromaFormat.{ChromaFormat}
 use Rattle.headers.specs.declared.Error.the-variants.{FieldToWrite, ShortOutput}
 use Rattle.headers.specs.declared.Written.{Written}
 use Rattle.headers.specs.declared.Written.the-variants.{Bytes, Refused}
@@ -175,3 +177,22 @@ module _ {p : SequenceHeaderParams} {k : ℕ} (d : Sized p k) (out : List ℕ) w
   params-written h x =
       let w = write-over sequenceHeaderCode (paramsFields p) (paramsValues p) out refl params-fit (params-bytes d) h x in
       (ap written (w .0), w .1)
+
+-- the values that the code lists
+pub base-values-are : (p : SequenceHeaderParams) → baseValues p
+    ≡ p .«horizontal_size»
+    ∷ p .«vertical_size»
+    ∷ p .«aspect_ratio_code»
+    ∷ p .«frame_rate_code»
+    ∷ p .«bit_rate_value»
+    ∷ 1
+    ∷ p .«vbv_buffer_size_value»
+    ∷ 0
+    ∷ []
+unfolding baseValues
+base-values-are p = refl
+
+pub extension-values-are : (c : ChromaFormat) (progressive : Bool) → extensionValues (plainExtension c progressive)
+    ≡ 1 ∷ profileAndLevel c ∷ flagOf progressive ∷ chromaCode c ∷ 0 ∷ 0 ∷ 0 ∷ 1 ∷ 0 ∷ 0 ∷ 0 ∷ 0 ∷ []
+unfolding extensionValues plainExtension
+extension-values-are c progressive = refl

@@ -7,5 +7,4 @@ pub mod Sequence
 pub mod PictureHeader
 pub mod CodingExtension
 pub mod Picture
-pub mod GopHeader
 pub mod StreamWriter

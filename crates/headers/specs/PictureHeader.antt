@@ -122,9 +122,14 @@ behindDelay s h =
 unfoldable pub pictureHeader : List ℕ → PictureHeaderRead
 pictureHeader s = pictureThen (readHeader pictureStartCode pictureFields s) (behindDelay s)
 
--- the bytes that it occupies: its bits, nine for each extra byte and one for the last flag, with the zeros to a whole byte
+-- its bits: up to the first flag, nine for each extra byte and one for the last flag
+unfoldable pub pictureHeaderBits : Mpeg2PictureHeader → ℕ
+pictureHeaderBits h = h .«extra_information_bit» + 9 * h .«extra_information_bytes» + 1
+
+-- the bytes that it occupies, with the zeros to a whole byte
 unfoldable pub pictureHeaderBytes : Mpeg2PictureHeader → ℕ
-pictureHeaderBytes h = (h .«extra_information_bit» + 9 * h .«extra_information_bytes» + 1 + 7) / 8
+unfolding pictureHeaderBits
+pictureHeaderBytes h = (pictureHeaderBits h + 7) / 8
 
 unfoldable pub lengthOf : PictureHeaderRead → HeaderLength
 lengthOf (Accepted h) = Bytes (pictureHeaderBytes h)

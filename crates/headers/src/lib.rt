@@ -2,16 +2,14 @@
 ghost use mathlib.Core.Path.{_≡_};
 ghost use Prim.Native.Nat.{_+_, _*_, _≤_};
 ghost use lib.ListN.{drop};
-ghost use Rattle.headers.specs.Answers.{errorNumber, written, flagOf};
+ghost use Rattle.headers.specs.Answers.{errorNumber, flagOf};
 ghost use Rattle.headers.specs.StartCode.{zeros, prefixAt, nextStartCode};
-use bits::Wrote;
 
-pub mod gop_header; // group_of_pictures_header()
 pub mod picture_header; // picture_header(), picture_coding_extension()
 pub mod quant_matrix_extension; // the 64-byte matrices
 pub mod sequence_extension; // sequence_extension(), and both sequence headers together
 pub mod sequence_header; // sequence_header()
-pub mod stream_writer; // the writers of both sequence headers
+pub mod stream_writer; // what the writer of a sequence header is given
 
 // Why a header is refused, or not written.
 pub enum Error {
@@ -91,24 +89,6 @@ fn next_start_code(buf: &[u8], from: usize) -> NextStartCode
         return NextStartCode::At(end - 2);
     }
     NextStartCode::Missing
-}
-
-// A table writer's answer as a header writer's.
-fn answered(wrote: Wrote) -> Written
-    ensures { λ r. ⌜ r ≡ written wrote ⌝ }
-{
-    match wrote {
-        Wrote::Bytes(n) => Written::Bytes(n),
-        Wrote::Unfit => Written::Refused(Error::FieldToWrite),
-        Wrote::Full => Written::Refused(Error::ShortOutput),
-    }
-}
-
-// A flag as the value of its bit.
-fn flag(b: bool) -> u32
-    ensures { λ r. ⌜ r ≡ flagOf b ⌝ }
-{
-    if b { 1 } else { 0 }
 }
 
 // The bytes of a matrix in a header.

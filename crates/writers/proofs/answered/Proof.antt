@@ -1,0 +1,27 @@
+use mathlib.Core.Path.{sym, ap}
+use borrow.Author.Needs.{needs}
+use Rattle.headers.specs.Answers.{written}
+use Rattle.writers.proofs.answered.Statement.{statement}
+use Rattle.writers.proofs.answered.Tie as tie
+
+enum-known-wrote : tie.Need-enum-known-wrote
+enum-known-wrote c = search needs
+
+enum-told : tie.Need-enum-told
+enum-told c = search needs
+
+enum-told-2 : tie.Need-enum-told-2
+enum-told-2 c = search needs
+
+returns : tie.Need-returns
+returns c = sym (ap written (c .before .wrote .given .1))
+
+returns-2 : tie.Need-returns-2
+returns-2 c = sym (ap written (c .enum-told .given .1))
+
+returns-3 : tie.Need-returns-3
+returns-3 c = sym (ap written (c .enum-told2 .given .1))
+
+pub answered-spec : {M : Type 1} → statement M
+answered-spec =
+    tie.close (tie.spec enum-known-wrote enum-told enum-told-2 returns returns-2 returns-3)

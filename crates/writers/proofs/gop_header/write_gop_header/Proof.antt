@@ -1,0 +1,39 @@
+use borrow.Author.Needs.{needs}
+use Rattle.writers.proofs.gop_header.write_gop_header.Statement.{statement}
+use Rattle.writers.proofs.gop_header.write_gop_header.Tie as tie
+
+group-values-requires : tie.Need-group-values-requires
+group-values-requires c κs = search needs
+
+slice-aggregate-write-header : tie.Need-slice-aggregate-write-header
+slice-aggregate-write-header c = search needs
+
+slice-aggregate-write-header-2 : tie.Need-slice-aggregate-write-header-2
+slice-aggregate-write-header-2 c = search needs
+
+write-header-requires : tie.Need-write-header-requires
+write-header-requires c κs = search needs
+
+answered-requires : tie.Need-answered-requires
+answered-requires c κs = search needs
+
+same-length : tie.Need-same-length
+same-length c = search needs
+
+returns : tie.Need-returns
+returns c =
+    let e = c .before .before .before .before .before .before .before .group-values .ensures in
+    let w = c .before .before .before .write-header .ensures in
+    (rw (c .answered .ensures, w .0, e), rw (w .1, e))
+
+pub write-gop-header-spec : {M : Type 1} → statement M
+write-gop-header-spec =
+    tie.close
+    (tie.spec
+    group-values-requires
+    slice-aggregate-write-header
+    slice-aggregate-write-header-2
+    write-header-requires
+    answered-requires
+    same-length
+    returns)

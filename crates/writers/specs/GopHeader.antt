@@ -1,0 +1,66 @@
+-- group_of_pictures_header() (ISO/IEC 13818-2 6.2.2.6, 6.3.8; 11172-2 2.4.2.4): its fields in stream order, and the time code of a display index.
+-- Assumes nothing.
+use Prim.Native.Nat.{ℕ, _/_, _%_}
+use mathlib.Core.List.{List, [], _∷_}
+use mathlib.Core.Bool.{Bool, false, _&&_}
+use lib.Dec.{leb}
+use lib.ListN.{getD}
+use Rattle.bits.specs.Bits.{pick}
+use Rattle.bits.specs.Fields.{Field, any, exactly}
+use Rattle.headers.specs.Answers.{flagOf}
+use Rattle.headers.specs.declared.Error.the-variants.{FrameRateCode}
+use Rattle.writers.specs.declared.gop_header.TimeCode.{TimeCode}
+use Rattle.writers.specs.declared.gop_header.TimeCodeAnswer.{TimeCodeAnswer}
+use Rattle.writers.specs.declared.gop_header.TimeCodeAnswer.the-variants.{Code, Refused as NoCode}
+use Rattle.writers.specs.declared.gop_header.NominalRate.{NominalRate}
+use Rattle.writers.specs.declared.gop_header.NominalRate.the-variants.{PicturesPerSecond, Refused}
+use Rattle.writers.specs.declared.gop_header.Mpeg2Gop.{Mpeg2Gop}
+
+-- group_start_code (Table 6-1)
+abbrev pub groupStartCode : List ℕ
+groupStartCode = 0x00 ∷ 0x00 ∷ 0x01 ∷ 0xB8 ∷ []
+
+-- Table 6-11; the writer holds its values to their widths alone (docs/DIFFERENCES.md)
+abbrev pub groupFields : List Field
+groupFields =
+    any 1 ∷  -- 0 drop_frame_flag
+    any 5 ∷  -- 1 time_code_hours
+    any 6 ∷  -- 2 time_code_minutes
+    exactly 1 1 ∷  -- 3 marker_bit
+    any 6 ∷  -- 4 time_code_seconds
+    any 6 ∷  -- 5 time_code_pictures
+    any 1 ∷  -- 6 closed_gop
+    any 1 ∷ []  -- 7 broken_link
+
+unfoldable pub groupValues : Mpeg2Gop → List ℕ
+groupValues g =
+    flagOf (g .«time_code» .«drop_frame»)
+    ∷ g .«time_code» .hours
+    ∷ g .«time_code» .minutes
+    ∷ 1
+    ∷ g .«time_code» .seconds
+    ∷ g .«time_code» .pictures
+    ∷ flagOf (g .«closed_gop»)
+    ∷ flagOf (g .«broken_link»)
+    ∷ []
+
+-- Table 6-4, each rate rounded to whole pictures (6.3.8); 0 is forbidden and 9 to 15 are reserved
+abbrev pub nominalRates : List ℕ
+nominalRates = 0 ∷ 24 ∷ 24 ∷ 25 ∷ 30 ∷ 30 ∷ 50 ∷ 60 ∷ 60 ∷ []
+
+unfoldable pub nominalRate : ℕ → NominalRate
+nominalRate c = pick (leb 1 c && leb c 8) (PicturesPerSecond (getD nominalRates c 0)) (Refused FrameRateCode)
+
+-- the time code of picture n in display order at p pictures a second, without dropped numbers; hours begin again after 23
+unfoldable pub timeCode : ℕ → ℕ → TimeCode
+timeCode n p = record {
+  «drop_frame» = false;
+  hours = n / p / 60 / 60 % 24;
+  minutes = n / p / 60 % 60;
+  seconds = n / p % 60;
+  pictures = n % p;
+}
+
+unfoldable pub timeCodeAt : ℕ → NominalRate → TimeCodeAnswer
+timeCodeAt n (PicturesPerSecond p) = Code (timeCode n p)
+timeCodeAt n (Refused e) = NoCode e

@@ -1,0 +1,115 @@
+// group_of_pictures_header() (ISO/IEC 13818-2 6.2.2.6, 11172-2 2.4.2.4): the time code and the writer.
+ghost use mathlib.Core.Path.{_≡_};
+ghost use Rattle.bits.specs.Answers.{writeAnswer, writeResult};
+ghost use Rattle.headers.specs.Answers.{written};
+ghost use Rattle.writers.specs.GopHeader.{groupStartCode, groupFields, groupValues, nominalRate, timeCodeAt};
+use crate::answered;
+use crate::flag;
+use headers::Error;
+use headers::Written;
+
+pub const GROUP_START_CODE: [u8; 4] = *b"\x00\x00\x01\xB8";
+
+// drop_frame_flag, time_code_hours, time_code_minutes, marker_bit, time_code_seconds, time_code_pictures, closed_gop,
+// broken_link
+const GROUP_TABLE: [u8; 24] =
+    *b"\x01\x00\x00\x05\x00\x00\x06\x00\x00\x01\x01\x01\x06\x00\x00\x06\x00\x00\x01\x00\x00\x01\x00\x00";
+
+// time_code (Table 6-11).
+pub struct TimeCode {
+    pub drop_frame: bool,
+    pub hours: u8,
+    pub minutes: u8,
+    pub seconds: u8,
+    pub pictures: u8,
+}
+
+pub enum TimeCodeAnswer {
+    Code(TimeCode),
+    Refused(Error),
+}
+
+pub enum NominalRate {
+    PicturesPerSecond(u8),
+    Refused(Error),
+}
+
+pub struct Mpeg2Gop {
+    pub time_code: TimeCode,
+    pub closed_gop: bool,
+    pub broken_link: bool,
+}
+
+// Table 6-4, rounded to whole pictures a second.
+const NOMINAL_RATES: [u8; 9] = [0, 24, 24, 25, 30, 30, 50, 60, 60];
+
+// The pictures that a second counts without dropped numbers (6.3.8).
+pub fn nominal_pictures_per_second(picture_rate_code: u8) -> NominalRate
+    ensures { λ r. ⌜ r ≡ nominalRate «picture_rate_code» ⌝ }
+{
+    if picture_rate_code == 0 {
+        return NominalRate::Refused(Error::FrameRateCode);
+    }
+    if 8 < picture_rate_code {
+        return NominalRate::Refused(Error::FrameRateCode);
+    }
+    NominalRate::PicturesPerSecond(NOMINAL_RATES[picture_rate_code as usize])
+}
+
+impl TimeCode {
+    // The time code of a picture by its index in display order.
+    pub fn from_display_index(display_index: u64, picture_rate_code: u8) -> TimeCodeAnswer
+        ensures { λ r. ⌜ r ≡ timeCodeAt «display_index» (nominalRate «picture_rate_code») ⌝ }
+    {
+        let rate = nominal_pictures_per_second(picture_rate_code);
+        match rate {
+            NominalRate::Refused(error) => TimeCodeAnswer::Refused(error),
+            NominalRate::PicturesPerSecond(p) => {
+                let fps = p as u64;
+                let total_seconds = display_index / fps;
+                let total_minutes = total_seconds / 60;
+                let hours = (total_minutes / 60 % 24) as u8;
+                let minutes = (total_minutes % 60) as u8;
+                let seconds = (total_seconds % 60) as u8;
+                let pictures = (display_index % fps) as u8;
+                TimeCodeAnswer::Code(TimeCode {
+                    drop_frame: false,
+                    hours,
+                    minutes,
+                    seconds,
+                    pictures,
+                })
+            }
+        }
+    }
+}
+
+// The values of the fields.
+fn group_values(gop: Mpeg2Gop) -> [u32; 8]
+    ensures { λ r. ⌜ r ≡ groupValues gop ⌝ }
+{
+    let time_code = gop.time_code;
+    let hours = time_code.hours as u32;
+    let minutes = time_code.minutes as u32;
+    let seconds = time_code.seconds as u32;
+    let pictures = time_code.pictures as u32;
+    [
+        flag(time_code.drop_frame),
+        hours,
+        minutes,
+        1,
+        seconds,
+        pictures,
+        flag(gop.closed_gop),
+        flag(gop.broken_link),
+    ]
+}
+
+// Writes the header into the first bytes of out.
+pub fn write_gop_header(out: &mut [u8], gop: Mpeg2Gop) -> Written
+    ensures { λ r. ⌜ r ≡ written (writeAnswer groupStartCode groupFields (groupValues gop) (now (out .entry))) ⌝ }
+    ensures { λ r. ⌜ now (out .exit) ≡ writeResult groupStartCode groupFields (groupValues gop) (now (out .entry)) ⌝ }
+{
+    let values = group_values(gop);
+    answered(bits::write_header(out, GROUP_START_CODE, &GROUP_TABLE, &values))
+}
