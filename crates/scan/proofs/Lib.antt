@@ -1,0 +1,12 @@
+pub mod NextCode
+pub mod Codes
+pub mod Walk
+pub mod Blocks
+pub mod Pictures
+pub mod Laid
+pub mod Laying
+pub mod Pieces
+pub mod Search
+pub mod Examples
+pub mod PictureCodes
+pub mod Sorts

@@ -1,0 +1,106 @@
+-- What the definition of the next code says at an index of the stream.
+-- Assumes nothing.
+use mathlib.Core.Path.{_≡_, refl, sym, _∙_}
+use Prim.Native.Nat.{ℕ, _+_, _-_, _≤_, _<_}
+use mathlib.Core.List.{List, [], _∷_}
+use mathlib.Core.Bool.{true, false, _&&_, and-false}
+use native.Mathlib.Omega.{arith}
+use native.Mathlib.Nat.{add-zero}
+use native.Mathlib.Numerals.{add-one}
+use lib.ListN.{length, drop, getD, length-drop}
+use lib.Seq.{drop-drop, getD-drop}
+use lib.Dec.{eqb, leb}
+use borrow.Author.Tests.{ne-eqb, le-leb}
+use Rattle.bits.specs.Bits.{pick}
+use Rattle.scan.specs.declared.Found.the-variants.{At, Nothing}
+use Rattle.scan.specs.Codes.{starts, fourth, firstFrom, nextCode}
+
+-- ---- over a list
+
+-- the test, and the fourth byte, by index
+starts-is : (l : List ℕ) → starts l ≡ (leb 4 (length l) && (eqb (getD l 0 0) 0 && (eqb (getD l 1 0) 0 && eqb (getD l 2 0) 1)))
+unfolding starts
+starts-is [] = refl
+starts-is (a ∷ []) = refl
+starts-is (a ∷ b ∷ []) = refl
+starts-is (a ∷ b ∷ c ∷ []) = refl
+starts-is (a ∷ b ∷ c ∷ d ∷ l) =
+    let h : 4 ≤ length (a ∷ b ∷ c ∷ d ∷ l) = omega arith in
+    rw (le-leb 4 (length (a ∷ b ∷ c ∷ d ∷ l)) h)
+
+fourth-is : (l : List ℕ) → fourth l ≡ getD l 3 0
+unfolding fourth
+fourth-is [] = refl
+fourth-is (a ∷ []) = refl
+fourth-is (a ∷ b ∷ []) = refl
+fourth-is (a ∷ b ∷ c ∷ []) = refl
+fourth-is (a ∷ b ∷ c ∷ d ∷ l) = refl
+
+short : (l : List ℕ) (o : ℕ) → length l < 4 → firstFrom o l ≡ Nothing
+unfolding firstFrom starts pick
+short [] o h = refl
+short (a ∷ []) o h = refl
+short (a ∷ b ∷ []) o h = refl
+short (a ∷ b ∷ c ∷ []) o h = refl
+short (a ∷ b ∷ c ∷ d ∷ l) o h = absurd (omega arith)
+
+first-on : (o : ℕ) (l : List ℕ) → starts l ≡ false → firstFrom (o + 1) (drop 1 l) ≡ firstFrom o l
+unfolding firstFrom pick
+first-on o [] e = refl
+first-on o (b ∷ l) e = rw (add-one o, e)
+
+first-here : (o : ℕ) (l : List ℕ) → starts l ≡ true → At o (fourth l) ≡ firstFrom o l
+unfolding firstFrom pick starts
+first-here o [] e = cc
+first-here o (b ∷ l) e = rw e
+
+-- ---- in a stream
+
+pub next-short : (s : List ℕ) (i : ℕ) → length s < i + 4 → Nothing ≡ nextCode s i
+unfolding nextCode
+next-short s i h = sym (short (drop i s) i (simp length-drop (omega arith)))
+
+starts-at : (s : List ℕ) (i : ℕ)
+    → starts (drop i s) ≡ (leb 4 (length s - i) && (eqb (getD s i 0) 0 && (eqb (getD s (i + 1) 0) 0 && eqb (getD s (i + 2) 0) 1)))
+starts-at s i = starts-is (drop i s) ∙ rw (length-drop, getD-drop i s 0 0, getD-drop i s 1 0, getD-drop i s 2 0, add-zero i)
+
+pub next-here : (s : List ℕ) (i : ℕ) → i + 4 ≤ length s → getD s i 0 ≡ 0 → getD s (i + 1) 0 ≡ 0 → getD s (i + 2) 0 ≡ 1
+    → At i (getD s (i + 3) 0) ≡ nextCode s i
+unfolding nextCode
+next-here s i h a b c =
+    let l : 4 ≤ length s - i = omega arith in
+    let f : fourth (drop i s) ≡ getD s (i + 3) 0 = fourth-is (drop i s) ∙ getD-drop i s 3 0 in
+    rw (← f) (first-here i (drop i s) (starts-at s i ∙ rw (le-leb 4 (length s - i) l, a, b, c)))
+
+-- no code at i
+next-on : (s : List ℕ) (i : ℕ) → starts (drop i s) ≡ false → nextCode s (i + 1) ≡ nextCode s i
+unfolding nextCode
+next-on s i e = rw (← drop-drop 1 i s) (first-on i (drop i s) e)
+
+not-first : (s : List ℕ) (i : ℕ) → (getD s i 0 ≡ 0 → ⊥) → nextCode s (i + 1) ≡ nextCode s i
+not-first s i n = next-on s i (starts-at s i ∙ rw (ne-eqb (getD s i 0) 0 n, and-false))
+
+not-second : (s : List ℕ) (i : ℕ) → (getD s (i + 1) 0 ≡ 0 → ⊥) → nextCode s (i + 1) ≡ nextCode s i
+not-second s i n = next-on s i (starts-at s i ∙ rw (ne-eqb (getD s (i + 1) 0) 0 n, and-false, and-false))
+
+pub not-third : (s : List ℕ) (i : ℕ) → (getD s (i + 2) 0 ≡ 1 → ⊥) → nextCode s (i + 1) ≡ nextCode s i
+not-third s i n = next-on s i (starts-at s i ∙ rw (ne-eqb (getD s (i + 2) 0) 1 n, and-false, and-false, and-false))
+
+pub no-pair : (s : List ℕ) (i : ℕ) → (eqb (getD s (i + 1) 0) 0 && eqb (getD s (i + 2) 0) 1) ≡ false → nextCode s (i + 1) ≡ nextCode s i
+no-pair s i e = next-on s i (starts-at s i ∙ rw (e, and-false, and-false))
+
+-- a third byte that is not 00 is neither the second byte of a code nor its first
+stride : (s : List ℕ) (i : ℕ) → (getD s (i + 2) 0 ≡ 0 → ⊥) → nextCode s (i + 3) ≡ nextCode s (i + 1)
+stride s i n =
+    let e2 : i + 1 + 1 ≡ i + 2 = omega arith in
+    let e3 : i + 2 + 1 ≡ i + 3 = omega arith in
+    rw e3 at (not-first s (i + 2) n) ∙ rw e2 at (not-second s (i + 1) (rw e2 n))
+
+pub far-first : (s : List ℕ) (i : ℕ) → (getD s (i + 2) 0 ≡ 0 → ⊥) → (getD s i 0 ≡ 0 → ⊥) → nextCode s (i + 3) ≡ nextCode s i
+far-first s i n m = stride s i n ∙ not-first s i m
+
+pub far-second : (s : List ℕ) (i : ℕ) → (getD s (i + 2) 0 ≡ 0 → ⊥) → (getD s (i + 1) 0 ≡ 0 → ⊥) → nextCode s (i + 3) ≡ nextCode s i
+far-second s i n m = stride s i n ∙ not-second s i m
+
+pub far-third : (s : List ℕ) (i : ℕ) → 1 < getD s (i + 2) 0 → nextCode s (i + 3) ≡ nextCode s i
+far-third s i h = stride s i (λ e. omega arith) ∙ not-third s i (λ e. omega arith)

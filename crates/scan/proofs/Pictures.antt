@@ -1,0 +1,250 @@
+-- A walk goes from picture to picture.
+-- Assumes nothing.
+use mathlib.Core.Path.{_≡_, refl, sym, ap, _∙_}
+use Prim.Native.Nat.{ℕ, zero, suc, _+_, _≤_}
+use mathlib.Core.List.{List, [], _∷_}
+use mathlib.Core.Bool.{Bool, true, false}
+use native.Mathlib.Omega.{arith}
+use lib.ListN.{length}
+use lib.Seq.{drop-length}
+use lib.Dec.{eqb}
+use borrow.Author.Tests.{not-true, not-false, eqb-true, ne-eqb}
+use Rattle.bits.specs.Bits.{pick}
+use Rattle.scan.specs.declared.Found.{Found}
+use Rattle.scan.specs.declared.Found.the-variants.{At, Nothing}
+use Rattle.scan.specs.declared.Next.the-variants.{Picture, Done}
+use Rattle.scan.specs.declared.Stop.the-variants.{AtPicture, AtSlice, AfterSlices}
+use Rattle.scan.specs.Codes.{Code, codesFrom, codes, codesAt}
+use Rattle.scan.specs.Pictures.{Pic, skip, isSlice, notSlice, notPicture, notSequence, afterSlices, endAt, picturesF, picturesOf, pictures}
+use Rattle.scan.specs.Walk.{found, passed, goOn, nextIn, nextPicture, picturesAt}
+use Rattle.scan.proofs.Walk.{Sought, sought, unsought}
+
+-- ---- the definition's equations, without the count
+
+skip-shorter : (p : ℕ → Bool) (cs : List Code) → length (skip p cs) ≤ length cs
+unfolding skip pick
+skip-shorter p [] = omega arith
+skip-shorter p (c ∷ cs) = go (p (c .code)) (skip-shorter p cs)
+  where
+    go : (t : Bool) → length (skip p cs) ≤ length cs → length (pick t (skip p cs) (c ∷ cs)) ≤ suc (length cs)
+    go true h = omega arith
+    go false h = omega arith
+
+after-shorter : (cs : List Code) → length (afterSlices cs) ≤ length cs
+unfolding afterSlices
+after-shorter cs = omega (arith, skip-shorter isSlice (skip notSlice cs), skip-shorter notSlice cs)
+
+enough : (e n m : ℕ) (cs : List Code) → length cs ≤ n → length cs ≤ m → picturesF e n cs ≡ picturesF e m cs
+unfolding picturesF
+enough e zero zero cs h k = refl
+enough e zero (suc m) [] h k = refl
+enough e zero (suc m) (c ∷ cs) h k = absurd (omega arith)
+enough e (suc n) zero [] h k = refl
+enough e (suc n) zero (c ∷ cs) h k = absurd (omega arith)
+enough e (suc n) (suc m) [] h k = refl
+enough e (suc n) (suc m) (c ∷ cs) h k =
+    let a : length (afterSlices cs) ≤ length cs = after-shorter cs in
+    rw (enough e n m cs (omega arith) (omega arith), enough e n m (afterSlices cs) (omega arith) (omega arith))
+
+pub pictures-other : (e : ℕ) (c : Code) (cs : List Code) → notPicture (c .code) ≡ true → picturesOf e (c ∷ cs) ≡ picturesOf e cs
+unfolding picturesOf picturesF pick notPicture
+pictures-other e c cs h = rw (not-true (eqb (c .code) 0) h)
+
+pub pictures-picture : (e : ℕ) (c : Code) (cs : List Code) → notPicture (c .code) ≡ false
+    → picturesOf e (c ∷ cs) ≡ record { start = c .offset; end = endAt e (afterSlices cs) } ∷ picturesOf e (afterSlices cs)
+unfolding picturesOf picturesF pick notPicture
+pictures-picture e c cs h =
+    let a : length (afterSlices cs) ≤ length cs = after-shorter cs in
+    rw (not-false (eqb (c .code) 0) h, enough e (length cs) (length (afterSlices cs)) (afterSlices cs) a (omega arith))
+
+pictures-none : (e : ℕ) → picturesOf e [] ≡ []
+unfolding picturesOf picturesF
+pictures-none e = refl
+
+pictures-skip : (e : ℕ) (cs : List Code) → picturesOf e cs ≡ picturesOf e (skip notPicture cs)
+unfolding skip pick
+pictures-skip e [] = refl
+pictures-skip e (c ∷ cs) = go (pictures-skip e cs) (notPicture (c .code)) refl
+  where
+    go : picturesOf e cs ≡ picturesOf e (skip notPicture cs) → (t : Bool) → notPicture (c .code) ≡ t
+        → picturesOf e (c ∷ cs) ≡ picturesOf e (pick t (skip notPicture cs) (c ∷ cs))
+    go ih true q = pictures-other e c cs q ∙ ih
+    go ih false q = refl
+
+-- ---- behind the slices
+
+pub after-none : (s : List ℕ) (k : ℕ) → found (skip (passed AtSlice) (codesAt s k)) ≡ Nothing → Nothing ≡ found (afterSlices (codesAt s k))
+unfolding afterSlices passed skip found
+after-none s k e = rw (unsought (skip notSlice (codesAt s k)) e)
+
+pub after-some : (s : List ℕ) (k g c : ℕ) → found (skip (passed AtSlice) (codesAt s k)) ≡ At g c
+    → skip (passed AfterSlices) (codesAt s g) ≡ afterSlices (codesAt s k)
+unfolding afterSlices passed
+after-some s k g c e =
+    let m : Sought notSlice s k g c = sought notSlice s k g c e in
+    ap (skip isSlice) (m .again ∙ sym (m .list))
+
+-- the code behind the slices that come next from k on: c, which stands at g
+pub record Behind (s : List ℕ) (k g c : ℕ) : Type 0 where
+  pub from : k ≤ g
+  pub room : g + 4 ≤ length s
+  pub list : afterSlices (codesAt s k) ≡ record { offset = g; code = c } ∷ codesAt s (g + 4)
+  pub again : codesAt s g ≡ record { offset = g; code = c } ∷ codesAt s (g + 4)
+
+pub behind : (s : List ℕ) (k g c : ℕ) → found (afterSlices (codesAt s k)) ≡ At g c → Behind s k g c
+unfolding passed
+behind s k g c h = go (found (skip (passed AtSlice) (codesAt s k))) refl
+  where
+    go : (f : Found) → found (skip (passed AtSlice) (codesAt s k)) ≡ f → Behind s k g c
+    go Nothing e = let z : Nothing ≡ At g c = after-none s k e ∙ h in let w : _≡_ {A = ℕ} 0 1 = cc in absurd (omega arith)
+    go (At b d) e =
+        let m : Sought notSlice s k b d = sought notSlice s k b d e in
+        let n : Sought isSlice s b g c = sought isSlice s b g c (ap found (after-some s k b d e) ∙ h) in
+        record {
+          from = omega (arith, m .from, n .from);
+          room = n .room;
+          list = sym (after-some s k b d e) ∙ n .list;
+          again = n .again;
+        }
+
+-- ---- one step of the walk, by what the searches find
+
+pub next-none : (s : List ℕ) (i : ℕ) → found (skip (passed AtPicture) (codesAt s i)) ≡ Nothing → Done ≡ nextPicture s i
+unfolding nextPicture nextIn passed
+next-none s i e = rw (unsought (skip notPicture (codesAt s i)) e)
+
+-- the code of a picture stands at a
+module _ (s : List ℕ) (i a d : ℕ) (f : found (skip (passed AtPicture) (codesAt s i)) ≡ At a d) where
+  next-some : Picture a (endAt (length s) (afterSlices (codesAt s (a + 4)))) (goOn (length s) (afterSlices (codesAt s (a + 4)))) ≡ nextPicture s i
+  unfolding nextPicture nextIn passed
+  next-some = rw (sought notPicture s i a d f .list)
+
+  pub next-last : found (afterSlices (codesAt s (a + 4))) ≡ Nothing → Picture a (length s) (length s) ≡ nextPicture s i
+  unfolding endAt goOn
+  next-last e = rw (unsought (afterSlices (codesAt s (a + 4))) e) at next-some
+
+  module _ (g c : ℕ) (h : found (afterSlices (codesAt s (a + 4))) ≡ At g c) where
+    pub next-ended : c ≡ 0xB7 → Picture a (g + 4) g ≡ nextPicture s i
+    unfolding endAt goOn pick
+    next-ended e = rw (behind s (a + 4) g c h .list, e) at next-some
+
+    pub next-followed : (c ≡ 0xB7 → ⊥) → Picture a g g ≡ nextPicture s i
+    unfolding endAt goOn pick
+    next-followed n = rw (behind s (a + 4) g c h .list, ne-eqb c 0xB7 n) at next-some
+
+-- ---- what a step of the walk says
+
+-- a picture's code is found at a, and what follows gives its end and where the walk goes on
+record Taken (s : List ℕ) (i a b n : ℕ) : Type 0 where
+  code : ℕ
+  hit : Sought notPicture s i a code
+  end-is : endAt (length s) (afterSlices (codesAt s (a + 4))) ≡ b
+  next-is : goOn (length s) (afterSlices (codesAt s (a + 4))) ≡ n
+
+taken : (s : List ℕ) (i a b n : ℕ) → nextPicture s i ≡ Picture a b n → Taken s i a b n
+unfolding passed
+taken s i a b n h = go (found (skip (passed AtPicture) (codesAt s i))) refl
+  where
+    go : (f : Found) → found (skip (passed AtPicture) (codesAt s i)) ≡ f → Taken s i a b n
+    go Nothing e = let z : Done ≡ Picture a b n = next-none s i e ∙ h in let w : _≡_ {A = ℕ} 0 1 = cc in absurd (omega arith)
+    go (At o c) e =
+        let x : Picture o (endAt (length s) (afterSlices (codesAt s (o + 4)))) (goOn (length s) (afterSlices (codesAt s (o + 4)))) ≡ Picture a b n
+        = next-some s i o c e ∙ h in
+        let ea : o ≡ a = cc in
+        let eb : endAt (length s) (afterSlices (codesAt s (o + 4))) ≡ b = cc in
+        let en : goOn (length s) (afterSlices (codesAt s (o + 4))) ≡ n = cc in
+        rw (← ea) (record { code = c; hit = sought notPicture s i o c e; end-is = eb; next-is = en })
+
+pub next-low : (s : List ℕ) (i a b n : ℕ) → nextPicture s i ≡ Picture a b n → i ≤ a
+next-low s i a b n h = taken s i a b n h .hit .from
+
+-- what follows a picture's code, from k on: the picture ends at b, the walk goes on at n, and the next picture begins at b or later
+record After (s : List ℕ) (k b n : ℕ) : Type 0 where
+  same : afterSlices (codesAt s k) ≡ codesAt s n
+  low : k ≤ n
+  on : n ≤ b
+  high : b ≤ length s
+  clear : (a₂ b₂ n₂ : ℕ) → nextPicture s n ≡ Picture a₂ b₂ n₂ → b ≤ a₂
+
+at-end : (s : List ℕ) → codesAt s (length s) ≡ []
+unfolding codesAt codesFrom
+at-end s = rw drop-length
+
+-- a sequence end code is no picture's
+end-passed : (s : List ℕ) (g c : ℕ) → codesAt s g ≡ record { offset = g; code = c } ∷ codesAt s (g + 4) → eqb c 0xB7 ≡ true
+    → nextPicture s g ≡ nextPicture s (g + 4)
+unfolding nextPicture skip pick notPicture
+end-passed s g c e q = rw (e, eqb-true c 0xB7 q)
+
+after : (s : List ℕ) (k : ℕ) → k ≤ length s
+    → After s k (endAt (length s) (afterSlices (codesAt s k))) (goOn (length s) (afterSlices (codesAt s k)))
+unfolding endAt goOn pick
+after s k h = go (found (afterSlices (codesAt s k))) refl
+  where
+    go : (f : Found) → found (afterSlices (codesAt s k)) ≡ f
+        → After s k (endAt (length s) (afterSlices (codesAt s k))) (goOn (length s) (afterSlices (codesAt s k)))
+    go Nothing e =
+        let u : afterSlices (codesAt s k) ≡ [] = unsought (afterSlices (codesAt s k)) e in
+        rw u (record { same = u ∙ sym (at-end s); low = h; on = omega arith; high = omega arith; clear = next-low s (length s) })
+    go (At g c) e = let m : Behind s k g c = behind s k g c e in rw (m .list) (turn m (eqb c 0xB7) refl)
+      where
+        turn : Behind s k g c → (t : Bool) → eqb c 0xB7 ≡ t → After s k (pick t (g + 4) g) g
+        turn m true q = record {
+          same = m .list ∙ sym (m .again);
+          low = m .from;
+          on = omega arith;
+          high = m .room;
+          clear = λ a b n y. next-low s (g + 4) a b n (sym (end-passed s g c (m .again) q) ∙ y);
+        }
+        turn m false q =
+            record { same = m .list ∙ sym (m .again); low = m .from; on = omega arith; high = omega (arith, m .room); clear = next-low s g }
+
+-- a walk from i finds a picture from a to b, and goes on at n
+pub record Walked (s : List ℕ) (i a b n : ℕ) : Type 0 where
+  pub from : i ≤ a
+  pub low : a + 4 ≤ n
+  pub on : n ≤ b
+  pub high : b ≤ length s
+  -- the next picture begins where this one ends, or later
+  pub clear : (a₂ b₂ n₂ : ℕ) → nextPicture s n ≡ Picture a₂ b₂ n₂ → b ≤ a₂
+  pub list : picturesAt s i ≡ record { start = a; end = b } ∷ picturesAt s n
+
+pub walked : (s : List ℕ) (i a b n : ℕ) → nextPicture s i ≡ Picture a b n → Walked s i a b n
+unfolding picturesAt
+walked s i a b n h =
+    let t : Taken s i a b n = taken s i a b n h in
+    let r : After s (a + 4) b n = rw (t .end-is, t .next-is) at (after s (a + 4) (t .hit .room)) in
+    record {
+      from = t .hit .from;
+      low = r .low;
+      on = r .on;
+      high = r .high;
+      clear = r .clear;
+      list =
+          pictures-skip (length s) (codesAt s i)
+          ∙ ap (picturesOf (length s)) (t .hit .list)
+          ∙ pictures-picture (length s) (record { offset = a; code = t .code }) (codesAt s (a + 4)) (t .hit .stops)
+          ∙ rw (t .end-is, r .same);
+    }
+
+-- ---- the pictures are what the walk finds
+
+pub pictures-step : (s : List ℕ) (i a b n : ℕ) → nextPicture s i ≡ Picture a b n → picturesAt s i ≡ record { start = a; end = b } ∷ picturesAt s n
+pictures-step s i a b n h = walked s i a b n h .list
+
+pub pictures-done : (s : List ℕ) (i : ℕ) → nextPicture s i ≡ Done → picturesAt s i ≡ []
+unfolding picturesAt passed
+pictures-done s i h = go (found (skip (passed AtPicture) (codesAt s i))) refl
+  where
+    go : (f : Found) → found (skip (passed AtPicture) (codesAt s i)) ≡ f → picturesOf (length s) (codesAt s i) ≡ []
+    go Nothing e = pictures-skip (length s) (codesAt s i) ∙ rw (unsought (skip notPicture (codesAt s i)) e) (pictures-none (length s))
+    go (At o c) e = let x = next-some s i o c e ∙ h in cc
+
+pub pictures-walk : (s : List ℕ) → picturesAt s 0 ≡ pictures s
+unfolding picturesAt pictures codes codesAt
+pictures-walk s = refl
+
+-- where a search from the first byte finds a sequence header there are four bytes
+pub first-inside : (s : List ℕ) (o c : ℕ) → found (skip notSequence (codes s)) ≡ At o c → o + 4 ≤ length s
+unfolding codes codesAt
+first-inside s o c e = sought notSequence s 0 o c e .room

@@ -1,0 +1,29 @@
+use borrow.Author.Needs.{needs}
+use mathlib.Core.Path.{sym, ap, _∙_}
+use Rattle.scan.specs.Walk.{found}
+use Rattle.scan.proofs.Pictures.{after-none, after-some}
+use Rattle.scan.proofs.after_slices.Statement.{statement}
+use Rattle.scan.proofs.after_slices.Tie as tie
+
+seek-requires : tie.Need-seek-requires
+seek-requires c κs = search needs
+
+enum-known-offset : tie.Need-enum-known-offset
+enum-known-offset c = search needs
+
+seek-requires-2 : tie.Need-seek-requires-2
+seek-requires-2 c κs = search needs
+
+enum-told : tie.Need-enum-told
+enum-told c = search needs
+
+returns : tie.Need-returns
+returns c = c .seek2 .ensures ∙ ap found (after-some _ _ _ _ (sym (c .before .before .before .before .seek .ensures) ∙ c .before .before .offset .given .1))
+
+returns-2 : tie.Need-returns-2
+returns-2 c = after-none _ _ (sym (c .before .before .seek .ensures) ∙ c .enum-told .given .1)
+
+pub after-slices-spec : {M : Type 1} → statement M
+after-slices-spec =
+    tie.close
+    (tie.spec seek-requires enum-known-offset seek-requires-2 enum-told returns returns-2)

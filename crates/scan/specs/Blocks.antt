@@ -1,0 +1,21 @@
+-- What the two parts of the search for the next start code answer; no public promise names these.
+-- Assumes nothing.
+use Prim.Native.Nat.{ℕ, zero, suc, _+_}
+use mathlib.Core.List.{List}
+use mathlib.Core.Bool.{Bool, false, _&&_, _||_}
+use lib.ListN.{getD}
+use lib.Dec.{eqb, ltb}
+use Rattle.bits.specs.Bits.{pick}
+use Rattle.scan.specs.declared.Found.{Found}
+use Rattle.scan.specs.declared.Found.the-variants.{At, Nothing}
+
+-- at one of the first k places from `at` on, 00 01 stands as the second and third byte from there
+unfoldable pub zeroOne : List ℕ → ℕ → ℕ → Bool
+zeroOne s at zero = false
+zeroOne s at (suc k) = zeroOne s at k || (eqb (getD s (at + k + 1) 0) 0 && eqb (getD s (at + k + 2) 0) 1)
+
+-- a start code, if it begins before `end`
+unfoldable pub before : ℕ → Found → Found
+unfolding pick
+before end (At offset code) = pick (ltb offset end) (At offset code) Nothing
+before end Nothing = Nothing

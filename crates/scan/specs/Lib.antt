@@ -1,0 +1,5 @@
+pub mod Codes
+pub mod Blocks
+pub mod Pictures
+pub mod Walk
+pub mod Laid

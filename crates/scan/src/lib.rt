@@ -1,0 +1,175 @@
+// Start codes of a stream, and the walk from picture to picture.
+ghost use mathlib.Core.Path.{_≡_};
+ghost use lib.ListN.{length};
+ghost use Prim.Native.Nat.{_+_, _≤_};
+ghost use Rattle.scan.specs.Codes.{nextCode, codes, codesAt};
+ghost use Rattle.scan.specs.Blocks.{zeroOne, before};
+ghost use Rattle.scan.specs.Pictures.{skip, notSequence, afterSlices};
+ghost use Rattle.scan.specs.Walk.{found, passed, nextPicture};
+
+// Where a start code is, and its fourth byte.
+pub enum Found {
+    At { offset: usize, code: u8 },
+    Nothing,
+}
+
+// A picture: its start code, the end of its data, and where the walk goes on.
+pub enum Next {
+    Picture { at: usize, end: usize, next: usize },
+    Done,
+}
+
+// Which start code a search stops at.
+enum Stop {
+    AtSequence,
+    AtPicture,
+    AtSlice,
+    AfterSlices,
+}
+
+// Whether 00 01 stands where the second and third byte of a start code would be that begins in the 16 bytes from `at`.
+// The loop has no branch: the compiler looks at all sixteen places at once.
+fn has_zero_one(s: &[u8], at: usize) -> bool
+    requires { ⌜ at + 18 ≤ length (now s) ⌝ }
+    ensures { λ r. ⌜ r ≡ zeroOne (now (s .entry)) at 16 ⌝ }
+{
+    let mut some = false;
+    let mut k: usize = 0;
+    while k < 16 {
+        let i = at + k;
+        some = some | ((s[i + 1] == 0) & (s[i + 2] == 1));
+        k += 1;
+    }
+    some
+}
+
+// The first start code at or after `from`, if it begins before `end`. Where no code is at a place, the next place is one
+// on if the third byte is 00, and otherwise three on.
+fn next_before(s: &[u8], from: usize, end: usize) -> Found
+    requires { ⌜ end + 3 ≤ length (now s) ⌝ }
+    ensures { λ r. ⌜ r ≡ before end (nextCode (now (s .entry)) from) ⌝ }
+{
+    let mut i = from;
+    while i < end {
+        let third = s[i + 2];
+        if 1 < third {
+            i += 3;
+            continue;
+        }
+        if third == 0 {
+            i += 1;
+            continue;
+        }
+        if s[i] != 0 {
+            i += 3;
+            continue;
+        }
+        if s[i + 1] != 0 {
+            i += 3;
+            continue;
+        }
+        return Found::At {
+            offset: i,
+            code: s[i + 3],
+        };
+    }
+    Found::Nothing
+}
+
+// The first start code at or after `from`: a block of 16 bytes without 00 01 is passed over whole.
+pub fn next_code(s: &[u8], from: usize) -> Found
+    ensures { λ r. ⌜ r ≡ nextCode (now (s .entry)) from ⌝ }
+{
+    let n = s.len();
+    if n < 4 {
+        return Found::Nothing;
+    }
+    let end = n - 3;
+    let blocks = if end < 16 { 0 } else { end - 15 };
+    let mut at = from;
+    while at < blocks {
+        if has_zero_one(s, at) {
+            if let Found::At { offset, code } = next_before(s, at, at + 16) {
+                return Found::At { offset, code };
+            }
+        }
+        at += 16;
+    }
+    next_before(s, at, end)
+}
+
+// Whether a search passes over a code.
+fn passes(stop: Stop, code: u8) -> bool
+    ensures { λ r. ⌜ r ≡ passed stop code ⌝ }
+{
+    match stop {
+        Stop::AtSequence => code != 0xB3,
+        Stop::AtPicture => code != 0,
+        Stop::AtSlice => !((1 <= code) & (code <= 0xAF)),
+        Stop::AfterSlices => (1 <= code) & (code <= 0xAF),
+    }
+}
+
+// The first code that a search does not pass over, of those that a scan from `from` finds.
+fn seek(s: &[u8], from: usize, stop: Stop) -> Found
+    ensures { λ r. ⌜ r ≡ found (skip (passed stop) (codesAt (now (s .entry)) from)) ⌝ }
+{
+    let mut i = from;
+    loop {
+        match next_code(s, i) {
+            Found::At { offset, code } => {
+                if passes(stop, code) {
+                    i = offset + 4;
+                } else {
+                    return Found::At { offset, code };
+                }
+            }
+            Found::Nothing => return Found::Nothing,
+        }
+    }
+}
+
+// The first sequence header code.
+pub fn first_sequence(s: &[u8]) -> Found
+    ensures { λ r. ⌜ r ≡ found (skip notSequence (codes (now (s .entry)))) ⌝ }
+{
+    seek(s, 0, Stop::AtSequence)
+}
+
+// The first code behind the slices that come next.
+fn after_slices(s: &[u8], from: usize) -> Found
+    ensures { λ r. ⌜ r ≡ found (afterSlices (codesAt (now (s .entry)) from)) ⌝ }
+{
+    match seek(s, from, Stop::AtSlice) {
+        Found::At { offset, code: _ } => seek(s, offset, Stop::AfterSlices),
+        Found::Nothing => Found::Nothing,
+    }
+}
+
+// The first picture that begins at a code which a scan from `from` finds.
+pub fn next_picture(s: &[u8], from: usize) -> Next
+    ensures { λ r. ⌜ r ≡ nextPicture (now (s .entry)) from ⌝ }
+{
+    let n = s.len();
+    match seek(s, from, Stop::AtPicture) {
+        Found::At {
+            offset: at,
+            code: _,
+        } => match after_slices(s, at + 4) {
+            Found::At { offset, code } => {
+                let end = if code == 0xB7 { offset + 4 } else { offset };
+                Next::Picture {
+                    at,
+                    end,
+                    next: offset,
+                }
+            }
+            Found::Nothing => Next::Picture {
+                at,
+                end: n,
+                next: n,
+            },
+        },
+        Found::Nothing => Next::Done,
+    }
+}
