@@ -33,7 +33,6 @@ header-starts = sym (starts-is header (lit≤ tt))
 pub figures : Figures
 unfolding pick unit firstDelivered gain overflows underflows early expectedDelay paramsFit delivered modelFits atDelivered afterRemoval nextDelivered newModel startModel delayForPicture endFits removePicture
 figures = record {
-  first-delay = refl;
   end-246755 = refl;
   end-246756 = refl;
   delay-at-100032 = refl;

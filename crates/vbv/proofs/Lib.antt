@@ -6,3 +6,4 @@ pub mod Laws
 pub mod Patching
 pub mod Ways
 pub mod Told
+pub mod After

@@ -2,7 +2,7 @@
 -- R = 1,000,000, B = 327,680, 25/1 unless said. Assumes nothing.
 use mathlib.Core.Path.{_≡_}
 use mathlib.Core.List.{List, [], _∷_}
-use Prim.Native.Nat.{ℕ, _*_, _/_}
+use Prim.Native.Nat.{ℕ, _*_}
 use mathlib.Core.Bool.{Bool, true, false}
 use Rattle.vbv.specs.Annex.{unit}
 use Rattle.vbv.specs.Model.{delivered, newModel, startModel, delayForPicture, removePicture}
@@ -25,10 +25,6 @@ at25 r b = record { «bit_rate» = r; «buffer_size_bits» = b; frn = 25; frd = 
 
 abbrev pub ntsc : VbvParams
 ntsc = record { «bit_rate» = 1000000; «buffer_size_bits» = 327680; frn = 30000; frd = 1001 }
-
--- paper 01, 'A placed picture': the first delay that a writer codes
-abbrev pub firstDelay : ℕ → ℕ → ℕ
-firstDelay r b = 90000 * b * 3 / (4 * r)
 
 -- a model started with a delay at a position, removed from once; a refusal goes on as itself
 abbrev pub andStart : ℕ → ℕ → VbvModel → VbvModel
@@ -74,7 +70,6 @@ deliveredAfter (rm.Refused e) = 0
 deliveredAfter (rm.Violation v) = 0
 
 pub record Figures : Type 0 where
-  pub first-delay : firstDelay 1000000 327680 ≡ 22118
   pub end-246755 : removed (andRemove 246755 (begun 1000000 327680 22118 1000)) ≡ true
   pub end-246756 : andRemove 246756 (begun 1000000 327680 22118 1000) ≡ rm.Violation (Underflow 0 0 0)
   pub delay-at-100032 : andDelay 100032 (andRemove 100000 (begun 1000000 327680 22118 1000)) ≡ dl.Delay 16805

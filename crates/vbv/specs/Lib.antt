@@ -4,3 +4,4 @@ pub mod Model
 pub mod Fits
 pub mod Patch
 pub mod Figures
+pub mod Lent

@@ -8,6 +8,8 @@ ghost use Rattle.vbv.specs.Fits.{ModelFits, EndFits};
 ghost use Rattle.vbv.specs.Model.{paramsFit, delivered, modelFits, atDelivered, periods, nextDelivered, newModel, startModel, delayForPicture, removePicture, maxEndBits, minEndBits, occupancyBeforeRemoval};
 ghost use Rattle.vbv.specs.Patch.{startsPicture, patchAnswer, patched};
 
+pub mod lent; // the model by reference
+
 // Why a call is refused.
 pub enum VbvError {
     // A frame rate code other than 1 to 8.
@@ -162,7 +164,7 @@ impl VbvParams {
 
 impl VbvCbrModel {
     // Every field in its range.
-    fn fits(self) -> bool
+    pub fn fits(self) -> bool
         ensures { λ r. ⌜ r ≡ modelFits self ⌝ }
     {
         let params = self.params;
