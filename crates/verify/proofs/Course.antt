@@ -32,7 +32,7 @@ pub record Ready (p : VbvParams) (m : VbvCbrModel) : Type 0 where
   pub few : m .removed ≤ m .«prev_end_bits»
 
 -- a removal that Annex C records
-recorded-not : {e : VbvVerifyError} {r : VbvPictureRecord} → refused e ≡ recorded r → ⊥
+pub recorded-not : {e : VbvVerifyError} {r : VbvPictureRecord} → refused e ≡ recorded r → ⊥
 recorded-not h = let z : _≡_ {A = ℕ} 0 1 = cc in omega arith
 
 pub was-recorded : (p : VbvParams) (n previous d : ℕ) (c : CodedPicture) (r : VbvPictureRecord) → removal p n previous d c ≡ recorded r

@@ -12,12 +12,14 @@ use Rattle.verify.specs.declared.VbvStandard.{VbvStandard}
 use Rattle.verify.specs.declared.Told.{Told}
 use Rattle.verify.specs.declared.Told.the-variants.{Delay, Refused}
 use Rattle.verify.specs.declared.CodedPicture.{CodedPicture}
+use Rattle.verify.specs.declared.VbvPictureRecord.{VbvPictureRecord}
 use Rattle.verify.specs.declared.Coded.the-variants as cd
 use Rattle.verify.specs.declared.Progress.{Progress}
 use Rattle.verify.specs.declared.Walked.the-variants.{Unread, Read}
-use Rattle.verify.specs.Pictures.{Pic}
+use Rattle.scan.specs.Pictures.{Pic}
 use Rattle.verify.specs.Coded.{told, Headers, unread, read, oneMore, codedOf, behind, headers}
 use Rattle.verify.specs.Walk.{codedBy, codedAt, advanced, putAt, ifCoded, walked, stored}
+use Rattle.verify.specs.Recorder.{lastOf}
 
 -- the progress over all pictures, and the bytes then
 unfoldable pub advancedAll : VbvParams → Progress → List CodedPicture → Progress
@@ -27,6 +29,11 @@ advancedAll p st (c ∷ cs) = advancedAll p (advanced p st c) cs
 unfoldable pub storedAll : VbvParams → ℕ → ℕ → Progress → List CodedPicture → List ℕ → List ℕ
 storedAll p places n st [] out = out
 storedAll p places n st (c ∷ cs) out = storedAll p places (n + 1) (advanced p st c) cs (putAt places n (advanced p st c) out)
+
+-- the last record behind each picture
+unfoldable pub lastsAll : VbvParams → Progress → List CodedPicture → List VbvPictureRecord
+lastsAll p st [] = []
+lastsAll p st (c ∷ cs) = lastOf (advanced p st c) ∷ lastsAll p (advanced p st c) cs
 
 -- the pictures as their headers tell them
 pub data Reads (standard : VbvStandard) (s : List ℕ) : List Pic → Headers → Type 0 where

@@ -14,18 +14,19 @@ use Rattle.headers.specs.declared.picture_header.PictureRead.the-variants.{Pars
 use Rattle.headers.proofs.PictureHeader.{picture-header-parsed, delay-high}
 use Rattle.headers.proofs.Picture.{picture-parsed}
 use Rattle.vbv.specs.declared.RemovalInterval.{RemovalInterval}
-use Rattle.verify.specs.declared.scan.Next.{Next}
-use Rattle.verify.specs.declared.scan.Next.the-variants.{Picture, Done}
+use Rattle.scan.specs.declared.Next.{Next}
+use Rattle.scan.specs.declared.Next.the-variants.{Picture, Done}
 use Rattle.verify.specs.declared.VbvStandard.{VbvStandard}
 use Rattle.verify.specs.declared.VbvStandard.the-variants.{Mpeg1, Mpeg2}
 use Rattle.verify.specs.declared.Told.{Told}
 use Rattle.verify.specs.declared.Told.the-variants.{Delay, Refused}
 use Rattle.verify.specs.declared.CodedPicture.{CodedPicture}
 use Rattle.verify.specs.declared.Coded.the-variants as cd
-use Rattle.verify.specs.Pictures.{Pic, pictures, picturesAt, nextPicture}
+use Rattle.scan.specs.Pictures.{Pic, pictures}
+use Rattle.scan.specs.Walk.{picturesAt, nextPicture}
 use Rattle.verify.specs.Coded.{toldByHeader, toldByPicture, told, read, codedOf}
 use Rattle.verify.specs.Walk.{codedBy, codedAt}
-use Rattle.verify.proofs.Pictures.{walked, pictures-done, pictures-walk}
+use Rattle.scan.proofs.Pictures.{walked, pictures-done, pictures-walk}
 use Rattle.verify.proofs.Fold.{Reads, none, good}
 
 -- a picture within the stream, behind what ends at `previous`

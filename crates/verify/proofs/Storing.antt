@@ -2,13 +2,14 @@
 -- Assumes nothing.
 use mathlib.Core.Path.{_≡_, refl, sym, ap, _∙_}
 use Prim.Native.Nat.{ℕ, zero, suc, _+_, _-_, _*_, _/_, _%_, _≤_, _<_}
-use mathlib.Core.List.{List, [], _∷_, _++_}
+use mathlib.Core.List.{List, [], _∷_, _++_, append-assoc}
 use native.Mathlib.Omega.{arith}
 use native.Mathlib.Nat.{add-zero, add-suc, suc-add}
 use native.Mathlib.Numerals.{add-one}
 use lib.ListN.{length, set, length-append}
-use lib.Seq.{sets, sets-eq}
+use lib.Seq.{sets}
 use Rattle.bits.specs.Answers.{over}
+use Rattle.bits.proofs.Over.{over-sets}
 use Rattle.verify.specs.Layout.{lowFirst, recordBytes, recordsBytes}
 use Rattle.verify.specs.declared.VbvPictureRecord.{VbvPictureRecord}
 
@@ -24,13 +25,18 @@ unfolding lowFirst
 word-end out k rest zero h = refl
 word-end out k rest (suc left) h = absurd (omega arith)
 
-length-low : (n v : ℕ) → length (lowFirst n v) ≡ n
+pub length-low : (n v : ℕ) → length (lowFirst n v) ≡ n
 unfolding lowFirst
 length-low zero v = refl
 length-low (suc n) v = ap suc (length-low n (v / 256))
 
+-- what a word's bytes are
+pub low-more : (n v : ℕ) → lowFirst (suc n) v ≡ v % 256 ∷ lowFirst n (v / 256)
+unfolding lowFirst
+low-more n v = refl
+
 -- one run behind another
-sets-append : (x y out : List ℕ) (k : ℕ) → sets out k (x ++ y) ≡ sets (sets out k x) (k + length x) y
+pub sets-append : (x y out : List ℕ) (k : ℕ) → sets out k (x ++ y) ≡ sets (sets out k x) (k + length x) y
 sets-append [] y out k = rw (add-zero k)
 sets-append (b ∷ x) y out k = rw (add-suc k (length x), ← suc-add k (length x)) (sets-append x y (set out k b) (suc k))
 
@@ -71,10 +77,14 @@ records-cons out n r rs =
     let e : 32 * n + 32 ≡ 32 * (n + 1) = omega arith in
     sym (sets-append (recordBytes r) (recordsBytes rs) out (32 * n) ∙ rw (length-record r, e))
 
+-- the words of a record, and the records behind it
+pub records-words : (r : VbvPictureRecord) (rs : List VbvPictureRecord)
+    → recordsBytes (r ∷ rs)
+    ≡ lowFirst 8 (r .«vbv_delay»)
+    ++ (lowFirst 8 (r .«expected_delay») ++ (lowFirst 8 (r .«data_bits») ++ (lowFirst 8 (r .«occupancy_before_bits») ++ recordsBytes rs)))
+unfolding recordsBytes recordBytes
+records-words r rs = rw (append-assoc, append-assoc, append-assoc)
+
 -- all of them from place 0 on
 pub records-over : (out : List ℕ) (rs : List VbvPictureRecord) → 32 * length rs ≤ length out → sets out 0 (recordsBytes rs) ≡ over (recordsBytes rs) out
-unfolding over
-records-over out rs h =
-    let l : 0 + length (recordsBytes rs) ≤ length out = omega (arith, length-records rs) in
-    let e : 0 + length (recordsBytes rs) ≡ length (recordsBytes rs) = omega arith in
-    sets-eq (recordsBytes rs) out 0 l ∙ rw e
+records-over out rs h = over-sets (recordsBytes rs) out (omega (arith, length-records rs))

@@ -2,6 +2,7 @@
 -- Assumes nothing.
 use mathlib.Core.Path.{_≡_, refl, sym, ap, subst, _∙_}
 use mathlib.Core.Bool.{Bool, true, false}
+use mathlib.Core.Logic.{_⊎_, inl, inr}
 use Prim.Native.Nat.{ℕ, suc, _+_, _*_, _/_, _^_, _≤_, _<_, min, max}
 use mathlib.Core.List.{List, [], _∷_}
 use native.Mathlib.Omega.{arith}
@@ -11,6 +12,7 @@ use lib.Seq.{sets}
 use borrow.Author.Tests.{lt-ltb, le-ltb, lt-leb, le-leb, leb-true}
 use Rattle.bits.specs.Bits.{pick}
 use Rattle.bits.specs.Answers.{over}
+use Rattle.bits.proofs.Over.{over-none}
 use Rattle.headers.specs.declared.Error.{Error}
 use Rattle.vbv.specs.Annex.{firstDelivered}
 use Rattle.vbv.specs.Model.{paramsFit, delivered, atDelivered}
@@ -33,7 +35,7 @@ use Rattle.verify.specs.declared.Coded.the-variants as cd
 use Rattle.verify.specs.declared.Progress.{Progress}
 use Rattle.verify.specs.declared.Progress.the-variants.{Fresh, Unmodelled, Running, Stopped}
 use Rattle.verify.specs.Layout.{recordsBytes}
-use Rattle.verify.specs.Pictures.{Pic, pictures}
+use Rattle.scan.specs.Pictures.{Pic, pictures}
 use Rattle.verify.specs.Sequence.{declared}
 use Rattle.verify.specs.Coded.{Headers, unread, read, headers, codedPictures}
 use Rattle.verify.specs.Run.{Run, stopped, ran, run, occupancyAfter, leastAfter, greatestBefore}
@@ -41,7 +43,8 @@ use Rattle.verify.specs.Check.{Verdict, no, yes, judged, withPictures, w
 use Rattle.verify.specs.Walk.{codedAt, removed, onward, begun, first, advanced, putAt, ifCoded, walked, stored, placed, judgedAs, judgement}
 use Rattle.verify.specs.Walk.{made as madeBy}
 use Rattle.verify.proofs.Storing.{records-cons, records-over}
-use Rattle.verify.proofs.Fold.{advancedAll, storedAll, Reads, reads, walked-unread, walked-read, stored-read}
+use Rattle.verify.specs.Recorder.{lastOf}
+use Rattle.verify.proofs.Fold.{advancedAll, storedAll, lastsAll, Reads, reads, walked-unread, walked-read, stored-read}
 use Rattle.verify.proofs.Rising.{Placed, Rising, next, rising}
 use Rattle.verify.proofs.Course.{Ready, Course, ended, ceased, went, halted, course}
 
@@ -116,6 +119,12 @@ module _ {p : VbvParams} where
   ran-stored (went {r = q} {rs} h x t) places n r l g out b =
       rw (h, lt-ltb n places (omega arith)) (ran-stored t places (n + 1) _ _ _ _ (omega arith) ∙ records-cons out n q rs)
 
+  ran-lasts : {m : VbvCbrModel} {cs : List CodedPicture} {rs : List VbvPictureRecord} → Course p m cs (ran rs) → (r : VbvPictureRecord) (l g : ℕ)
+      → lastsAll p (Running m r l g) cs ≡ rs
+  unfolding lastsAll advanced onward lastOf
+  ran-lasts ended r l g = refl
+  ran-lasts (went {r = q} h b t) r l g = rw h (ap (λ (qs : List VbvPictureRecord). q ∷ qs) (ran-lasts t q _ _))
+
   ran-length : {m : VbvCbrModel} {cs : List CodedPicture} {rs : List VbvPictureRecord} → Course p m cs (ran rs) → length rs ≡ length cs
   ran-length ended = refl
   ran-length (went h b t) = ap suc (ran-length t)
@@ -152,28 +161,34 @@ begins p c v f q =
 
 -- ---- a list of coded pictures
 
-record Judged (p : VbvParams) (places : ℕ) (cs : List CodedPicture) : Type 0 where
-  answer : judgedAs p places (length cs) (advancedAll p Fresh cs) ≡ verified (withPictures places p (read cs))
-  bytes : (out : List ℕ) → 32 * places ≤ length out → (x : VbvStreamReport) → verified (withPictures places p (read cs)) ≡ vf.Report x
+pub record Judged (p : VbvParams) (places : ℕ) (cs : List CodedPicture) : Type 0 where
+  pub answer : judgedAs p places (length cs) (advancedAll p Fresh cs) ≡ verified (withPictures places p (read cs))
+  pub bytes : (out : List ℕ) → 32 * places ≤ length out → (x : VbvStreamReport) → verified (withPictures places p (read cs)) ≡ vf.Report x
       → storedAll p places 0 Fresh cs out ≡ over (recordsBytes (records (withPictures places p (read cs)))) out
+  pub few : length (records (withPictures places p (read cs))) ≤ places
+  pub lasts : (records (withPictures places p (read cs)) ≡ []) ⊎ (lastsAll p Fresh cs ≡ records (withPictures places p (read cs)))
 
 refusing : {p : VbvParams} {places : ℕ} {cs : List CodedPicture} (e : VbvVerifyError)
     → judgedAs p places (length cs) (advancedAll p Fresh cs) ≡ vf.Refused e → withPictures places p (read cs) ≡ no e → Judged p places cs
-unfolding verified
+unfolding verified records
 refusing e a b =
     record {
       answer = a ∙ rw b;
+      few = rw b (omega arith);
+      lasts = inl (rw b);
       bytes = λ out l x h. let y : vf.Refused e ≡ vf.Report x = rw b at h in let z : _≡_ {A = ℕ} 0 1 = cc in absurd (omega arith);
     }
 
 reporting : {p : VbvParams} {places : ℕ} {cs : List CodedPicture} (r : VbvPictureRecord) (rs : List VbvPictureRecord)
     → judgedAs p places (length cs) (advancedAll p Fresh cs) ≡ verified (yes p r rs) → withPictures places p (read cs) ≡ yes p r rs
     → length (r ∷ rs) ≤ places → ((out : List ℕ) → storedAll p places 0 Fresh cs out ≡ sets out 0 (recordsBytes (r ∷ rs)))
-    → Judged p places cs
+    → lastsAll p Fresh cs ≡ r ∷ rs → Judged p places cs
 unfolding records
-reporting r rs a b l s =
+reporting r rs a b l s k =
     record {
       answer = a ∙ rw b;
+      few = rw b l;
+      lasts = inr (k ∙ rw b);
       bytes = λ out h x y. s out ∙ rw b (records-over out (r ∷ rs) (omega arith));
     }
 
@@ -199,6 +214,10 @@ module _ {p : VbvParams} {c : CodedPicture} (b : Begun p c) (cs : List CodedPict
   as-running : advancedAll p Fresh (c ∷ cs) ≡ advancedAll p (Running (b .model) nothing (p .«buffer_size_bits») 0) (c ∷ cs)
   unfolding advancedAll advanced
   as-running = rw (b .goes)
+
+  as-lasts : lastsAll p Fresh (c ∷ cs) ≡ lastsAll p (Running (b .model) nothing (p .«buffer_size_bits») 0) (c ∷ cs)
+  unfolding lastsAll advanced
+  as-lasts = rw (b .goes)
 
   as-stored : (places : ℕ) (out : List ℕ)
       → storedAll p places 0 Fresh (c ∷ cs) out ≡ storedAll p places 0 (Running (b .model) nothing (p .«buffer_size_bits») 0) (c ∷ cs) out
@@ -234,6 +253,7 @@ runs p places c cs b (ran (r ∷ rs)) w k true l =
     (w ∙ rw l)
     (omega (arith, leb-true (length (c ∷ cs)) places l, ran-length k))
     (λ out. as-stored b cs places out ∙ ran-stored k places 0 nothing (p .«buffer_size_bits») 0 out (omega (arith, leb-true (length (c ∷ cs)) places l, ran-length k)))
+    (as-lasts b cs ∙ ran-lasts k nothing (p .«buffer_size_bits») 0)
 
 verdict-none : (p : VbvParams) (places : ℕ) → withPictures places p (read []) ≡ no NoPictures
 unfolding withPictures
@@ -249,7 +269,7 @@ verdict-unfit : (p : VbvParams) (places : ℕ) (c : CodedPicture) (cs : List Cod
 unfolding withPictures pick
 verdict-unfit p places c cs v f = rw (v, f)
 
-judges : (p : VbvParams) (places : ℕ) (cs : List CodedPicture) → Rising 0 cs → Judged p places cs
+pub judges : (p : VbvParams) (places : ℕ) (cs : List CodedPicture) → Rising 0 cs → Judged p places cs
 unfolding advancedAll judgedAs
 judges p places [] t = refusing NoPictures refl (verdict-none p places)
 judges p places (c ∷ cs) (next q t) = by-delay (eqb (c .«vbv_delay») 0xFFFF) refl
@@ -316,9 +336,9 @@ unfolding verified records
 no-records (no x) e h = refl
 no-records (yes p r rs) e h = let z : _≡_ {A = ℕ} 0 1 = cc in absurd (omega arith)
 
-over-none : (v : Verdict) (e : VbvVerifyError) (out : List ℕ) → verified v ≡ vf.Refused e → out ≡ over (recordsBytes (records v)) out
-unfolding over recordsBytes
-over-none v e out h = rw (no-records v e h)
+pub unstored : (v : Verdict) (e : VbvVerifyError) (out : List ℕ) → verified v ≡ vf.Refused e → out ≡ over (recordsBytes (records v)) out
+unfolding recordsBytes
+unstored v e out h = rw (no-records v e h) (sym (over-none out))
 
 module _ (standard : VbvStandard) (s out : List ℕ) where
   pub range-refused : 35184372088832 < length s
@@ -327,7 +347,7 @@ module _ (standard : VbvStandard) (s out : List ℕ) where
   unfolding verdict verified pick
   range-refused h =
       let v : verdict standard s (length out / 32) ≡ no (Model Range) = rw (lt-leb (8 * length s) (2 ^ 48) (omega arith)) in
-      (rw v, over-none _ (Model Range) out (rw v))
+      (rw v, unstored _ (Model Range) out (rw v))
 
   module _ (h : length s ≤ 35184372088832) where
     pub undeclared : (e : VbvVerifyError) → declared standard s ≡ NotDeclared e
@@ -336,7 +356,7 @@ module _ (standard : VbvStandard) (s out : List ℕ) where
     unfolding verdict withParams verified pick
     undeclared e d =
         let v : verdict standard s (length out / 32) ≡ no e = rw (le-leb (8 * length s) (2 ^ 48) (omega arith), d) in
-        (rw v, over-none _ e out (rw v))
+        (rw v, unstored _ e out (rw v))
 
     module _ (p : VbvParams) (d : declared standard s ≡ Params p) {answer : VbvVerified}
         (a : answer ≡ judgement p (length out / 32) (walked standard s p 0 Fresh (pictures s)))
@@ -354,7 +374,7 @@ module _ (standard : VbvStandard) (s out : List ℕ) where
       pub refused : (e : VbvVerifyError) → answer ≡ vf.Refused e
           → (answer ≡ verified (verdict standard s (length out / 32)))
           × (first ≡ over (recordsBytes (records (verdict standard s (length out / 32)))) out)
-      refused e q = (answer-is, untouched ∙ over-none _ e out (sym answer-is ∙ q))
+      refused e q = (answer-is, untouched ∙ unstored _ e out (sym answer-is ∙ q))
 
       pub reported : (x : VbvStreamReport) → answer ≡ vf.Report x → {last : List ℕ}
           → last ≡ stored standard s p (length out / 32) 0 Fresh (pictures s) first

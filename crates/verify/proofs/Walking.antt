@@ -12,7 +12,7 @@ use Rattle.bits.specs.Bits.{pick}
 use Rattle.headers.specs.declared.Error.{Error}
 use Rattle.vbv.specs.declared.VbvParams.{VbvParams}
 use Rattle.vbv.specs.declared.VbvCbrModel.{VbvCbrModel}
-use Rattle.verify.specs.declared.scan.Next.the-variants.{Picture, Done}
+use Rattle.scan.specs.declared.Next.the-variants.{Picture, Done}
 use Rattle.verify.specs.declared.VbvStandard.{VbvStandard}
 use Rattle.verify.specs.declared.VbvPictureRecord.{VbvPictureRecord}
 use Rattle.verify.specs.declared.CodedPicture.{CodedPicture}
@@ -21,9 +21,10 @@ use Rattle.verify.specs.declared.Progress.{Progress}
 use Rattle.verify.specs.declared.Progress.the-variants.{Fresh, Unmodelled, Running, Stopped}
 use Rattle.verify.specs.declared.Walked.the-variants.{Unread, Read}
 use Rattle.verify.specs.Layout.{recordBytes}
-use Rattle.verify.specs.Pictures.{pictures, picturesAt, nextPicture}
+use Rattle.scan.specs.Pictures.{pictures}
+use Rattle.scan.specs.Walk.{picturesAt, nextPicture}
 use Rattle.verify.specs.Walk.{codedAt, advanced, putAt, ifCoded, walked, stored}
-use Rattle.verify.proofs.Pictures.{walked as walked-on, pictures-done, pictures-walk}
+use Rattle.scan.proofs.Pictures.{walked as walked-on, pictures-done, pictures-walk}
 
 -- a record goes to its place, nothing else to any
 pub put-other : (places n : ℕ) (st : Progress) (out : List ℕ)

@@ -14,7 +14,7 @@ use Rattle.headers.specs.declared.picture_header.PictureRead.{PictureRead}
 use Rattle.headers.specs.declared.picture_header.PictureRead.the-variants.{Parsed as PictureParsed, Refused as PictureRefused}
 use Rattle.vbv.specs.declared.RemovalInterval.{RemovalInterval}
 use Rattle.vbv.specs.declared.RemovalInterval.the-variants.{Frame, Field}
-use Rattle.verify.specs.Pictures.{Pic, pictures}
+use Rattle.scan.specs.Pictures.{Pic, pictures}
 use Rattle.verify.specs.declared.VbvStandard.{VbvStandard}
 use Rattle.verify.specs.declared.VbvStandard.the-variants.{Mpeg1, Mpeg2}
 use Rattle.verify.specs.declared.CodedPicture.{CodedPicture}

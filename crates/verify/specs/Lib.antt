@@ -1,6 +1,3 @@
-pub mod Codes
-pub mod Pictures
-pub mod Laid
 pub mod Sequence
 pub mod Coded
 pub mod Run
@@ -8,3 +5,4 @@ pub mod Check
 pub mod Answers
 pub mod Layout
 pub mod Walk
+pub mod Recorder

@@ -11,10 +11,11 @@ use Rattle.vbv.specs.Answers.{frameRate}
 use Rattle.vbv.specs.declared.FrameRate.{FrameRate}
 use Rattle.vbv.specs.declared.FrameRate.the-variants.{Rate, Refused as RateRefused}
 use Rattle.vbv.specs.declared.VbvParams.{VbvParams}
-use Rattle.verify.specs.Codes.{codes}
-use Rattle.verify.specs.Pictures.{skip, found, notSequence}
-use Rattle.verify.specs.declared.scan.Found.{Found}
-use Rattle.verify.specs.declared.scan.Found.the-variants.{At, Nothing}
+use Rattle.scan.specs.Codes.{codes}
+use Rattle.scan.specs.Pictures.{skip, notSequence}
+use Rattle.scan.specs.Walk.{found}
+use Rattle.scan.specs.declared.Found.{Found}
+use Rattle.scan.specs.declared.Found.the-variants.{At, Nothing}
 use Rattle.verify.specs.declared.VbvStandard.{VbvStandard}
 use Rattle.verify.specs.declared.VbvStandard.the-variants.{Mpeg1, Mpeg2}
 use Rattle.verify.specs.declared.VbvVerifyError.the-variants.{Parse, Model, NoSequenceHeader}

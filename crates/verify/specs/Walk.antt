@@ -20,7 +20,7 @@ use Rattle.vbv.specs.declared.VbvDelay.{VbvDelay}
 use Rattle.vbv.specs.declared.VbvDelay.the-variants as dl
 use Rattle.vbv.specs.declared.VbvBits.{VbvBits}
 use Rattle.vbv.specs.declared.VbvBits.the-variants as bt
-use Rattle.verify.specs.Pictures.{Pic}
+use Rattle.scan.specs.Pictures.{Pic}
 use Rattle.verify.specs.Coded.{told, codedOf}
 use Rattle.verify.specs.Run.{apart, occupancyAfter}
 use Rattle.verify.specs.Layout.{recordBytes}

@@ -6,9 +6,14 @@ ghost use Rattle.verify.specs.declared.VbvVerifyError.the-variants.{Viol
 mod report; // the check of a stream
 mod reading; // what the headers tell
 mod records; // records as bytes
+mod recorder; // the check by value, and its records one by one
 mod run; // one removal after another
-pub mod scan; // start codes and pictures
 
+pub use crate::reading::interval;
+pub use crate::recorder::VbvRecorded;
+pub use crate::recorder::VbvRecorder;
+pub use crate::recorder::check_stream;
+pub use crate::recorder::record_count;
 pub use crate::report::verify_cbr_stream;
 use headers::Error;
 use vbv::RemovalInterval;

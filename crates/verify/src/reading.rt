@@ -12,8 +12,6 @@ use crate::Declared;
 use crate::Told;
 use crate::VbvStandard;
 use crate::VbvVerifyError;
-use crate::scan::Found;
-use crate::scan::first_sequence;
 use headers::picture_header::Mpeg2PictureHeader;
 use headers::picture_header::PictureHeaderRead;
 use headers::picture_header::PictureRead;
@@ -21,6 +19,8 @@ use headers::picture_header::PictureStructure;
 use headers::sequence_extension::Mpeg2Sequence;
 use headers::sequence_header::Answer;
 use headers::sequence_header::Mpeg2SequenceHeader;
+use scan::Found;
+use scan::first_sequence;
 use vbv::FrameRate;
 use vbv::RemovalInterval;
 use vbv::VbvParams;
@@ -92,7 +92,7 @@ pub(crate) fn declared_params(stream: &[u8], standard: VbvStandard) -> Declared
 }
 
 // A field picture lasts a field period.
-fn interval(structure: PictureStructure) -> RemovalInterval
+pub fn interval(structure: PictureStructure) -> RemovalInterval
     ensures { λ r. ⌜ r ≡ intervalOf structure ⌝ }
 {
     match structure {

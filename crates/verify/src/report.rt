@@ -4,7 +4,7 @@ ghost use mathlib.Core.Path.{_≡_};
 ghost use Prim.Native.Nat.{_*_, _/_, _^_, _≤_};
 ghost use lib.ListN.{length};
 ghost use Rattle.bits.specs.Answers.{over};
-ghost use Rattle.verify.specs.Pictures.{pictures};
+ghost use Rattle.scan.specs.Pictures.{pictures};
 ghost use Rattle.verify.specs.Check.{verdict, verified, records as recordsOf};
 ghost use Rattle.verify.specs.Layout.{recordsBytes};
 ghost use Rattle.verify.specs.Walk.{walked, stored, placed, judgement};
@@ -21,14 +21,14 @@ use crate::reading::coded_at;
 use crate::reading::declared_params;
 use crate::records::put_last;
 use crate::run::advance;
-use crate::scan::Next;
-use crate::scan::next_picture;
+use scan::Next;
+use scan::next_picture;
 use vbv::VbvError;
 use vbv::VbvParams;
 
 // Walks over the pictures as long as their headers can be read. The records of the first ones are stored, as many as there
 // are places.
-fn walk(
+pub(crate) fn walk(
     stream: &[u8],
     standard: VbvStandard,
     params: VbvParams,
@@ -70,7 +70,7 @@ fn if_placed(n: usize, places: usize, answer: VbvVerified) -> VbvVerified
 }
 
 // A refusal of the run comes after every other one.
-fn judge(params: VbvParams, places: usize, walked: Walked) -> VbvVerified
+pub(crate) fn judge(params: VbvParams, places: usize, walked: Walked) -> VbvVerified
     ensures { λ r. ⌜ r ≡ judgement params places walked ⌝ }
 {
     match walked {

@@ -3,7 +3,7 @@ use mathlib.Core.Path.{sym, _∙_}
 use native.Mathlib.Omega.{arith}
 use borrow.Author.Needs.{needs}
 use Rattle.verify.specs.Sequence.{declared, declaredAt}
-use Rattle.verify.proofs.Parts.{first-inside}
+use Rattle.scan.proofs.Pictures.{first-inside}
 use Rattle.verify.proofs.reading.declared_params.Statement.{statement}
 use Rattle.verify.proofs.reading.declared_params.Tie as tie
 

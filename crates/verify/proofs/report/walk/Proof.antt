@@ -3,9 +3,9 @@ use Prim.Native.Nat.{_-_}
 use native.Mathlib.Omega.{arith}
 use lib.ListN.{length}
 use borrow.Author.Needs.{needs}
-use Rattle.verify.specs.declared.scan.Next.the-variants.{Picture}
-use Rattle.verify.specs.Pictures.{nextPicture}
-use Rattle.verify.proofs.Pictures.{Walked, walked}
+use Rattle.scan.specs.declared.Next.the-variants.{Picture}
+use Rattle.scan.specs.Walk.{nextPicture}
+use Rattle.scan.proofs.Pictures.{Walked, walked}
 use Rattle.verify.proofs.Walking.{Walking, walking-none, walking-done, walking-unread, walking-more}
 use Rattle.verify.proofs.report.walk.Statement.{statement}
 use Rattle.verify.proofs.report.walk.Tie as tie

@@ -1,0 +1,166 @@
+-- The records of an accepted stream come one behind another from the walk of the check by value.
+-- Assumes nothing.
+use mathlib.Core.Path.{_≡_, refl, sym, ap, subst, _∙_}
+use mathlib.Core.Bool.{Bool, true, false}
+use mathlib.Core.Logic.{_⊎_, inl, inr}
+use Prim.Native.Nat.{ℕ, _*_, _^_, _≤_, _<_}
+use mathlib.Core.List.{List, [], _∷_}
+use native.Mathlib.Omega.{arith}
+use lib.Dec.{leb}
+use lib.ListN.{length}
+use borrow.Author.Tests.{lt-leb, le-leb, leb-true}
+use Rattle.bits.specs.Bits.{pick}
+use Rattle.headers.specs.declared.Error.{Error}
+use Rattle.vbv.specs.declared.VbvParams.{VbvParams}
+use Rattle.vbv.specs.declared.VbvCbrModel.{VbvCbrModel}
+use Rattle.vbv.specs.declared.VbvError.the-variants.{Range}
+use Rattle.scan.specs.declared.Next.{Next}
+use Rattle.scan.specs.declared.Next.the-variants.{Picture, Done}
+use Rattle.verify.specs.declared.VbvStandard.{VbvStandard}
+use Rattle.verify.specs.declared.CodedPicture.{CodedPicture}
+use Rattle.verify.specs.declared.Coded.the-variants as cd
+use Rattle.verify.specs.declared.VbvPictureRecord.{VbvPictureRecord}
+use Rattle.verify.specs.declared.VbvVerifyError.{VbvVerifyError}
+use Rattle.verify.specs.declared.VbvVerifyError.the-variants.{Model}
+use Rattle.verify.specs.declared.VbvVerified.{VbvVerified}
+use Rattle.verify.specs.declared.VbvVerified.the-variants as vf
+use Rattle.verify.specs.declared.Declared.{Declared}
+use Rattle.verify.specs.declared.Declared.the-variants.{Params, Refused as NotDeclared}
+use Rattle.verify.specs.declared.Progress.{Progress}
+use Rattle.verify.specs.declared.Progress.the-variants.{Fresh, Unmodelled, Running, Stopped}
+use Rattle.verify.specs.declared.recorder.VbvRecorder.{VbvRecorder}
+use Rattle.scan.specs.Pictures.{Pic, pictures}
+use Rattle.scan.specs.Walk.{picturesAt, nextPicture}
+use Rattle.verify.specs.Sequence.{declared}
+use Rattle.verify.specs.Coded.{Headers, unread, read, headers, codedPictures}
+use Rattle.verify.specs.Check.{Verdict, no, yes, withPictures, withParams, verdict, verified, records}
+use Rattle.verify.specs.Walk.{codedAt, advanced, ifCoded, walked, judgement}
+use Rattle.verify.specs.Recorder.{recorderOf, recordCount, noRecord, lastOf, stayed, wentOn, recordedBy, nextRecord}
+use Rattle.scan.proofs.Pictures.{walked as walked-on, pictures-done, pictures-walk}
+use Rattle.verify.proofs.Fold.{lastsAll, Reads, none, good, reads}
+use Rattle.verify.proofs.Rising.{rising}
+use Rattle.verify.proofs.Verdict.{judges, judgement-is}
+
+-- ---- the answer
+
+module _ (standard : VbvStandard) (s : List ℕ) (places : ℕ) where
+  pub checked-long : 35184372088832 < length s → vf.Refused (Model Range) ≡ verified (verdict standard s places)
+  unfolding verdict verified pick
+  checked-long h = rw (lt-leb (8 * length s) (2 ^ 48) (omega arith))
+
+  module _ (h : length s ≤ 35184372088832) where
+    within : verdict standard s places ≡ withParams standard s places (declared standard s)
+    unfolding verdict pick
+    within = rw (le-leb (8 * length s) (2 ^ 48) (omega arith))
+
+    pub checked-undeclared : (e : VbvVerifyError) → declared standard s ≡ NotDeclared e → vf.Refused e ≡ verified (verdict standard s places)
+    unfolding withParams verified
+    checked-undeclared e d = rw (within, d)
+
+    pub checked-declared : (p : VbvParams) → declared standard s ≡ Params p
+        → judgement p places (walked standard s p 0 Fresh (pictures s)) ≡ verified (verdict standard s places)
+    unfolding withParams
+    checked-declared p d = rw (within, d) (judgement-is standard s (omega arith) p places)
+
+-- ---- a step
+
+pub last-other : (st : Progress) → ((m : VbvCbrModel) (r : VbvPictureRecord) (l g : ℕ) → st ≡ Running m r l g → ⊥) → noRecord ≡ lastOf st
+unfolding lastOf
+last-other Fresh h = refl
+last-other (Unmodelled e) h = refl
+last-other (Running m r l g) h = absurd (h m r l g refl)
+last-other (Stopped e) h = refl
+
+module _ (s : List ℕ) (w : VbvRecorder) where
+  pub next-long : 35184372088832 < length s → stayed w ≡ nextRecord s w
+  unfolding nextRecord pick
+  next-long h = rw (lt-leb (8 * length s) (2 ^ 48) (omega arith))
+
+  module _ (h : length s ≤ 35184372088832) where
+    short-is : nextRecord s w ≡ recordedBy s w (nextPicture s (w .at))
+    unfolding nextRecord pick
+    short-is = rw (le-leb (8 * length s) (2 ^ 48) (omega arith))
+
+    pub next-done : nextPicture s (w .at) ≡ Done → stayed w ≡ nextRecord s w
+    unfolding recordedBy
+    next-done e = rw (short-is, e)
+
+    module _ (a b k : ℕ) (e : nextPicture s (w .at) ≡ Picture a b k) where
+      pub next-unread : (err : Error) → codedAt (w .standard) s (record { start = a; end = b }) ≡ cd.Refused err → stayed w ≡ nextRecord s w
+      unfolding recordedBy ifCoded
+      next-unread err d = rw (short-is, e, d)
+
+      pub next-read : (c : CodedPicture) → codedAt (w .standard) s (record { start = a; end = b }) ≡ cd.Picture c
+          → wentOn w k (advanced (w .params) (w .progress) c) ≡ nextRecord s w
+      unfolding recordedBy ifCoded
+      next-read c d = rw (short-is, e, d)
+
+-- ---- the records
+
+-- the records that a walk gives, one behind another
+pub data Yields (s : List ℕ) : VbvRecorder → List VbvPictureRecord → Type 0 where
+  no-more : {w : VbvRecorder} → Yields s w []
+  one-more : {w : VbvRecorder} {r : VbvPictureRecord} {rs : List VbvPictureRecord} → nextRecord s w .last ≡ r
+      → Yields s (nextRecord s w .recorder) rs → Yields s w (r ∷ rs)
+
+abbrev standing : VbvStandard → VbvParams → ℕ → Progress → VbvRecorder
+standing standard p i st = record { standard = standard; params = p; at = i; progress = st }
+
+yields : {standard : VbvStandard} {s : List ℕ} → length s ≤ 35184372088832 → (p : VbvParams) {qs : List Pic} {cs : List CodedPicture} (i : ℕ) (st : Progress)
+    → picturesAt s i ≡ qs → Reads standard s qs (read cs) → Yields s (standing standard p i st) (lastsAll p st cs)
+unfolding lastsAll wentOn
+yields short p i st l none = no-more
+yields {standard} {s} short p i st l (good {q} {qs} {c} {cs} t r) = go (λ k x. yields short p k (advanced p st c) x r) (nextPicture s i) refl
+  where
+    go : ((k : ℕ) → picturesAt s k ≡ qs → Yields s (standing standard p k (advanced p st c)) (lastsAll p (advanced p st c) cs))
+        → (o : Next) → nextPicture s i ≡ o → Yields s (standing standard p i st) (lastOf (advanced p st c) ∷ lastsAll p (advanced p st c) cs)
+    go ih Done h = let z = sym (pictures-done s i h) ∙ l in let w : _≡_ {A = ℕ} 0 1 = cc in absurd (omega arith)
+    go ih (Picture a b k) h =
+        let x = sym (walked-on s i a b k h .list) ∙ l in
+        let y : _≡_ {A = Pic} q (record { start = a; end = b }) = cc in
+        let z : picturesAt s k ≡ qs = cc in
+        let e = next-read s (standing standard p i st) short a b k h c (rw y at t) in
+        one-more {w = standing standard p i st} {r = lastOf (advanced p st c)} {rs = lastsAll p (advanced p st c) cs} (rw (← e)) (rw (← e) (ih k z))
+
+-- what the walk of the check by value gives: each record, and no more than there are places
+pub record Placing (s : List ℕ) (places : ℕ) (w : VbvRecorder) (rs : List VbvPictureRecord) : Type 0 where
+  pub each : Yields s w rs
+  pub few : length rs ≤ places
+
+nothing : {s : List ℕ} {places : ℕ} {w : VbvRecorder} → Placing s places w []
+nothing = record { each = no-more; few = omega arith }
+
+by-headers : (standard : VbvStandard) (s : List ℕ) (short : 8 * length s ≤ 2 ^ 48) (p : VbvParams) (places : ℕ) (h : Headers) → Reads standard s (pictures s) h
+    → Placing s places (recorderOf standard (Params p)) (records (withPictures places p h))
+unfolding recorderOf withPictures records
+by-headers standard s short p places (unread e) r = nothing
+by-headers standard s short p places (read cs) r =
+    let j = judges p places cs (rising short r) in record { each = go (j .lasts); few = j .few }
+  where
+    go : (records (withPictures places p (read cs)) ≡ []) ⊎ (lastsAll p Fresh cs ≡ records (withPictures places p (read cs)))
+        → Yields s (recorderOf standard (Params p)) (records (withPictures places p (read cs)))
+    go (inl e) = rw e no-more
+    go (inr e) = rw (← e) (yields (omega arith) p 0 Fresh (pictures-walk s) r)
+
+by-declared : (standard : VbvStandard) (s : List ℕ) (short : 8 * length s ≤ 2 ^ 48) (places : ℕ) (d : Declared)
+    → Placing s places (recorderOf standard d) (records (withParams standard s places d))
+unfolding withParams records codedPictures
+by-declared standard s short places (Params p) =
+    by-headers standard s short p places (headers standard s (pictures s)) (reads standard s (pictures s))
+by-declared standard s short places (NotDeclared e) = nothing
+
+-- of every stream, whatever its answer
+pub records-placed : (standard : VbvStandard) (s : List ℕ) (places : ℕ)
+    → Placing s places (recorderOf standard (declared standard s)) (records (verdict standard s places))
+unfolding verdict records pick
+records-placed standard s places = go (leb (8 * length s) (2 ^ 48)) refl
+  where
+    go : (t : Bool) → leb (8 * length s) (2 ^ 48) ≡ t
+        → Placing s places (recorderOf standard (declared standard s)) (records (pick t (withParams standard s places (declared standard s)) (no (Model Range))))
+    go true e = by-declared standard s (leb-true (8 * length s) (2 ^ 48) e) places (declared standard s)
+    go false e = nothing
+
+pub count-is : (v : Verdict) → recordCount (verified v) ≡ length (records v)
+unfolding recordCount verified records
+count-is (no e) = refl
+count-is (yes p r rs) = refl

@@ -1,0 +1,26 @@
+use Rattle.verify.specs.Recorder.{recorderOf}
+use borrow.Author.Needs.{needs}
+use Rattle.verify.proofs.recorder.VbvRecorder.new.Statement.{statement}
+use Rattle.verify.proofs.recorder.VbvRecorder.new.Tie as tie
+
+declared-params-requires : tie.Need-declared-params-requires
+declared-params-requires c κs = search needs
+
+enum-known-params : tie.Need-enum-known-params
+enum-known-params c = search needs
+
+enum-known-error : tie.Need-enum-known-error
+enum-known-error c = search needs
+
+returns : tie.Need-returns
+unfolding recorderOf
+returns c = rw (← c .before .before .before .declared-params .ensures, c .before .params .given .1)
+
+returns-2 : tie.Need-returns-2
+unfolding recorderOf
+returns-2 c = rw (← c .before .before .before .declared-params .ensures, c .before .error .given .1)
+
+pub new-spec : {M : Type 1} → statement M
+new-spec =
+    tie.close
+    (tie.spec declared-params-requires enum-known-params enum-known-error returns returns-2)

@@ -1,0 +1,58 @@
+-- The records of a stream one by one: a walk over the pictures as in specs/Walk.antt, a picture at a time. proofs/Recording.antt says that the records of an accepted stream come one behind another.
+-- Assumes nothing.
+use Prim.Native.Nat.{ℕ, _*_, _^_}
+use mathlib.Core.List.{List}
+use lib.Dec.{leb}
+use lib.ListN.{length}
+use Rattle.bits.specs.Bits.{pick}
+use Rattle.headers.specs.declared.Error.{Error}
+use Rattle.scan.specs.Walk.{nextPicture}
+use Rattle.verify.specs.Walk.{codedAt, advanced, ifCoded}
+use Rattle.scan.specs.declared.Next.{Next}
+use Rattle.scan.specs.declared.Next.the-variants.{Picture, Done}
+use Rattle.verify.specs.declared.VbvStandard.{VbvStandard}
+use Rattle.verify.specs.declared.CodedPicture.{CodedPicture}
+use Rattle.verify.specs.declared.VbvPictureRecord.{VbvPictureRecord}
+use Rattle.verify.specs.declared.Declared.{Declared}
+use Rattle.verify.specs.declared.Declared.the-variants.{Params, Refused as NotDeclared}
+use Rattle.verify.specs.declared.Progress.{Progress}
+use Rattle.verify.specs.declared.Progress.the-variants.{Fresh, Unmodelled, Running, Stopped}
+use Rattle.verify.specs.declared.VbvVerified.{VbvVerified}
+use Rattle.verify.specs.declared.VbvVerified.the-variants.{Report, Refused}
+use Rattle.verify.specs.declared.recorder.VbvRecorder.{VbvRecorder}
+use Rattle.verify.specs.declared.recorder.VbvRecorded.{VbvRecorded}
+
+unfoldable pub recordCount : VbvVerified → ℕ
+recordCount (Report x) = x .pictures
+recordCount (Refused e) = 0
+
+-- before the first picture; a stream that declares nothing has no use for it
+unfoldable pub recorderOf : VbvStandard → Declared → VbvRecorder
+recorderOf standard (Params p) = record { standard = standard; params = p; at = 0; progress = Fresh }
+recorderOf standard (NotDeclared e) =
+    record { standard = standard; params = record { «bit_rate» = 0; «buffer_size_bits» = 0; frn = 0; frd = 0 }; at = 0; progress = Unmodelled e }
+
+unfoldable pub noRecord : VbvPictureRecord
+noRecord = record { «vbv_delay» = 0; «expected_delay» = 0; «data_bits» = 0; «occupancy_before_bits» = 0 }
+
+unfoldable pub lastOf : Progress → VbvPictureRecord
+lastOf Fresh = noRecord
+lastOf (Unmodelled e) = noRecord
+lastOf (Running m r least greatest) = r
+lastOf (Stopped e) = noRecord
+
+unfoldable pub stayed : VbvRecorder → VbvRecorded
+stayed w = record { recorder = w; last = noRecord }
+
+unfoldable pub wentOn : VbvRecorder → ℕ → Progress → VbvRecorded
+wentOn w next st =
+    record { recorder = record { standard = w .standard; params = w .params; at = next; progress = st }; last = lastOf st }
+
+unfoldable pub recordedBy : List ℕ → VbvRecorder → Next → VbvRecorded
+recordedBy s w Done = stayed w
+recordedBy s w (Picture a b next) =
+    ifCoded (codedAt (w .standard) s (record { start = a; end = b })) (λ (e : Error). stayed w) (λ (c : CodedPicture).
+    wentOn w next (advanced (w .params) (w .progress) c))
+
+unfoldable pub nextRecord : List ℕ → VbvRecorder → VbvRecorded
+nextRecord s w = pick (leb (8 * length s) (2 ^ 48)) (recordedBy s w (nextPicture s (w .at))) (stayed w)
