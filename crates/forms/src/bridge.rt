@@ -1,0 +1,55 @@
+// The forms by reference, called with what is lent in locals: parameters and results are plain.
+ghost use mathlib.Core.Path.{_≡_};
+ghost use lib.ListN.{replicate};
+ghost use Rattle.verify.specs.Check.{verdict, verified, records as recordsOf};
+ghost use Rattle.lent.specs.Laid.{laid};
+ghost use Rattle.vbv.specs.Lent.{startStep, removeStep};
+use vbv::RemovalInterval;
+use vbv::VbvCbrModel;
+use vbv::lent::VbvStepped;
+use verify::VbvPictureRecord;
+use verify::VbvStandard;
+use verify::VbvVerified;
+
+pub(crate) fn started(model: VbvCbrModel, delay: u16, position: u64) -> VbvStepped
+    ensures { λ r. ⌜ r ≡ startStep model delay position ⌝ }
+{
+    let mut lent = model;
+    let answer = lent.start_in_place(delay, position);
+    VbvStepped {
+        model: lent,
+        answer,
+    }
+}
+
+pub(crate) fn removed(model: VbvCbrModel, end: u64, interval: RemovalInterval) -> VbvStepped
+    ensures { λ r. ⌜ r ≡ removeStep model end interval ⌝ }
+{
+    let mut lent = model;
+    let answer = lent.remove_in_place(end, interval);
+    VbvStepped {
+        model: lent,
+        answer,
+    }
+}
+
+// Four places, filled before the check: what they hold after it.
+pub(crate) fn places(
+    stream: &[u8],
+    standard: VbvStandard,
+    filling: VbvPictureRecord,
+) -> [VbvPictureRecord; 4]
+    ensures { λ r. ⌜ r ≡ laid (recordsOf (verdict standard (now (stream .entry)) 4)) (replicate 4 filling) ⌝ }
+{
+    let mut records = [filling; 4];
+    lent::verify_cbr_stream(stream, standard, &mut records);
+    records
+}
+
+// What the check answers with those places.
+pub(crate) fn answer(stream: &[u8], standard: VbvStandard, filling: VbvPictureRecord) -> VbvVerified
+    ensures { λ r. ⌜ r ≡ verified (verdict standard (now (stream .entry)) 4) ⌝ }
+{
+    let mut records = [filling; 4];
+    lent::verify_cbr_stream(stream, standard, &mut records)
+}

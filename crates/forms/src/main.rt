@@ -1,0 +1,24 @@
+// Runs the forms by reference beside those by value, on the same streams and calls, and counts what they answer.
+mod bridge; // the forms by reference
+mod checks; // streams
+mod steps; // calls of the model
+mod tally; // what is counted
+
+use libc::STDOUT_FILENO;
+
+fn print_count(name: &[u8], n: u64) {
+    io::write_all(STDOUT_FILENO, name);
+    io::print_decimal(STDOUT_FILENO, n);
+    io::write_all(STDOUT_FILENO, b"\n");
+}
+
+fn main() {
+    let streams = checks::run();
+    print_count(b"streams accepted ", streams.done);
+    print_count(b"streams refused ", streams.refused);
+    print_count(b"streams with another answer or record ", streams.other);
+    let calls = steps::run();
+    print_count(b"calls done ", calls.done);
+    print_count(b"calls refused ", calls.refused);
+    print_count(b"calls with another answer or model ", calls.other);
+}

@@ -1,0 +1,31 @@
+// The check with records in a lent slice of structs, thin above the check by value.
+ghost use mathlib.Core.Path.{_≡_};
+ghost use lib.ListN.{length};
+ghost use Rattle.verify.specs.Check.{verdict, verified, records as recordsOf};
+ghost use Rattle.lent.specs.Laid.{laid};
+use verify::VbvPictureRecord;
+use verify::VbvRecorder;
+use verify::VbvStandard;
+use verify::VbvVerified;
+
+// The buffer report of a stream with its records, or why it is refused. The records of an accepted stream are stored from
+// the first place on; the places past them, and all places on a refusal, keep what they hold.
+pub fn verify_cbr_stream(
+    stream: &[u8],
+    standard: VbvStandard,
+    records: &mut [VbvPictureRecord],
+) -> VbvVerified
+    ensures { λ r. ⌜ (r ≡ verified (verdict standard (now (stream .entry)) (length (now (records .entry))))) × (now (records .exit) ≡ laid (recordsOf (verdict standard (now (stream .entry)) (length (now (records .entry))))) (now (records .entry))) ⌝ }
+{
+    let answer = verify::check_stream(stream, standard, records.len());
+    let count = verify::record_count(answer);
+    let mut recorder = VbvRecorder::new(stream, standard);
+    let mut i = 0;
+    while i < count {
+        let recorded = recorder.next_record(stream);
+        records[i] = recorded.last;
+        recorder = recorded.recorder;
+        i += 1;
+    }
+    answer
+}
