@@ -1,0 +1,308 @@
+-- Headers and layers that fit, laid in a stream: the patch keeps a layer's codes, a layer is a piece with one picture, headers before a piece are
+-- of that piece, and what the stream's reader is told is what was offered.
+-- Assumes nothing.
+use mathlib.Core.Path.{_≡_, refl, sym, ap, _∙_}
+use Prim.Native.Nat.{ℕ, _+_, _*_, _≤_, _<_}
+use mathlib.Core.List.{List, [], _∷_, _++_}
+use mathlib.Core.Bool.{Bool, true, false, not, _&&_, _||_}
+use mathlib.Core.Logic.{⊎-elim, inl, inr}
+use native.Mathlib.Omega.{arith}
+use native.Mathlib.Nat.{zero-add}
+use lib.Dec.{eqb, lit≤, lit<}
+use lib.ListN.{length, take, drop}
+use lib.Seq.{take-take}
+use borrow.Author.Tests.{not-true, eqb-true, ne-eqb}
+use Rattle.bits.specs.Bits.{bitsAt}
+use Rattle.bits.proofs.Reading.{both-true, same-bytes}
+use Rattle.bits.proofs.Appending.{Below}
+use Rattle.headers.specs.StartCode.{zeros}
+use Rattle.headers.specs.Picture.{picture}
+use Rattle.headers.specs.Sequence.{sequence}
+use Rattle.headers.specs.declared.sequence_header.Answer.{Answer}
+use Rattle.headers.specs.declared.sequence_header.Answer.the-variants.{Parsed as SequenceParsed, Refused as SequenceRefused}
+use Rattle.headers.specs.declared.sequence_extension.Mpeg2Sequence.{Mpeg2Sequence}
+use Rattle.headers.specs.declared.picture_header.PictureRead.the-variants.{Parsed}
+use Rattle.headers.proofs.Picture.{picture-append}
+use Rattle.headers.proofs.Sequence.{sequence-append}
+use Rattle.headers.proofs.OtherDelay.{OtherDelay, delayed, delayed-delay, picture-delayed}
+use Rattle.vbv.specs.Patch.{startsPicture, patched}
+use Rattle.vbv.specs.Answers.{frameRate}
+use Rattle.vbv.specs.declared.FrameRate.{FrameRate}
+use Rattle.vbv.specs.declared.FrameRate.the-variants.{Rate, Refused as NoRate}
+use Rattle.vbv.specs.declared.VbvParams.{VbvParams}
+use Rattle.vbv.specs.declared.RemovalInterval.{RemovalInterval}
+use Rattle.vbv.proofs.Patching.{starts-is, patched-length, patched-front, patched-rest, patched-below, patched-delay, patched-before, patched-behind}
+use Rattle.scan.specs.Codes.{Code, codes, codesFrom, endsPrefix}
+use Rattle.scan.specs.Pictures.{isSlice, notSlice, notPicture, skip}
+use Rattle.scan.specs.Laid.{every, OnePicture, Opened, Piece}
+use Rattle.scan.proofs.Pieces.{piece-behind}
+use Rattle.scan.proofs.PictureCodes.{PictureHead, opens-four, codes-picture, ends-drop, ends-prefix, codes-none, codes-opened}
+use Rattle.scan.proofs.Sorts.{slice-zero, slice-above, not-slice-above, not-picture, every-by, every-first, skip-split, every-empty}
+use Rattle.verify.proofs.Telling.{told-parsed, declared-parsed}
+use Rattle.verify.specs.Coded.{told}
+use Rattle.verify.specs.Sequence.{declared}
+use Rattle.verify.specs.declared.VbvStandard.the-variants.{Mpeg2}
+use Rattle.verify.specs.declared.Told.the-variants.{Delay}
+use Rattle.verify.specs.declared.Declared.the-variants.{Params}
+use Rattle.layers.specs.declared.PictureKind.{PictureKind}
+use Rattle.layers.specs.Layer.{slices, isExtension, layerCodes, layerFits}
+use Rattle.layers.specs.Headers.{opensHeaders, headerCode, sameRate, sameParams, parsed, sequenceFirst, sequenceFits, headersFit}
+use Rattle.layers.proofs.Layers.{LayerFits, layer-fits, LowBits, picture-head, layer-header, layer-twelve, layer-low}
+
+-- ---- a layer
+
+-- its codes are those of one picture
+extension-no-slice : (c : ℕ) → isExtension c ≡ true → notSlice c ≡ true
+unfolding isExtension
+extension-no-slice c e = case (eqb c 0xB5) (eqb c 0xB2) refl refl e
+  where
+    case : (a b : Bool) → eqb c 0xB5 ≡ a → eqb c 0xB2 ≡ b → (a || b) ≡ true → notSlice c ≡ true
+    case true b p q e = not-slice-above c (omega (arith, eqb-true c 0xB5 p))
+    case false true p q e = not-slice-above c (omega (arith, eqb-true c 0xB2 q))
+    case false false p q e = cc
+
+one-of : (cs : List Code) → layerCodes cs ≡ true → OnePicture cs 0
+unfolding layerCodes slices
+one-of [] e = absurd (let z : _≡_ {A = ℕ} 0 1 = cc in omega arith)
+one-of (c ∷ cs) e = case (skip isExtension cs) refl (b .1)
+  where
+    a : (eqb (c .offset) 0 ≡ true) × ((eqb (c .code) 0 && slices (skip isExtension cs)) ≡ true)
+    a = both-true (eqb (c .offset) 0) _ e
+
+    b : (eqb (c .code) 0 ≡ true) × (slices (skip isExtension cs) ≡ true)
+    b = both-true (eqb (c .code) 0) _ (a .1)
+
+    first : c ≡ record { offset = 0; code = 0 }
+    first = rw (eqb-true (c .offset) 0 (a .0), eqb-true (c .code) 0 (b .0))
+
+    case : (ds : List Code) → skip isExtension cs ≡ ds → slices ds ≡ true → OnePicture (c ∷ cs) 0
+    case [] q z = absurd (let z : _≡_ {A = ℕ} 0 1 = cc in omega arith)
+    case (d ∷ ds) q z =
+        let p = skip-split isExtension cs in
+        let t = both-true (isSlice (d .code)) (every isSlice ds) z in
+        record {
+          headers = [];
+          extensions = p .front;
+          slice = d;
+          slices = ds;
+          shape = rw first (ap (λ (l : List Code). record { offset = 0; code = 0 } ∷ l) (p .split ∙ ap (λ (l : List Code). p .front ++ l) q));
+          no-picture = every-empty notPicture;
+          no-slice = every-by isExtension notSlice extension-no-slice (p .front) (p .all);
+          a-slice = t .0;
+          all-slices = t .1;
+        }
+
+module _ (k : PictureKind) (i : RemovalInterval) (s : List ℕ) (fits : layerFits k i s ≡ true) where
+  f : LayerFits k i s
+  f = layer-fits k i s fits
+
+  pub layer-long : 8 ≤ length s
+  layer-long = omega (arith, layer-twelve f)
+
+  pub layer-starts : startsPicture s ≡ true
+  layer-starts =
+      let o = opens-four s 0 0 1 0 (layer-header f .code-first) in
+      sym (starts-is s layer-long) ∙ rw o
+
+  pub layer-length : (d : ℕ) → length (patched s d) ≡ length s
+  layer-length d = patched-length s d layer-starts
+
+  module _ (bytes : Below 256 s) (d : ℕ) (small : d < 65536) where
+    other : OtherDelay s (patched s d)
+    other =
+        let e : take 5 (patched s d) ≡ take 5 s = patched-front s d layer-starts bytes small in
+        record {
+          same-length = layer-length d;
+          same-code = sym (take-take 4 5 (patched s d) (lit≤ tt)) ∙ ap (take 4) e ∙ take-take 4 5 s (lit≤ tt);
+          same-before = patched-before s d layer-starts;
+          same-behind = patched-behind s d layer-starts;
+          same-rest = patched-rest s d layer-starts bytes small;
+        }
+
+    head : PictureHead s
+    head = picture-head s bytes (omega (arith, layer-twelve f)) (layer-header f .code-first) (layer-header f .type-low) (layer-low f)
+
+    patched-code : take 4 (patched s d) ≡ 0x00 ∷ 0x00 ∷ 0x01 ∷ 0x00 ∷ []
+    patched-code = other .same-code ∙ layer-header f .code-first
+
+    patched-low : LowBits (patched s d)
+    patched-low =
+        ⊎-elim
+        (λ (v : 1 ≤ bitsAt s 61 3). inl (rw (other .same-behind 61 3 (lit≤ tt)) v))
+        (λ (v : 2 ≤ zeros (drop 8 s)). inr (rw (other .same-rest) v))
+        (layer-low f)
+
+    patched-head : PictureHead (patched s d)
+    patched-head =
+        picture-head (patched s d) (patched-below s d layer-starts) (omega (arith, layer-twelve f, layer-length d)) patched-code
+        (rw (other .same-before 42 3 (lit≤ tt)) (layer-header f .type-low)) patched-low
+
+    -- the patch neither makes nor breaks a code
+    pub patched-codes : codes (patched s d) ≡ codes s
+    patched-codes =
+        codes-picture (patched s d) patched-head
+        ∙ ap (λ (l : List ℕ). record { offset = 0; code = 0 } ∷ codesFrom 8 0 l) (other .same-rest)
+        ∙ sym (codes-picture s head)
+
+    pub patched-closed : endsPrefix (patched s d) ≡ false
+    patched-closed =
+        ends-drop 8 (patched s d) (omega (arith, layer-twelve f, layer-length d))
+        ∙ ap endsPrefix (other .same-rest)
+        ∙ sym (ends-drop 8 s (omega (arith, layer-twelve f)))
+        ∙ f .closed
+
+    -- a patched layer is a piece, its picture at byte 0
+    pub layer-piece : Piece (patched s d) 0
+    layer-piece = record {
+      opened = record {
+        first = 0;
+        rest = drop 4 (patched s d);
+        opens = opens-four (patched s d) 0 0 1 0 patched-code;
+        opens-slice = slice-zero;
+        opens-end = refl;
+        closed = patched-closed;
+      };
+      one = rw patched-codes (one-of (codes s) (f .codes-fit));
+    }
+
+    -- and tells the delay that was put in, and the interval that was offered
+    pub layer-told : (t : List ℕ) → told Mpeg2 (patched s d ++ t) ≡ Delay d i
+    layer-told t =
+        let h = delayed (f .header) (bitsAt (patched s d) 45 16) in
+        let p : picture (patched s d ++ t) ≡ Parsed h (f .extension) =
+        picture-append (patched s d) t h (f .extension) (picture-delayed s (patched s d) other (f .header) (f .extension) (f .parsed) (f .zeros-behind)) in
+        told-parsed (patched s d ++ t) h (f .extension) p
+        ∙ rw (delayed-delay (f .header) (bitsAt (patched s d) 45 16), patched-delay s d layer-starts small, f .interval)
+
+-- ---- headers
+
+header-above : (c : ℕ) → headerCode c ≡ true → (0xAF < c) × (c ≡ 0xB7 → ⊥)
+unfolding headerCode
+header-above c e = case (eqb c 0xB2) (eqb c 0xB3) (eqb c 0xB5) (eqb c 0xB8) refl refl refl refl e
+  where
+    by : (n : ℕ) → eqb c n ≡ true → 0xAF < n → (n ≡ 0xB7 → ⊥) → (0xAF < c) × (c ≡ 0xB7 → ⊥)
+    by n q l m = rw (eqb-true c n q) (l, m)
+
+    case : (p q r t : Bool) → eqb c 0xB2 ≡ p → eqb c 0xB3 ≡ q → eqb c 0xB5 ≡ r → eqb c 0xB8 ≡ t → (p || (q || (r || t))) ≡ true
+        → (0xAF < c) × (c ≡ 0xB7 → ⊥)
+    case true q r t a b d g e = by 0xB2 a (lit< tt) (λ z. omega arith)
+    case false true r t a b d g e = by 0xB3 b (lit< tt) (λ z. omega arith)
+    case false false true t a b d g e = by 0xB5 d (lit< tt) (λ z. omega arith)
+    case false false false true a b d g e = by 0xB8 g (lit< tt) (λ z. omega arith)
+    case false false false false a b d g e = absurd (let z : _≡_ {A = ℕ} 0 1 = cc in omega arith)
+
+header-no-picture : (c : ℕ) → headerCode c ≡ true → notPicture c ≡ true
+header-no-picture c e = not-picture c (λ z. omega (arith, header-above c e .0))
+
+-- headers that fit and are not empty
+record HeadersFit (h : List ℕ) : Type 0 where
+  first : ℕ
+  rest : List ℕ
+  opens : h ≡ 0 ∷ 0 ∷ 1 ∷ first ∷ rest
+  first-code : headerCode first ≡ true
+  all-codes : every headerCode (codes h) ≡ true
+  closed : endsPrefix h ≡ false
+
+three-first : (h : List ℕ) → take 3 h ≡ 0x00 ∷ 0x00 ∷ 0x01 ∷ [] → h ≡ 0 ∷ 0 ∷ 1 ∷ drop 3 h
+three-first [] e = cc
+three-first (a ∷ []) e = cc
+three-first (a ∷ b ∷ []) e = cc
+three-first (a ∷ b ∷ c ∷ h) e = cc
+
+headers-fit : (b : ℕ) (s : List ℕ) → opensHeaders (b ∷ s) ≡ true → every headerCode (codes (b ∷ s)) ≡ true → endsPrefix (b ∷ s) ≡ false
+    → HeadersFit (b ∷ s)
+unfolding opensHeaders
+headers-fit b s o c n = case (drop 3 (b ∷ s)) (three-first (b ∷ s) (same-bytes (take 3 (b ∷ s)) (0x00 ∷ 0x00 ∷ 0x01 ∷ []) o))
+  where
+    case : (r : List ℕ) → b ∷ s ≡ 0 ∷ 0 ∷ 1 ∷ r → HeadersFit (b ∷ s)
+    case [] e = absurd (let z : false ≡ true = sym n ∙ ap endsPrefix e ∙ ends-prefix in let y : _≡_ {A = ℕ} 0 1 = cc in omega arith)
+    case (f ∷ r) e =
+        let a : every headerCode (record { offset = 0; code = f } ∷ codesFrom 4 0 r) ≡ true = sym (ap (every headerCode) (ap codes e ∙ codes-opened f r)) ∙ c in
+        record { first = f; rest = r; opens = e; first-code = every-first headerCode _ _ a .0; all-codes = c; closed = n }
+
+headers-open : {h : List ℕ} → HeadersFit h → Opened h
+headers-open f = record {
+  first = f .first;
+  rest = f .rest;
+  opens = f .opens;
+  opens-slice = slice-above (f .first) (header-above (f .first) (f .first-code) .0);
+  opens-end = ne-eqb (f .first) 0xB7 (header-above (f .first) (f .first-code) .1);
+  closed = f .closed;
+}
+
+module _ (p : VbvParams) (placed : Bool) where
+  -- the four conditions
+  conditions : (h : List ℕ) → headersFit p placed h ≡ true
+      → (opensHeaders h ≡ true) × (every headerCode (codes h) ≡ true) × (endsPrefix h ≡ false) × (sequenceFits p placed h ≡ true)
+  unfolding headersFit
+  conditions h e =
+      let a = both-true (opensHeaders h) _ e in
+      let b = both-true (every headerCode (codes h)) _ (a .1) in
+      let c = both-true (not (endsPrefix h)) _ (b .1) in
+      (a .0, b .0, not-true (endsPrefix h) (c .0), c .1)
+
+  fit-of : (b : ℕ) (s : List ℕ) → headersFit p placed (b ∷ s) ≡ true → HeadersFit (b ∷ s)
+  fit-of b s e =
+      let c = conditions (b ∷ s) e in
+      headers-fit b s (c .0) (c .1) (c .2)
+
+  -- headers before a piece make a piece with them
+  pub headers-piece : (h : List ℕ) → headersFit p placed h ≡ true → (x : List ℕ) (at : ℕ) → Piece x at → Piece (h ++ x) (length h + at)
+  headers-piece [] e x at q = rw zero-add q
+  headers-piece (b ∷ s) e x at q =
+      let f = fit-of b s e in
+      piece-behind (b ∷ s) x at (headers-open f) (every-by headerCode notPicture header-no-picture (codes (b ∷ s)) (f .all-codes)) q
+
+-- the first headers declare the parameters
+rate-is : (p : VbvParams) (r : FrameRate) → sameRate p r ≡ true → r ≡ Rate (p .frn) (p .frd)
+unfolding sameRate
+rate-is p (Rate n d) e =
+    let b = both-true (eqb n (p .frn)) (eqb d (p .frd)) e in
+    rw (eqb-true n (p .frn) (b .0), eqb-true d (p .frd) (b .1))
+rate-is p (NoRate x) e = cc
+
+parsed-is : (a : Answer) → parsed a ≡ true → a ≡ SequenceParsed
+unfolding parsed
+parsed-is SequenceParsed e = refl
+parsed-is (SequenceRefused x) e = cc
+
+record SameParams (p : VbvParams) (q : Mpeg2Sequence) : Type 0 where
+  rate : 400 * q .«bit_rate» ≡ p .«bit_rate»
+  buffer : 16384 * q .«vbv_buffer_size» ≡ p .«buffer_size_bits»
+  frames : frameRate (q .header .«frame_rate_code») ≡ Rate (p .frn) (p .frd)
+
+params-are : (p : VbvParams) (q : Mpeg2Sequence) → sameParams p q ≡ true → SameParams p q
+unfolding sameParams
+params-are p q e =
+    let a = both-true (eqb (400 * q .«bit_rate») (p .«bit_rate»)) _ e in
+    let b = both-true (eqb (16384 * q .«vbv_buffer_size») (p .«buffer_size_bits»)) _ (a .1) in
+    let c = both-true (sameRate p (frameRate (q .header .«frame_rate_code»))) _ (b .1) in
+    record { rate = eqb-true _ _ (a .0); buffer = eqb-true _ _ (b .0); frames = rate-is p _ (c .0) }
+
+sequence-first : (c : Code) (cs : List Code) → sequenceFirst (c ∷ cs) ≡ true → c .code ≡ 0xB3
+unfolding sequenceFirst
+sequence-first c cs e =
+    let a = both-true (eqb (c .offset) 0) _ e in
+    let b = both-true (eqb (c .code) 0xB3) _ (a .1) in
+    eqb-true (c .code) 0xB3 (b .0)
+
+pub headers-declared : (p : VbvParams) (h : List ℕ) → headersFit p false h ≡ true → (x : List ℕ) → declared Mpeg2 (h ++ x) ≡ Params p
+unfolding sequenceFits sequenceFirst
+headers-declared p [] e x =
+    let c = conditions p false [] e .3 in
+    let d : sequenceFirst [] ≡ true = rw codes-none at (both-true (sequenceFirst (codes [])) _ c .0) in
+    absurd (let z : _≡_ {A = ℕ} 0 1 = cc in omega arith)
+headers-declared p (b ∷ s) e x =
+    let f = fit-of p false b s e in
+    let c = conditions p false (b ∷ s) e .3 in
+    let d1 = both-true (sequenceFirst (codes (b ∷ s))) _ c in
+    let d2 = both-true (parsed (sequence (b ∷ s) .answer)) _ (d1 .1) in
+    let o = ap codes (f .opens) ∙ codes-opened (f .first) (f .rest) in
+    let y : f .first ≡ 0xB3 = sequence-first (record { offset = 0; code = f .first }) (codesFrom 4 0 (f .rest)) (rw o at (d1 .0)) in
+    let a : sequence (b ∷ s) .answer ≡ SequenceParsed = parsed-is (sequence (b ∷ s) .answer) (d2 .0) in
+    let m = params-are p (sequence (b ∷ s) .sequence) (d2 .1) in
+    let q : sequence (b ∷ s ++ x) ≡ sequence (b ∷ s) = sequence-append (b ∷ s) x a in
+    let z : codes (b ∷ s ++ x) ≡ record { offset = 0; code = 0xB3 } ∷ codesFrom 4 0 (f .rest ++ x) =
+    ap (λ (l : List ℕ). codes (l ++ x)) (f .opens) ∙ codes-opened (f .first) (f .rest ++ x) ∙ rw y in
+    declared-parsed (b ∷ s ++ x) _ z (rw q a) (p .frn) (p .frd) (rw q (m .frames))
+    ∙ rw (q, m .rate, m .buffer)

@@ -1,0 +1,161 @@
+-- What a layer that fits is, one fact for each condition that the laws use.
+-- Assumes nothing.
+use mathlib.Core.Path.{_≡_, refl, sym, _∙_}
+use Prim.Native.Nat.{ℕ, zero, suc, _≤_}
+use mathlib.Core.List.{List, [], _∷_}
+use mathlib.Core.Bool.{true, false, not, _&&_}
+use mathlib.Core.Logic.{_⊎_, ⊎-elim, inl, inr}
+use native.Mathlib.Omega.{arith}
+use lib.Dec.{eqb}
+use lib.ListN.{length, take, drop}
+use lib.Seq.{getD-drop}
+use borrow.Author.Tests.{not-true, leb-true, eqb-true}
+use Rattle.bits.specs.Bits.{bitsAt}
+use Rattle.bits.proofs.Laws.{bits-bound, bits-split}
+use Rattle.bits.proofs.Reading.{both-true}
+use Rattle.bits.proofs.Appending.{Below}
+use Rattle.bits.proofs.Patching.{byte-bits}
+use Rattle.headers.specs.StartCode.{zeros}
+use Rattle.headers.specs.PictureHeader.{pictureHeader, pictureHeaderBytes}
+use Rattle.headers.specs.Picture.{picture}
+use Rattle.headers.specs.declared.picture_header.PictureCodingType.{PictureCodingType}
+use Rattle.headers.specs.declared.picture_header.PictureCodingType.the-variants.{Intra, Predictive, Bidirectional, DcIntra}
+use Rattle.headers.specs.declared.picture_header.OptionCode.{OptionCode}
+use Rattle.headers.specs.declared.picture_header.OptionCode.the-variants.{Some as SomeCode, None as NoCode}
+use Rattle.headers.specs.declared.picture_header.Mpeg2PictureHeader.{Mpeg2PictureHeader}
+use Rattle.headers.specs.declared.picture_header.PictureHeaderRead.the-variants.{Parsed as HeaderParsed}
+use Rattle.headers.specs.declared.picture_header.PictureCodingExtension.{PictureCodingExtension}
+use Rattle.headers.specs.declared.picture_header.PictureRead.{PictureRead}
+use Rattle.headers.specs.declared.picture_header.PictureRead.the-variants.{Parsed, Refused}
+use Rattle.headers.proofs.StartCode.{zeros-zero}
+use Rattle.headers.proofs.PictureHeader.{PictureHeaderParsed, picture-header-parsed, header-least}
+use Rattle.headers.proofs.Picture.{picture-parsed, extension-placed}
+use Rattle.headers.proofs.StartCode.{next-found}
+use Rattle.headers.proofs.OtherDelay.{header-bytes, forward-code, extra-flag}
+use Rattle.vbv.specs.declared.RemovalInterval.{RemovalInterval}
+use Rattle.vbv.specs.declared.RemovalInterval.the-variants.{Frame, Field}
+use Rattle.verify.specs.Coded.{intervalOf}
+use Rattle.scan.specs.Codes.{codes, endsPrefix}
+use Rattle.scan.proofs.PictureCodes.{PictureHead}
+use Rattle.layers.specs.declared.PictureKind.{PictureKind}
+use Rattle.layers.specs.Layer.{sameKind, sameInterval, flagClear, codeSeven, padding, headerFits, layerCodes, layerFits}
+
+pub record LayerFits (k : PictureKind) (i : RemovalInterval) (s : List ℕ) : Type 0 where
+  pub header : Mpeg2PictureHeader
+  pub extension : PictureCodingExtension
+  pub parsed : picture s ≡ Parsed header extension
+  pub interval : intervalOf (extension .«picture_structure») ≡ i
+  pub seven : codeSeven (header .«fwd_f_code») ≡ true
+  pub zeros-behind : 2 ≤ zeros (drop (pictureHeaderBytes header) s)
+  pub codes-fit : layerCodes (codes s) ≡ true
+  pub closed : endsPrefix s ≡ false
+
+interval-is : (i j : RemovalInterval) → sameInterval i j ≡ true → j ≡ i
+unfolding sameInterval
+interval-is Frame Frame e = refl
+interval-is Frame Field e = cc
+interval-is Field Frame e = cc
+interval-is Field Field e = refl
+
+pub layer-fits : (k : PictureKind) (i : RemovalInterval) (s : List ℕ) → layerFits k i s ≡ true → LayerFits k i s
+unfolding layerFits headerFits
+layer-fits k i s f = case (picture s) refl (a .0)
+  where
+    a : (headerFits k i s (picture s) ≡ true) × ((layerCodes (codes s) && not (endsPrefix s)) ≡ true)
+    a = both-true (headerFits k i s (picture s)) (layerCodes (codes s) && not (endsPrefix s)) f
+
+    b : (layerCodes (codes s) ≡ true) × (not (endsPrefix s) ≡ true)
+    b = both-true (layerCodes (codes s)) (not (endsPrefix s)) (a .1)
+
+    case : (r : PictureRead) → picture s ≡ r → headerFits k i s r ≡ true → LayerFits k i s
+    case (Refused e) p q = absurd (let z : _≡_ {A = ℕ} 0 1 = cc in omega arith)
+    case (Parsed h x) p q =
+        let c1 = both-true (sameKind k (h .«picture_coding_type»)) _ q in
+        let c2 = both-true (sameInterval i (intervalOf (x .«picture_structure»))) _ (c1 .1) in
+        let c3 = both-true (not (x .«repeat_first_field»)) _ (c2 .1) in
+        let c4 = both-true (flagClear (h .«full_pel_forward_vector»)) _ (c3 .1) in
+        let c5 = both-true (codeSeven (h .«fwd_f_code»)) _ (c4 .1) in
+        let c6 = both-true (flagClear (h .«full_pel_backward_vector»)) _ (c5 .1) in
+        let c7 = both-true (codeSeven (h .«bwd_f_code»)) _ (c6 .1) in
+        let c8 = both-true (eqb (padding s h) 0) _ (c7 .1) in
+        record {
+          header = h;
+          extension = x;
+          parsed = p;
+          interval = interval-is i (intervalOf (x .«picture_structure»)) (c2 .0);
+          seven = c5 .0;
+          zeros-behind = leb-true _ _ (c8 .1);
+          codes-fit = b .0;
+          closed = not-true (endsPrefix s) (b .1);
+        }
+
+-- ---- the bits behind the delay
+
+-- the low three bits of byte 7 are not all zero, or two zero bytes follow
+abbrev pub LowBits : List ℕ → Type 0
+LowBits s = (1 ≤ bitsAt s 61 3) ⊎ (2 ≤ zeros (drop 8 s))
+
+seven-is : (c : OptionCode) (v : ℕ) → c ≡ SomeCode v → codeSeven c ≡ true → v ≡ 7
+unfolding codeSeven
+seven-is NoCode v e q = cc
+seven-is (SomeCode w) v e q = let z : w ≡ v = cc in rw (← z) (eqb-true w 7 q)
+
+low-bits : (s : List ℕ) (h : Mpeg2PictureHeader) → pictureHeader s ≡ HeaderParsed h → (h .«picture_coding_type» ≡ DcIntra → ⊥)
+    → codeSeven (h .«fwd_f_code») ≡ true → 2 ≤ zeros (drop (pictureHeaderBytes h) s) → LowBits s
+low-bits s h e n q z = type (h .«picture_coding_type») refl
+  where
+    p : PictureHeaderParsed s h
+    p = picture-header-parsed s h e
+
+    vector : (h .«picture_coding_type» ≡ Predictive) ⊎ (h .«picture_coding_type» ≡ Bidirectional) → LowBits s
+    vector k =
+        let v : bitsAt s 62 3 ≡ 7 = seven-is (h .«fwd_f_code») (bitsAt s 62 3) (forward-code s h e k) q in
+        inl (omega (arith, bits-split s 61 1 3, bits-split s 61 3 1, bits-bound s 64 1))
+
+    extra : (m : ℕ) → h .«extra_information_bytes» ≡ m → h .«extra_information_bit» ≡ 61 → LowBits s
+    extra zero a b =
+        let c : pictureHeaderBytes h ≡ 8 = omega (arith, header-bytes h) in
+        inr (rw c at (z))
+    extra (suc m) a b =
+        let c : 1 ≤ bitsAt s 61 1 = rw b at (extra-flag s h e (omega arith)) in
+        inl (omega (arith, bits-split s 61 1 2))
+
+    type : (t : PictureCodingType) → h .«picture_coding_type» ≡ t → LowBits s
+    type Intra t = extra (h .«extra_information_bytes») refl (rw t at (p .first-flag))
+    type Predictive t = vector (inl t)
+    type Bidirectional t = vector (inr t)
+    type DcIntra t = absurd (n t)
+
+-- ---- the first bytes
+
+-- the bytes of a list of bytes by their bits
+pub picture-head : (t : List ℕ) → Below 256 t → 10 ≤ length t → take 4 t ≡ 0x00 ∷ 0x00 ∷ 0x01 ∷ 0x00 ∷ [] → 1 ≤ bitsAt t 42 3 → LowBits t
+    → PictureHead t
+picture-head t b l c k w = record {
+  long = l;
+  code = c;
+  fifth = λ z. omega (arith, byte-bits t 5 (b 5), bits-split t 40 2 6, bits-split t 42 3 3);
+  clear =
+      ⊎-elim
+      (λ (v : 1 ≤ bitsAt t 61 3). inl (λ z. omega (arith, byte-bits t 7 (b 7), bits-split t 56 5 3)))
+      (λ (v : 2 ≤ zeros (drop 8 t)). inr (
+        sym (getD-drop 8 t 0 0) ∙ zeros-zero (drop 8 t) 0 (omega arith),
+        sym (getD-drop 8 t 1 0) ∙ zeros-zero (drop 8 t) 1 (omega arith),
+      ))
+      w;
+}
+
+module _ {k : PictureKind} {i : RemovalInterval} {s : List ℕ} (f : LayerFits k i s) where
+  pub layer-header : PictureHeaderParsed s (f .header)
+  layer-header = picture-header-parsed s (f .header) (picture-parsed s (f .header) (f .extension) (f .parsed) .header)
+
+  -- the extension's code lies behind the header's eight bytes
+  pub layer-twelve : 12 ≤ length s
+  layer-twelve =
+      let r = picture-parsed s (f .header) (f .extension) (f .parsed) in
+      omega (arith, extension-placed r .room, next-found s _ _ (r .next) .ends, header-least layer-header, f .zeros-behind)
+
+  pub layer-low : LowBits s
+  layer-low =
+      let r = picture-parsed s (f .header) (f .extension) (f .parsed) in
+      low-bits s (f .header) (r .header) (r .not-dc) (f .seven) (f .zeros-behind)

@@ -1,0 +1,4 @@
+pub mod Layers
+pub mod Laws
+pub mod Stream
+pub mod Ways

@@ -1,0 +1,177 @@
+-- What the code's tests say: bytes at an index, the codes that a search finds, and the bits and bytes behind a picture header.
+-- Assumes nothing.
+use mathlib.Core.Path.{_≡_, refl, sym, _∙_}
+use Prim.Native.Nat.{ℕ, suc, _+_, _-_, _*_, _/_, _%_, _≤_, _<_}
+use mathlib.Core.List.{List, [], _∷_}
+use mathlib.Core.Bool.{Bool, true, false, not, _&&_, and-true, and-assoc}
+use native.Mathlib.Omega.{arith}
+use lib.Dec.{eqb, leb}
+use lib.ListN.{length, getD, take, drop, length-drop}
+use lib.Seq.{drop-cons}
+use borrow.Author.Tests.{le-leb, lt-leb, leb-true, leb-false}
+use Rattle.bits.specs.Bits.{there}
+use Rattle.bits.specs.Fields.{sameBytes}
+use Rattle.bits.specs.Answers.{readBits}
+use Rattle.bits.specs.declared.Bits.{Bits}
+use Rattle.bits.specs.declared.Bits.the-variants.{Value, Short}
+use Rattle.bits.proofs.Laws.{bits-drop}
+use Rattle.bits.proofs.Reading.{same-bytes, same-more, same-none, there-is, there-drop, found as read-found, missed}
+use Rattle.headers.specs.StartCode.{zeros}
+use Rattle.headers.specs.Picture.{picture}
+use Rattle.headers.specs.PictureHeader.{pictureHeader, pictureHeaderBits, pictureHeaderBytes}
+use Rattle.headers.specs.declared.picture_header.Mpeg2PictureHeader.{Mpeg2PictureHeader}
+use Rattle.headers.specs.declared.picture_header.PictureCodingExtension.{PictureCodingExtension}
+use Rattle.headers.specs.declared.picture_header.PictureRead.the-variants.{Parsed}
+use Rattle.headers.specs.declared.picture_header.PictureHeaderRead.the-variants.{Parsed as HeaderParsed}
+use Rattle.headers.proofs.StartCode.{zeros-past, zeros-none, zeros-more, rest-is}
+use Rattle.headers.proofs.PictureHeader.{picture-header-parsed}
+use Rattle.headers.proofs.OtherDelay.{header-bytes}
+use Rattle.headers.proofs.Extent.{header-bits}
+use Rattle.vbv.specs.declared.RemovalInterval.{RemovalInterval}
+use Rattle.verify.specs.Coded.{intervalOf}
+use Rattle.scan.specs.declared.Found.the-variants.{At, Nothing}
+use Rattle.scan.specs.Codes.{codes, codesAt, nextCode}
+use Rattle.scan.specs.Pictures.{isSlice, notSequence, skip}
+use Rattle.scan.specs.Walk.{found}
+use Rattle.scan.specs.Laid.{every}
+use Rattle.scan.proofs.Walk.{seen, unseen, sought, unsought}
+use Rattle.scan.proofs.Search.{codes-from-zero, every-more}
+use Rattle.layers.specs.Headers.{opensHeaders, sequenceFirst}
+use Rattle.layers.specs.declared.PictureKind.{PictureKind}
+use Rattle.layers.specs.Layer.{sameKind, sameInterval, flagClear, codeSeven, headerFits, padding, slices, isExtension, layerCodes}
+
+-- ---- 00 00 01
+
+pub prefix-test : (s : List ℕ) (p : ℕ) → p + 3 ≤ length s
+    → (eqb (getD s p 0) 0 && (eqb (getD s (p + 1) 0) 0 && eqb (getD s (p + 2) 0) 1)) ≡ sameBytes (take 3 (drop p s)) (0x00 ∷ 0x00 ∷ 0x01 ∷ [])
+prefix-test s p h =
+    let a : p + 1 ≡ suc p = omega arith in
+    let b : p + 2 ≡ suc (suc p) = omega arith in
+    rw (a, b, drop-cons s p 0 (omega arith), drop-cons s (suc p) 0 (omega arith), drop-cons s (suc (suc p)) 0 (omega arith), same-more, same-more, same-more, same-none, and-true)
+
+three-long : (l : List ℕ) → take 3 l ≡ 0x00 ∷ 0x00 ∷ 0x01 ∷ [] → 3 ≤ length l
+three-long [] q = let z : _≡_ {A = ℕ} 0 1 = cc in omega arith
+three-long (a ∷ []) q = let z : _≡_ {A = ℕ} 0 1 = cc in omega arith
+three-long (a ∷ b ∷ []) q = let z : _≡_ {A = ℕ} 0 1 = cc in omega arith
+three-long (a ∷ b ∷ c ∷ l) q = omega arith
+
+pub prefix-few : (s : List ℕ) (p : ℕ) → length s < p + 3 → false ≡ sameBytes (take 3 (drop p s)) (0x00 ∷ 0x00 ∷ 0x01 ∷ [])
+prefix-few s p h = case (sameBytes (take 3 (drop p s)) (0x00 ∷ 0x00 ∷ 0x01 ∷ [])) refl
+  where
+    case : (b : Bool) → sameBytes (take 3 (drop p s)) (0x00 ∷ 0x00 ∷ 0x01 ∷ []) ≡ b → false ≡ b
+    case true e = absurd (omega (arith, three-long (drop p s) (same-bytes _ _ e), length-drop p s))
+    case false e = refl
+
+pub opens-empty : (s : List ℕ) → length s ≡ 0 → true ≡ opensHeaders s
+unfolding opensHeaders
+opens-empty [] h = refl
+opens-empty (b ∷ s) h = absurd (omega arith)
+
+pub opens-by : (s : List ℕ) → (length s ≡ 0 → ⊥) → sameBytes (take 3 (drop 0 s)) (0x00 ∷ 0x00 ∷ 0x01 ∷ []) ≡ opensHeaders s
+unfolding opensHeaders
+opens-by [] h = absurd (h refl)
+opens-by (b ∷ s) h = refl
+
+-- ---- codes
+
+pub first-none : (s : List ℕ) → nextCode s 0 ≡ Nothing → false ≡ sequenceFirst (codes s)
+unfolding sequenceFirst
+first-none s e = rw (codes-from-zero s, unseen s 0 e)
+
+pub first-some : (s : List ℕ) (o c : ℕ) → nextCode s 0 ≡ At o c
+    → (eqb o 0 && (eqb c 0xB3 && every notSequence (codesAt s (o + 4)))) ≡ sequenceFirst (codes s)
+unfolding sequenceFirst
+first-some s o c e = rw (codes-from-zero s, seen s 0 o c e .list)
+
+pub layer-none : (s : List ℕ) → nextCode s 0 ≡ Nothing → false ≡ layerCodes (codes s)
+unfolding layerCodes
+layer-none s e = rw (codes-from-zero s, unseen s 0 e)
+
+pub layer-some : (s : List ℕ) (o c : ℕ) → nextCode s 0 ≡ At o c
+    → (eqb o 0 && (eqb c 0 && slices (skip isExtension (codesAt s (o + 4))))) ≡ layerCodes (codes s)
+unfolding layerCodes
+layer-some s o c e = rw (codes-from-zero s, seen s 0 o c e .list)
+
+pub slices-none : (s : List ℕ) (i : ℕ) → found (skip isExtension (codesAt s i)) ≡ Nothing → false ≡ slices (skip isExtension (codesAt s i))
+unfolding slices
+slices-none s i e = rw (unsought (skip isExtension (codesAt s i)) e)
+
+-- the code at which the search stopped is scanned again
+pub slices-some : (s : List ℕ) (i o c : ℕ) → found (skip isExtension (codesAt s i)) ≡ At o c
+    → every isSlice (codesAt s o) ≡ slices (skip isExtension (codesAt s i))
+unfolding slices
+slices-some s i o c e =
+    let h = sought isExtension s i o c e in
+    rw (h .list, h .again, every-more isSlice (record { offset = o; code = c }) (codesAt s (o + 4)))
+
+-- ---- zero bytes
+
+pub zeros-few : (s : List ℕ) (k : ℕ) → length s < k + 2 → false ≡ leb 2 (zeros (drop k s))
+zeros-few s k h = sym (lt-leb 2 (zeros (drop k s)) (case (eqb (getD s k 0) 0) refl (leb (length s) k) refl))
+  where
+    case : (b : Bool) → eqb (getD s k 0) 0 ≡ b → (t : Bool) → leb (length s) k ≡ t → zeros (drop k s) < 2
+    case b e true t = omega (arith, zeros-past s k (leb-true _ _ t))
+    case true e false t = omega (arith, zeros-more s k (leb-false _ _ t) e, zeros-past s (k + 1) (omega arith))
+    case false e false t = omega (arith, zeros-none s k (leb-false _ _ t) e)
+
+pub zeros-test : (s : List ℕ) (k : ℕ) → k + 2 ≤ length s → (eqb (getD s k 0) 0 && eqb (getD s (k + 1) 0) 0) ≡ leb 2 (zeros (drop k s))
+zeros-test s k h = case (eqb (getD s k 0) 0) refl (eqb (getD s (k + 1) 0) 0) refl
+  where
+    case : (a : Bool) → eqb (getD s k 0) 0 ≡ a → (b : Bool) → eqb (getD s (k + 1) 0) 0 ≡ b → (a && b) ≡ leb 2 (zeros (drop k s))
+    case false e b f = sym (lt-leb 2 (zeros (drop k s)) (omega (arith, zeros-none s k (omega arith) e)))
+    case true e false f = sym (lt-leb 2 (zeros (drop k s)) (omega (arith, zeros-more s k (omega arith) e, zeros-none s (k + 1) (omega arith) f)))
+    case true e true f = sym (le-leb 2 (zeros (drop k s)) (omega (arith, zeros-more s k (omega arith) e, zeros-more s (k + 1) (omega arith) f)))
+
+-- ---- behind a picture header
+
+module _ (s : List ℕ) (h : Mpeg2PictureHeader) (e : pictureHeader s ≡ HeaderParsed h) where
+  abbrev n : ℕ
+  n = h .«extra_information_bytes»
+
+  -- where the header's last bit is, from byte n on
+  abbrev last : ℕ
+  last = h .«extra_information_bit» + n
+
+  -- bytes of extra information lie in the layer, with bytes of the header behind them
+  pub extra-room : h .«extra_information_bit» + 9 * n < 8 * length s
+  extra-room = picture-header-parsed s h e .last-flag
+
+  pub bytes-by : pictureHeaderBytes h ≡ n + (last + 8) / 8
+  bytes-by = omega (arith, header-bytes h, header-bits h)
+
+  bits-by : 8 * n + (last + 1) ≡ pictureHeaderBits h
+  bits-by = omega (arith, header-bits h)
+
+  width-by : 7 - last % 8 ≡ 8 * pictureHeaderBytes h - pictureHeaderBits h
+  width-by = omega (arith, header-bytes h, header-bits h)
+
+  -- the padding as it is read, of the slice from byte n on
+  abbrev read : Bits
+  read = readBits (take (length s - n) (drop n s)) (last + 1) (7 - last % 8)
+
+  pub padding-read : (v : ℕ) → Value v ≡ read → eqb v 0 ≡ eqb (padding s h) 0
+  unfolding padding
+  padding-read v q = rw (read-found (drop n s) (last + 1) (7 - last % 8) v (rw rest-is at (q)) .1, bits-drop n s (last + 1) (7 - last % 8), bits-by, width-by)
+
+  padding-there : there (drop n s) (last + 1) (7 - last % 8) ≡ true
+  padding-there =
+      rw (there-drop n s (last + 1) (7 - last % 8) (omega (arith, extra-room)))
+      (there-is s (8 * n + (last + 1)) (7 - last % 8) (omega arith) (omega (arith, extra-room)))
+
+  -- it lies in the header's last byte
+  pub padding-missed : Short ≡ read → false ≡ eqb (padding s h) 0
+  padding-missed q =
+      let m : there (drop n s) (last + 1) (7 - last % 8) ≡ false = missed (drop n s) (last + 1) (7 - last % 8) (rw rest-is at (q)) in
+      let z : true ≡ false = sym padding-there ∙ m in
+      cc
+
+-- both headers' tests, the vectors' four in one
+pub tests-are : (k : PictureKind) (i : RemovalInterval) (s : List ℕ) (h : Mpeg2PictureHeader) (x : PictureCodingExtension) → picture s ≡ Parsed h x
+    → (sameKind k (h .«picture_coding_type»)
+    && (sameInterval i (intervalOf (x .«picture_structure»))
+    && (not (x .«repeat_first_field»)
+    && ((flagClear (h .«full_pel_forward_vector») && (codeSeven (h .«fwd_f_code») && (flagClear (h .«full_pel_backward_vector») && codeSeven (h .«bwd_f_code»))))
+    && (eqb (padding s h) 0 && leb 2 (zeros (drop (pictureHeaderBytes h) s)))))))
+    ≡ headerFits k i s (picture s)
+unfolding headerFits
+tests-are k i s h x e = rw e (simp and-assoc)

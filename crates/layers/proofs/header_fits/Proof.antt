@@ -1,0 +1,59 @@
+use Rattle.layers.proofs.Ways.{tests-are}
+use Rattle.headers.proofs.Picture.{picture-parsed}
+use Rattle.layers.specs.Layer.{headerFits}
+use mathlib.Core.Path.{sym, _∙_}
+use borrow.Author.Needs.{needs}
+use Rattle.layers.proofs.header_fits.Statement.{statement}
+use Rattle.layers.proofs.header_fits.Tie as tie
+
+parse-with-extension-requires : tie.Need-parse-with-extension-requires
+parse-with-extension-requires c κs = search needs
+
+enum-told : tie.Need-enum-told
+enum-told c = search needs
+
+enum-known-header : tie.Need-enum-known-header
+enum-known-header c = search needs
+
+same-kind-requires : tie.Need-same-kind-requires
+same-kind-requires c κs = search needs
+
+interval-requires : tie.Need-interval-requires
+interval-requires c κs = search needs
+
+same-interval-requires : tie.Need-same-interval-requires
+same-interval-requires c κs = search needs
+
+vectors-fit-requires : tie.Need-vectors-fit-requires
+vectors-fit-requires c κs = search needs
+
+padding-clear-requires : tie.Need-padding-clear-requires
+padding-clear-requires c κs = picture-parsed _ _ _ (sym (c .before .before .before .before .before .before .before .before .parse-with-extension .ensures) ∙ c .before .before .before .before .before .before .header .given .1) .header
+
+zeros-behind-requires : tie.Need-zeros-behind-requires
+zeros-behind-requires c κs = picture-parsed _ _ _ (sym (c .before .before .before .before .before .before .before .before .before .parse-with-extension .ensures) ∙ c .before .before .before .before .before .before .before .header .given .1) .header
+
+returns : tie.Need-returns
+unfolding headerFits
+returns c = rw (← c .before .before .parse-with-extension .ensures, c .enum-told .given .1)
+
+returns-2 : tie.Need-returns-2
+returns-2 c =
+    rw (c .before .before .before .before .before .before .same-kind .ensures, c .before .before .before .before .same-interval .ensures, c .before .before .before .before .before .interval .ensures, c .before .before .vectors-fit .ensures, c .before .padding-clear .ensures, c .zeros-behind .ensures)
+    (tests-are _ _ _ _ _ (sym (c .before .before .before .before .before .before .before .before .before .before .parse-with-extension .ensures) ∙ c .before .before .before .before .before .before .before .before .header .given .1))
+
+pub header-fits-spec : {M : Type 1} → statement M
+header-fits-spec =
+    tie.close
+    (tie.spec
+    parse-with-extension-requires
+    enum-told
+    enum-known-header
+    same-kind-requires
+    interval-requires
+    same-interval-requires
+    vectors-fit-requires
+    padding-clear-requires
+    zeros-behind-requires
+    returns
+    returns-2)

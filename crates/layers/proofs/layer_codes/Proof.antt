@@ -1,0 +1,40 @@
+use Rattle.layers.proofs.Ways.{layer-none, layer-some}
+use Rattle.scan.proofs.Walk.{seen}
+use native.Mathlib.Omega.{arith}
+use mathlib.Core.Path.{sym, _∙_}
+use borrow.Author.Needs.{needs}
+use Rattle.layers.proofs.layer_codes.Statement.{statement}
+use Rattle.layers.proofs.layer_codes.Tie as tie
+
+next-code-requires : tie.Need-next-code-requires
+next-code-requires c κs = search needs
+
+enum-known-offset : tie.Need-enum-known-offset
+enum-known-offset c = search needs
+
+add-slices-behind : tie.Need-add-slices-behind
+add-slices-behind c = omega (arith, seen _ _ _ _ (sym (c .before .before .before .next-code .ensures) ∙ c .before .offset .given .1) .room)
+
+slices-behind-requires : tie.Need-slices-behind-requires
+slices-behind-requires c κs = search needs
+
+enum-told : tie.Need-enum-told
+enum-told c = search needs
+
+returns : tie.Need-returns
+returns c = rw (c .slices-behind .ensures) (layer-some _ _ _ (sym (c .before .before .before .before .next-code .ensures) ∙ c .before .before .offset .given .1))
+
+returns-2 : tie.Need-returns-2
+returns-2 c = layer-none _ (sym (c .before .before .next-code .ensures) ∙ c .enum-told .given .1)
+
+pub layer-codes-spec : {M : Type 1} → statement M
+layer-codes-spec =
+    tie.close
+    (tie.spec
+    next-code-requires
+    enum-known-offset
+    add-slices-behind
+    slices-behind-requires
+    enum-told
+    returns
+    returns-2)

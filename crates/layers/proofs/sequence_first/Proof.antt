@@ -1,0 +1,42 @@
+use Rattle.layers.proofs.Ways.{first-none, first-some}
+use Rattle.scan.proofs.Walk.{seen}
+use Rattle.layers.specs.Steps.{within}
+use native.Mathlib.Omega.{arith}
+use mathlib.Core.Path.{sym, _∙_}
+use borrow.Author.Needs.{needs}
+use Rattle.layers.proofs.sequence_first.Statement.{statement}
+use Rattle.layers.proofs.sequence_first.Tie as tie
+
+next-code-requires : tie.Need-next-code-requires
+next-code-requires c κs = search needs
+
+enum-known-offset : tie.Need-enum-known-offset
+enum-known-offset c = search needs
+
+add-all-within : tie.Need-add-all-within
+add-all-within c = omega (arith, seen _ _ _ _ (sym (c .before .before .before .next-code .ensures) ∙ c .before .offset .given .1) .room)
+
+all-within-requires : tie.Need-all-within-requires
+all-within-requires c κs = search needs
+
+enum-told : tie.Need-enum-told
+enum-told c = search needs
+
+returns : tie.Need-returns
+unfolding within
+returns c = rw (c .all-within .ensures) (first-some _ _ _ (sym (c .before .before .before .before .next-code .ensures) ∙ c .before .before .offset .given .1))
+
+returns-2 : tie.Need-returns-2
+returns-2 c = first-none _ (sym (c .before .before .next-code .ensures) ∙ c .enum-told .given .1)
+
+pub sequence-first-spec : {M : Type 1} → statement M
+sequence-first-spec =
+    tie.close
+    (tie.spec
+    next-code-requires
+    enum-known-offset
+    add-all-within
+    all-within-requires
+    enum-told
+    returns
+    returns-2)

@@ -1,0 +1,59 @@
+-- Headers that fit before a picture (paper 01, 'A placed picture').
+-- Assumes nothing.
+use Prim.Native.Nat.{ℕ, _*_}
+use mathlib.Core.List.{List, [], _∷_}
+use mathlib.Core.Bool.{Bool, true, false, not, _&&_, _||_}
+use lib.Dec.{eqb}
+use lib.ListN.{take}
+use Rattle.bits.specs.Fields.{sameBytes}
+use Rattle.headers.specs.Sequence.{sequence}
+use Rattle.headers.specs.declared.sequence_header.Answer.{Answer}
+use Rattle.headers.specs.declared.sequence_header.Answer.the-variants.{Parsed, Refused as HeaderRefused}
+use Rattle.headers.specs.declared.sequence_extension.Mpeg2Sequence.{Mpeg2Sequence}
+use Rattle.vbv.specs.Answers.{frameRate}
+use Rattle.vbv.specs.declared.FrameRate.{FrameRate}
+use Rattle.vbv.specs.declared.FrameRate.the-variants.{Rate, Refused as NoRate}
+use Rattle.vbv.specs.declared.VbvParams.{VbvParams}
+use Rattle.scan.specs.Codes.{Code, codes, endsPrefix}
+use Rattle.scan.specs.Pictures.{notSequence}
+use Rattle.scan.specs.Laid.{every}
+
+-- empty or starting 00 00 01
+unfoldable pub opensHeaders : List ℕ → Bool
+opensHeaders [] = true
+opensHeaders (b ∷ s) = sameBytes (take 3 (b ∷ s)) (0x00 ∷ 0x00 ∷ 0x01 ∷ [])
+
+-- user_data, sequence_header, extension, group_of_pictures (Table 6-1)
+unfoldable pub headerCode : ℕ → Bool
+headerCode c = eqb c 0xB2 || (eqb c 0xB3 || (eqb c 0xB5 || eqb c 0xB8))
+
+-- this frame rate
+unfoldable pub sameRate : VbvParams → FrameRate → Bool
+sameRate p (Rate n d) = eqb n (p .frn) && eqb d (p .frd)
+sameRate p (NoRate e) = false
+
+-- this R, B and rate, frame rate extensions 0
+unfoldable pub sameParams : VbvParams → Mpeg2Sequence → Bool
+sameParams p q =
+    eqb (400 * q .«bit_rate») (p .«bit_rate»)
+    && (eqb (16384 * q .«vbv_buffer_size») (p .«buffer_size_bits»)
+    && (sameRate p (frameRate (q .header .«frame_rate_code»))
+    && (eqb (q .extension .«frame_rate_extension_n») 0
+    && eqb (q .extension .«frame_rate_extension_d») 0)))
+
+unfoldable pub parsed : Answer → Bool
+parsed Parsed = true
+parsed (HeaderRefused e) = false
+
+-- B3 exactly once, at byte 0
+unfoldable pub sequenceFirst : List Code → Bool
+sequenceFirst [] = false
+sequenceFirst (c ∷ cs) = eqb (c .offset) 0 && (eqb (c .code) 0xB3 && every notSequence cs)
+
+-- before the first picture that is placed, and before any other
+unfoldable pub sequenceFits : VbvParams → Bool → List ℕ → Bool
+sequenceFits p false h = sequenceFirst (codes h) && (parsed (sequence h .answer) && sameParams p (sequence h .sequence))
+sequenceFits p true h = every notSequence (codes h)
+
+unfoldable pub headersFit : VbvParams → Bool → List ℕ → Bool
+headersFit p placed h = opensHeaders h && (every headerCode (codes h) && (not (endsPrefix h) && sequenceFits p placed h))

@@ -1,0 +1,94 @@
+-- A picture layer that fits: picture header, extensions and slices of one coded picture (paper 01, 'A placed picture').
+-- Assumes nothing.
+use Prim.Native.Nat.{ℕ, _-_, _*_}
+use mathlib.Core.List.{List, [], _∷_}
+use mathlib.Core.Bool.{Bool, true, false, not, _&&_, _||_}
+use lib.Dec.{eqb, leb}
+use lib.ListN.{drop}
+use Rattle.bits.specs.Bits.{bitsAt}
+use Rattle.headers.specs.StartCode.{zeros}
+use Rattle.headers.specs.PictureHeader.{pictureHeaderBits, pictureHeaderBytes}
+use Rattle.headers.specs.Picture.{picture}
+use Rattle.headers.specs.declared.picture_header.PictureCodingType.{PictureCodingType}
+use Rattle.headers.specs.declared.picture_header.PictureCodingType.the-variants.{Intra, Predictive, Bidirectional, DcIntra}
+use Rattle.headers.specs.declared.picture_header.OptionFlag.{OptionFlag}
+use Rattle.headers.specs.declared.picture_header.OptionFlag.the-variants.{Some as SomeFlag, None as NoFlag}
+use Rattle.headers.specs.declared.picture_header.OptionCode.{OptionCode}
+use Rattle.headers.specs.declared.picture_header.OptionCode.the-variants.{Some as SomeCode, None as NoCode}
+use Rattle.headers.specs.declared.picture_header.Mpeg2PictureHeader.{Mpeg2PictureHeader}
+use Rattle.headers.specs.declared.picture_header.PictureRead.{PictureRead}
+use Rattle.headers.specs.declared.picture_header.PictureRead.the-variants.{Parsed, Refused}
+use Rattle.vbv.specs.declared.RemovalInterval.{RemovalInterval}
+use Rattle.vbv.specs.declared.RemovalInterval.the-variants.{Frame, Field}
+use Rattle.verify.specs.Coded.{intervalOf}
+use Rattle.scan.specs.Codes.{Code, codes, endsPrefix}
+use Rattle.scan.specs.Pictures.{isSlice, skip}
+use Rattle.scan.specs.Laid.{every}
+use Rattle.layers.specs.declared.PictureKind.{PictureKind}
+use Rattle.layers.specs.declared.PictureKind.the-variants.{I, P, B}
+
+-- its type is the offered kind
+unfoldable pub sameKind : PictureKind → PictureCodingType → Bool
+sameKind I Intra = true
+sameKind I Predictive = false
+sameKind I Bidirectional = false
+sameKind I DcIntra = false
+sameKind P Intra = false
+sameKind P Predictive = true
+sameKind P Bidirectional = false
+sameKind P DcIntra = false
+sameKind B Intra = false
+sameKind B Predictive = false
+sameKind B Bidirectional = true
+sameKind B DcIntra = false
+
+-- the structure agrees with the interval
+unfoldable pub sameInterval : RemovalInterval → RemovalInterval → Bool
+sameInterval Frame Frame = true
+sameInterval Frame Field = false
+sameInterval Field Frame = false
+sameInterval Field Field = true
+
+-- a full-pel flag is 0 and its code 7, where the type has them (6.3.9)
+unfoldable pub flagClear : OptionFlag → Bool
+flagClear NoFlag = true
+flagClear (SomeFlag f) = not f
+
+unfoldable pub codeSeven : OptionCode → Bool
+codeSeven NoCode = true
+codeSeven (SomeCode c) = eqb c 7
+
+-- the bits that pad the picture header to a byte
+unfoldable pub padding : List ℕ → Mpeg2PictureHeader → ℕ
+padding s h = bitsAt s (pictureHeaderBits h) (8 * pictureHeaderBytes h - pictureHeaderBits h)
+
+-- what the two headers tell; two zero bytes behind the picture header: the extension's prefix lies there, with only zeros between
+unfoldable pub headerFits : PictureKind → RemovalInterval → List ℕ → PictureRead → Bool
+headerFits k i s (Refused e) = false
+headerFits k i s (Parsed h x) =
+    sameKind k (h .«picture_coding_type»)
+    && (sameInterval i (intervalOf (x .«picture_structure»))
+    && (not (x .«repeat_first_field»)
+    && (flagClear (h .«full_pel_forward_vector»)
+    && (codeSeven (h .«fwd_f_code»)
+    && (flagClear (h .«full_pel_backward_vector»)
+    && (codeSeven (h .«bwd_f_code»)
+    && (eqb (padding s h) 0
+    && leb 2 (zeros (drop (pictureHeaderBytes h) s)))))))))
+
+-- at least one slice and only slices
+unfoldable pub slices : List Code → Bool
+slices [] = false
+slices (c ∷ cs) = isSlice (c .code) && every isSlice cs
+
+-- extension and user_data (Table 6-1)
+unfoldable pub isExtension : ℕ → Bool
+isExtension c = eqb c 0xB5 || eqb c 0xB2
+
+-- 00 once at byte 0, then any of B5 and B2, then the slices
+unfoldable pub layerCodes : List Code → Bool
+layerCodes [] = false
+layerCodes (c ∷ cs) = eqb (c .offset) 0 && (eqb (c .code) 0 && slices (skip isExtension cs))
+
+unfoldable pub layerFits : PictureKind → RemovalInterval → List ℕ → Bool
+layerFits k i s = headerFits k i s (picture s) && (layerCodes (codes s) && not (endsPrefix s))

@@ -1,0 +1,3 @@
+pub mod Headers
+pub mod Layer
+pub mod Steps

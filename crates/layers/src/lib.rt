@@ -1,0 +1,356 @@
+// Headers and picture layers that an encoder offers: whether they fit (paper 01, 'A placed picture').
+ghost use mathlib.Core.Path.{_≡_};
+ghost use mathlib.Core.Bool.{_&&_};
+ghost use mathlib.Core.List.{[], _∷_};
+ghost use lib.Dec.{eqb, leb};
+ghost use lib.ListN.{take, drop};
+ghost use Rattle.bits.specs.Fields.{sameBytes};
+ghost use Rattle.headers.specs.StartCode.{zeros};
+ghost use Rattle.headers.specs.Sequence.{sequence as sequenceIn};
+ghost use Rattle.headers.specs.PictureHeader.{pictureHeader, pictureHeaderBytes};
+ghost use Rattle.headers.specs.Picture.{picture};
+ghost use Rattle.headers.specs.declared.picture_header.PictureHeaderRead.the-variants.{Parsed as HeaderParsed};
+ghost use Rattle.vbv.specs.Answers.{frameRate};
+ghost use Rattle.scan.specs.Codes.{codes, codesAt, endsPrefix};
+ghost use Rattle.scan.specs.Pictures.{skip};
+ghost use Rattle.scan.specs.Walk.{found};
+ghost use Rattle.scan.specs.Laid.{every};
+ghost use Rattle.layers.specs.Headers.{opensHeaders, sameRate, sameParams, parsed, sequenceFirst, sequenceFits, headersFit};
+ghost use Rattle.layers.specs.Layer.{sameKind, sameInterval, flagClear, codeSeven, padding, headerFits, slices, isExtension, layerCodes, layerFits};
+ghost use Rattle.layers.specs.Steps.{within};
+use bits::Bits;
+use headers::picture_header::Mpeg2PictureHeader;
+use headers::picture_header::OptionCode;
+use headers::picture_header::OptionFlag;
+use headers::picture_header::PictureCodingType;
+use headers::picture_header::PictureRead;
+use headers::sequence_extension::Mpeg2Sequence;
+use headers::sequence_header::Answer;
+use scan::Found;
+use vbv::FrameRate;
+use vbv::RemovalInterval;
+use vbv::VbvParams;
+
+// start_code_prefix (ISO/IEC 13818-2 6.2.1).
+const PREFIX: [u8; 3] = *b"\x00\x00\x01";
+
+// Which kind of picture is offered.
+pub enum PictureKind {
+    I,
+    P,
+    B,
+}
+
+// Start codes that may stand in a part.
+enum CodeSet {
+    // B2, B3, B5 and B8.
+    Headers,
+    // All but B3.
+    NoSequence,
+    // B5 and B2.
+    Extensions,
+    // 01 to AF.
+    Slices,
+}
+
+// Whether a code is in a set.
+fn is_within(set: CodeSet, code: u8) -> bool
+    ensures { λ r. ⌜ r ≡ within set code ⌝ }
+{
+    match set {
+        CodeSet::Headers => (code == 0xB2) | ((code == 0xB3) | ((code == 0xB5) | (code == 0xB8))),
+        CodeSet::NoSequence => code != 0xB3,
+        CodeSet::Extensions => (code == 0xB5) | (code == 0xB2),
+        CodeSet::Slices => (1 <= code) & (code <= 0xAF),
+    }
+}
+
+// The first code that is not in the set, of those that a scan from `from` finds.
+fn past(s: &[u8], from: usize, set: CodeSet) -> Found
+    ensures { λ r. ⌜ r ≡ found (skip (within set) (codesAt (now (s .entry)) from)) ⌝ }
+{
+    let mut i = from;
+    loop {
+        match scan::next_code(s, i) {
+            Found::At { offset, code } => {
+                if is_within(set, code) {
+                    i = offset + 4;
+                } else {
+                    return Found::At { offset, code };
+                }
+            }
+            Found::Nothing => return Found::Nothing,
+        }
+    }
+}
+
+// Whether all codes that a scan from `from` finds are in the set.
+fn all_within(s: &[u8], from: usize, set: CodeSet) -> bool
+    ensures { λ r. ⌜ r ≡ every (within set) (codesAt (now (s .entry)) from) ⌝ }
+{
+    match past(s, from, set) {
+        Found::At { offset: _, code: _ } => false,
+        Found::Nothing => true,
+    }
+}
+
+// Whether 00 00 01 stands at a byte.
+fn prefix_at(s: &[u8], at: usize) -> bool
+    ensures { λ r. ⌜ r ≡ sameBytes (take 3 (drop at (now (s .entry)))) (0x00 ∷ 0x00 ∷ 0x01 ∷ []) ⌝ }
+{
+    if s.len() < 3 {
+        return false;
+    }
+    if s.len() - 3 < at {
+        return false;
+    }
+    (s[at] == PREFIX[0]) & ((s[at + 1] == PREFIX[1]) & (s[at + 2] == PREFIX[2]))
+}
+
+// Whether the bytes end 00 00 01.
+fn ends_prefix(s: &[u8]) -> bool
+    ensures { λ r. ⌜ r ≡ endsPrefix (now (s .entry)) ⌝ }
+{
+    if s.len() < 3 {
+        return false;
+    }
+    prefix_at(s, s.len() - 3)
+}
+
+// Empty, or starting 00 00 01.
+fn opens_headers(headers: &[u8]) -> bool
+    ensures { λ r. ⌜ r ≡ opensHeaders (now (headers .entry)) ⌝ }
+{
+    if headers.len() == 0 {
+        return true;
+    }
+    prefix_at(headers, 0)
+}
+
+// B3 exactly once, at byte 0.
+fn sequence_first(headers: &[u8]) -> bool
+    ensures { λ r. ⌜ r ≡ sequenceFirst (codes (now (headers .entry))) ⌝ }
+{
+    match scan::next_code(headers, 0) {
+        Found::At { offset, code } => {
+            (offset == 0) & ((code == 0xB3) & all_within(headers, offset + 4, CodeSet::NoSequence))
+        }
+        Found::Nothing => false,
+    }
+}
+
+// Whether a frame rate code is that of the parameters.
+fn same_rate(params: VbvParams, code: u8) -> bool
+    ensures { λ r. ⌜ r ≡ sameRate params (frameRate code) ⌝ }
+{
+    match vbv::frame_rate_value(code) {
+        FrameRate::Rate(frn, frd) => (frn == params.frn) & (frd == params.frd),
+        FrameRate::Refused(_) => false,
+    }
+}
+
+// Whether a sequence declares the parameters, and its frame rate extensions are 0.
+fn same_params(params: VbvParams, sequence: Mpeg2Sequence) -> bool
+    ensures { λ r. ⌜ r ≡ sameParams params sequence ⌝ }
+{
+    let header = sequence.header;
+    let extension = sequence.extension;
+    let rate = sequence.bit_rate as u64;
+    let buffer = sequence.vbv_buffer_size as u64;
+    (400 * rate == params.bit_rate)
+        & ((16384 * buffer == params.buffer_size_bits)
+            & (same_rate(params, header.frame_rate_code)
+                & ((extension.frame_rate_extension_n == 0)
+                    & (extension.frame_rate_extension_d == 0))))
+}
+
+// Whether the sequence that headers begin with declares the parameters.
+fn declares(headers: &[u8], params: VbvParams) -> bool
+    ensures { λ r. ⌜ r ≡ (parsed (sequenceIn (now (headers .entry)) .answer) && sameParams params (sequenceIn (now (headers .entry)) .sequence)) ⌝ }
+{
+    let read = Mpeg2Sequence::from_buf(headers);
+    let answer = read.answer;
+    match answer {
+        Answer::Parsed => {
+            let sequence = read.sequence;
+            same_params(params, sequence)
+        }
+        Answer::Refused(_) => false,
+    }
+}
+
+// What headers say of the sequence: B3 with the parameters until a picture is placed, and none after that.
+fn sequence_fits(headers: &[u8], params: VbvParams, placed: bool) -> bool
+    ensures { λ r. ⌜ r ≡ sequenceFits params placed (now (headers .entry)) ⌝ }
+{
+    if placed {
+        return all_within(headers, 0, CodeSet::NoSequence);
+    }
+    sequence_first(headers) & declares(headers, params)
+}
+
+// Whether headers fit before a picture; `placed`: one was placed before.
+pub fn headers_fit(headers: &[u8], params: VbvParams, placed: bool) -> bool
+    ensures { λ r. ⌜ r ≡ headersFit params placed (now (headers .entry)) ⌝ }
+{
+    opens_headers(headers)
+        & (all_within(headers, 0, CodeSet::Headers)
+            & (!ends_prefix(headers) & sequence_fits(headers, params, placed)))
+}
+
+// Whether a picture's type is the kind.
+fn same_kind(kind: PictureKind, coded: PictureCodingType) -> bool
+    ensures { λ r. ⌜ r ≡ sameKind kind coded ⌝ }
+{
+    match kind {
+        PictureKind::I => match coded {
+            PictureCodingType::Intra => true,
+            PictureCodingType::Predictive => false,
+            PictureCodingType::Bidirectional => false,
+            PictureCodingType::DcIntra => false,
+        },
+        PictureKind::P => match coded {
+            PictureCodingType::Intra => false,
+            PictureCodingType::Predictive => true,
+            PictureCodingType::Bidirectional => false,
+            PictureCodingType::DcIntra => false,
+        },
+        PictureKind::B => match coded {
+            PictureCodingType::Intra => false,
+            PictureCodingType::Predictive => false,
+            PictureCodingType::Bidirectional => true,
+            PictureCodingType::DcIntra => false,
+        },
+    }
+}
+
+fn same_interval(offered: RemovalInterval, coded: RemovalInterval) -> bool
+    ensures { λ r. ⌜ r ≡ sameInterval offered coded ⌝ }
+{
+    match offered {
+        RemovalInterval::Frame => match coded {
+            RemovalInterval::Frame => true,
+            RemovalInterval::Field => false,
+        },
+        RemovalInterval::Field => match coded {
+            RemovalInterval::Frame => false,
+            RemovalInterval::Field => true,
+        },
+    }
+}
+
+// A full-pel flag is 0, where the type has it.
+fn flag_clear(flag: OptionFlag) -> bool
+    ensures { λ r. ⌜ r ≡ flagClear flag ⌝ }
+{
+    match flag {
+        OptionFlag::Some(f) => !f,
+        OptionFlag::None => true,
+    }
+}
+
+// A vector's code is 7, where the type has it.
+fn code_seven(code: OptionCode) -> bool
+    ensures { λ r. ⌜ r ≡ codeSeven code ⌝ }
+{
+    match code {
+        OptionCode::Some(c) => c == 7,
+        OptionCode::None => true,
+    }
+}
+
+// Whether the bits that pad a picture header to a byte are zero. Its last bit is bit `last` of the slice from byte n on.
+fn padding_clear(layer: &[u8], header: Mpeg2PictureHeader) -> bool
+    requires { ⌜ pictureHeader (now layer) ≡ HeaderParsed header ⌝ }
+    ensures { λ r. ⌜ r ≡ eqb (padding (now (layer .entry)) header) 0 ⌝ }
+{
+    let n = header.extra_information_bytes;
+    let bit = header.extra_information_bit as usize;
+    let last = bit + n;
+    let read = bits::read_bits(&layer[n..], last + 1, 7 - last % 8);
+    match read {
+        Bits::Value(v) => v == 0,
+        Bits::Short => false,
+    }
+}
+
+// Whether two zero bytes stand at a byte.
+fn two_zeros(s: &[u8], at: usize) -> bool
+    ensures { λ r. ⌜ r ≡ leb 2 (zeros (drop at (now (s .entry)))) ⌝ }
+{
+    if s.len() < 2 {
+        return false;
+    }
+    if s.len() - 2 < at {
+        return false;
+    }
+    (s[at] == 0) & (s[at + 1] == 0)
+}
+
+// Whether two zero bytes follow a picture header.
+fn zeros_behind(layer: &[u8], header: Mpeg2PictureHeader) -> bool
+    requires { ⌜ pictureHeader (now layer) ≡ HeaderParsed header ⌝ }
+    ensures { λ r. ⌜ r ≡ leb 2 (zeros (drop (pictureHeaderBytes header) (now (layer .entry)))) ⌝ }
+{
+    let n = header.extra_information_bytes;
+    let bit = header.extra_information_bit as usize;
+    two_zeros(layer, n + (bit + n + 8) / 8)
+}
+
+// The full-pel flags are 0 and their codes 7.
+fn vectors_fit(header: Mpeg2PictureHeader) -> bool
+    ensures { λ r. ⌜ r ≡ (flagClear (header .«full_pel_forward_vector») && (codeSeven (header .«fwd_f_code») && (flagClear (header .«full_pel_backward_vector») && codeSeven (header .«bwd_f_code»)))) ⌝ }
+{
+    let forward = header.full_pel_forward_vector;
+    let fwd_f_code = header.fwd_f_code;
+    let backward = header.full_pel_backward_vector;
+    let bwd_f_code = header.bwd_f_code;
+    flag_clear(forward) & (code_seven(fwd_f_code) & (flag_clear(backward) & code_seven(bwd_f_code)))
+}
+
+// What the picture header and its extension tell.
+fn header_fits(layer: &[u8], kind: PictureKind, interval: RemovalInterval) -> bool
+    ensures { λ r. ⌜ r ≡ headerFits kind interval (now (layer .entry)) (picture (now (layer .entry))) ⌝ }
+{
+    match Mpeg2PictureHeader::parse_with_extension(layer) {
+        PictureRead::Refused(_) => false,
+        PictureRead::Parsed(header, extension) => {
+            let coded = header.picture_coding_type;
+            let structure = extension.picture_structure;
+            same_kind(kind, coded)
+                & (same_interval(interval, verify::interval(structure))
+                    & (!extension.repeat_first_field
+                        & (vectors_fit(header)
+                            & (padding_clear(layer, header) & zeros_behind(layer, header)))))
+        }
+    }
+}
+
+// Any of B5 and B2, then at least one slice and only slices, of the codes that a scan from `from` finds.
+fn slices_behind(layer: &[u8], from: usize) -> bool
+    ensures { λ r. ⌜ r ≡ slices (skip isExtension (codesAt (now (layer .entry)) from)) ⌝ }
+{
+    match past(layer, from, CodeSet::Extensions) {
+        Found::At { offset, code: _ } => all_within(layer, offset, CodeSet::Slices),
+        Found::Nothing => false,
+    }
+}
+
+// 00 once at byte 0, then extensions, then slices.
+fn layer_codes(layer: &[u8]) -> bool
+    ensures { λ r. ⌜ r ≡ layerCodes (codes (now (layer .entry))) ⌝ }
+{
+    match scan::next_code(layer, 0) {
+        Found::At { offset, code } => {
+            (offset == 0) & ((code == 0) & slices_behind(layer, offset + 4))
+        }
+        Found::Nothing => false,
+    }
+}
+
+// Whether the layer of a picture of this kind and interval fits.
+pub fn layer_fits(layer: &[u8], kind: PictureKind, interval: RemovalInterval) -> bool
+    ensures { λ r. ⌜ r ≡ layerFits kind interval (now (layer .entry)) ⌝ }
+{
+    header_fits(layer, kind, interval) & (layer_codes(layer) & !ends_prefix(layer))
+}
