@@ -1,0 +1,73 @@
+-- The check accepts what a list of calls hands out, with a record for each picture.
+-- Assumes nothing.
+use mathlib.Core.Path.{_≡_, refl, sym, ap, _∙_}
+use mathlib.Core.Bool.{true, false}
+use mathlib.Core.List.{List, [], _∷_}
+use Prim.Native.Nat.{ℕ, suc, _+_, _-_, _*_, _^_, _≤_}
+use native.Mathlib.Omega.{arith}
+use lib.ListN.{length}
+use Rattle.vbv.specs.Model.{paramsFit}
+use Rattle.vbv.specs.declared.VbvParams.{VbvParams}
+use Rattle.vbv.proofs.Laws.{units-over, units-under}
+use Rattle.verify.specs.Run.{ran, run}
+use Rattle.verify.specs.Coded.{read, codedPictures}
+use Rattle.verify.specs.Sequence.{declared}
+use Rattle.verify.specs.declared.VbvStandard.the-variants.{Mpeg2}
+use Rattle.verify.specs.declared.Declared.the-variants.{Params}
+use Rattle.verify.proofs.Accepting.{Passed, exactRecord, run-none, run-passed, accepted}
+use Rattle.layers.proofs.Stream.{Part, PartsFit, part, stream, coded, coded-none, stream-coded, stream-declared}
+use Rattle.rate_control.specs.Sent.{Sent, end, recordOf, recordsOf, Passes}
+use Rattle.rate_control.proofs.Removing.{Done, Course, ended, goes, First}
+use Rattle.rate_control.proofs.Sending.{codedOf, codedBy, Sending}
+
+-- ---- the run over the pictures
+
+done-passed : {p : VbvParams} {d previous : ℕ} {x : Sent} → Done p d previous x → Passed p previous d (codedOf x)
+unfolding codedOf
+done-passed {p} r = record {
+  in-time = r .in-time;
+  delay-exact = r .removed .delay-exact;
+  delay-told = r .removed .delay-told;
+  no-overflow = units-over p _ _ (r .removed .no-overflow);
+  no-underflow = units-under p _ _ (r .removed .no-underflow);
+}
+
+done-record : {p : VbvParams} {d previous : ℕ} {x : Sent} → Done p d previous x → exactRecord p previous d (codedOf x) ≡ recordOf p d previous x
+unfolding codedOf recordOf end
+done-record {previous = previous} {x = x} r =
+    let e : 8 * (x .before + x .bytes) - previous ≡ 8 * x .bytes = omega (arith, r .begins) in
+    rw e
+
+course-ran : {p : VbvParams} {d previous : ℕ} {xs : List Sent} (n : ℕ) → Course p d previous xs
+    → run p n previous d (codedBy xs) ≡ ran (recordsOf p d previous xs)
+unfolding codedOf codedBy recordsOf
+course-ran {p} {d} {previous} n ended = run-none p n previous d
+course-ran n (goes {xs = xs} r z c) = rw (← done-record r) (run-passed n (codedBy xs) (done-passed r) (course-ran (suc n) c))
+
+-- ---- the verdict
+
+coded-length : (xs : List Sent) → length (codedBy xs) ≡ length xs
+unfolding codedBy
+coded-length [] = refl
+coded-length (x ∷ xs) = ap suc (coded-length xs)
+
+first-told : {p : VbvParams} {d previous : ℕ} {x : Sent} {xs : List Sent} → Course p d previous (x ∷ xs) → x .delay ≤ 65534
+first-told (goes r z c) = r .removed .delay-told
+
+passes-by : (p : VbvParams) (s : List ℕ) (x : Sent) (xs : List Sent) → paramsFit p ≡ true → 8 * length s ≤ 2 ^ 48 → First p (x ∷ xs)
+    → declared Mpeg2 s ≡ Params p → codedPictures Mpeg2 s ≡ read (codedBy (x ∷ xs)) → Passes p s (x ∷ xs)
+unfolding codedBy codedOf recordsOf
+passes-by p s x xs f l c d h places m = accepted Mpeg2 s places l d h (first-told c) f (rw (coded-length xs) m) (course-ran 0 c)
+
+sending-declared : {p : VbvParams} {s : List ℕ} {x : Sent} {xs : List Sent} → Sending p false 0 s (x ∷ xs) → declared Mpeg2 s ≡ Params p
+unfolding codedBy
+sending-declared {p} {s} {x} {xs} a = ap (declared Mpeg2) (a .handed-is) ∙ go (a .parts) (a .fit) (a .coded-is)
+  where
+    go : (ys : List Part) → PartsFit p false ys → coded 0 ys (length (a .follows)) ≡ codedBy (x ∷ xs) → declared Mpeg2 (stream ys (a .follows)) ≡ Params p
+    go [] f e = let z = sym (coded-none 0 (length (a .follows))) ∙ e in cc
+    go (y ∷ ys) (part f fs) e = stream-declared f ys (a .follows)
+
+pub passes : (p : VbvParams) (s : List ℕ) (xs : List Sent) → paramsFit p ≡ true → 8 * length s ≤ 2 ^ 48 → First p xs → Sending p false 0 s xs → Passes p s xs
+passes p s [] f l c a = tt
+passes p s (x ∷ xs) f l c a =
+    passes-by p s x xs f l c (sending-declared a) (ap (codedPictures Mpeg2) (a .handed-is) ∙ stream-coded (a .fit) (a .ends) ∙ ap read (a .coded-is))

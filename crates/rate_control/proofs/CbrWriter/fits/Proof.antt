@@ -1,0 +1,29 @@
+use Rattle.rate_control.proofs.States.{writer-fits}
+use borrow.Author.Needs.{needs}
+use Rattle.rate_control.proofs.CbrWriter.fits.Statement.{statement}
+use Rattle.rate_control.proofs.CbrWriter.fits.Tie as tie
+
+fits-requires : tie.Need-fits-requires
+fits-requires c κs = search needs
+
+all-targets-requires : tie.Need-all-targets-requires
+all-targets-requires c κs = search needs
+
+all-quantisers-requires : tie.Need-all-quantisers-requires
+all-quantisers-requires c κs = search needs
+
+pending-fits-requires : tie.Need-pending-fits-requires
+pending-fits-requires c κs = search needs
+
+returns : tie.Need-returns
+returns c = search (needs, writer-fits)
+
+pub fits-spec : {M : Type 1} → statement M
+fits-spec =
+    tie.close
+    (tie.spec
+    fits-requires
+    all-targets-requires
+    all-quantisers-requires
+    pending-fits-requires
+    returns)

@@ -1,0 +1,78 @@
+use native.Mathlib.Omega.{arith}
+use Rattle.rate_control.proofs.Offering.{bytes-are, placeable, offer-refused, offer-large, offer-short, offer-placed}
+use borrow.Author.Needs.{needs}
+use Rattle.rate_control.proofs.CbrWriter.offer.Statement.{statement}
+use Rattle.rate_control.proofs.CbrWriter.offer.Tie as tie
+
+judged-requires : tie.Need-judged-requires
+judged-requires c κs = search needs
+
+enum-known-error : tie.Need-enum-known-error
+enum-known-error c = search needs
+
+refused-requires : tie.Need-refused-requires
+refused-requires c κs = search needs
+
+enum-told : tie.Need-enum-told
+enum-told c = search needs
+
+too-large-requires : tie.Need-too-large-requires
+too-large-requires c κs = search needs
+
+enum-known-placement : tie.Need-enum-known-placement
+enum-known-placement c = search needs
+
+refused-requires-2 : tie.Need-refused-requires-2
+refused-requires-2 c κs = search needs
+
+returns : tie.Need-returns
+returns c =
+    let s = c .before .before .before .before .before .before .before .before .before in
+    offer-short (s .args .self) (record { headers = s .args .headers .now; kind = s .args .kind; interval = s .args .interval; last = s .args .last; layer = s .args .layer .now; out = s .args .out .now }) _ (c .before .before .before .before .before .judged .ensures) _ _ (c .before .before .before .placement .given .1) (omega arith) (c .refused2 .ensures)
+
+put-placed-requires : tie.Need-put-placed-requires
+put-placed-requires c κs =
+    let s = c .before .before .before .before .before .before .before .before .before in
+    omega (arith, bytes-are (s .args .self) (record { headers = s .args .headers .now; kind = s .args .kind; interval = s .args .interval; last = s .args .last; layer = s .args .layer .now; out = s .args .out .now }) _ (c .before .before .before .before .before .judged .ensures) _ (c .before .before .before .placement .given .1))
+
+placed-requires : tie.Need-placed-requires
+placed-requires c κs =
+    let s = c .before .before .before .before .before .before .before .before .before .before .before .before in
+    placeable (s .args .self) (record { headers = s .args .headers .now; kind = s .args .kind; interval = s .args .interval; last = s .args .last; layer = s .args .layer .now; out = s .args .out .now }) _ (c .before .before .before .before .before .before .before .before .judged .ensures) _ (c .before .before .before .before .before .before .placement .given .1)
+
+returns-2 : tie.Need-returns-2
+returns-2 c =
+    let s = c .before .before .before .before .before .before .before .before in
+    offer-refused (s .args .self) (record { headers = s .args .headers .now; kind = s .args .kind; interval = s .args .interval; last = s .args .last; layer = s .args .layer .now; out = s .args .out .now }) _ (c .before .before .before .before .judged .ensures) _ _ (c .before .before .error .given .1) (c .refused .ensures)
+
+returns-3 : tie.Need-returns-3
+returns-3 c =
+    let s = c .before .before .before .before .before .before .before in
+    offer-large (s .args .self) (record { headers = s .args .headers .now; kind = s .args .kind; interval = s .args .interval; last = s .args .last; layer = s .args .layer .now; out = s .args .out .now }) _ (c .before .before .before .judged .ensures) _ (c .before .enum-told .given .1) (c .too-large .ensures)
+
+same-length : tie.Need-same-length
+same-length c = search needs
+
+returns-4 : tie.Need-returns-4
+returns-4 c =
+    let s = c .before .before .before .before .before .before .before .before .before .before .before .before .before in
+    offer-placed (s .args .self) (record { headers = s .args .headers .now; kind = s .args .kind; interval = s .args .interval; last = s .args .last; layer = s .args .layer .now; out = s .args .out .now }) _ (c .before .before .before .before .before .before .before .before .before .judged .ensures) _ _ (c .before .before .before .before .before .before .before .placement .given .1) _ (omega arith) (c .placed .ensures) (c .before .before .before .put-placed .ensures)
+
+pub offer-spec : {M : Type 1} → statement M
+offer-spec =
+    tie.close
+    (tie.spec
+    judged-requires
+    enum-known-error
+    refused-requires
+    enum-told
+    too-large-requires
+    enum-known-placement
+    refused-requires-2
+    returns
+    put-placed-requires
+    placed-requires
+    returns-2
+    returns-3
+    same-length
+    returns-4)

@@ -1,0 +1,107 @@
+-- What an offer can come to, with the facts that the tests on the way give.
+-- Assumes nothing.
+use mathlib.Core.Path.{_≡_, refl}
+use mathlib.Core.Bool.{Bool, true, false, _||_}
+use Prim.Native.Nat.{ℕ, _^_, _≤_, _<_}
+use lib.Dec.{ltb}
+use lib.ListN.{length}
+use borrow.Author.Tests.{ltb-false, ltb-true, eqb-true, eqb-false, not-true, not-false}
+use Rattle.bits.specs.Bits.{pick}
+use Rattle.vbv.specs.Annex.{overflows, underflows, early}
+use Rattle.vbv.specs.declared.VbvError.the-variants.{Early, Params, Range}
+use Rattle.vbv.specs.declared.VbvViolation.the-variants.{Overflow}
+use Rattle.layers.specs.Headers.{headersFit}
+use Rattle.layers.specs.Layer.{layerFits}
+use Rattle.rate_control.specs.Writer.{writerFits, clashes, asked, coarser}
+use Rattle.rate_control.specs.Offer.{Offer, position, end, deliveredAt, placedBytes, withPending, refused, tooLarge, placed, offer}
+use Rattle.rate_control.specs.declared.Pending.the-variants.{Nothing, Waits}
+use Rattle.rate_control.specs.declared.CbrWriter.{CbrWriter}
+use Rattle.rate_control.specs.declared.CbrError.{CbrError}
+use Rattle.rate_control.specs.declared.CbrError.the-variants.{Model, Violation, Kind, Headers, Layer, TooLarge, Stuffing, Output}
+use Rattle.rate_control.specs.declared.CbrAnswer.the-variants.{Again, Refused}
+use Rattle.rate_control.specs.declared.CbrOffered.{CbrOffered}
+
+pub pick-elim : {A : Type 0} (P : A → Type 0) (b : Bool) {x y : A} → (b ≡ true → P x) → (b ≡ false → P y) → P (pick b x y)
+unfolding pick
+pick-elim P true f g = f refl
+pick-elim P false f g = g refl
+
+or-left : (a b : Bool) → (a || b) ≡ false → a ≡ false
+or-left true b e = e
+or-left false b e = refl
+
+or-right : (a b : Bool) → (a || b) ≡ false → b ≡ false
+or-right true b e = cc
+or-right false b e = e
+
+-- the quantiser that the offered layer was made with
+abbrev pub q-of : CbrWriter → Offer → ℕ
+q-of w o = asked w (o .kind)
+
+-- what the tests before a placing have shown
+pub record Placing (w : CbrWriter) (o : Offer) : Type 0 where
+  pub fitted : writerFits w ≡ true
+  pub unfinished : w .finished ≡ false
+  pub same-kind : clashes (w .pending) (o .kind) ≡ false
+  pub headers-fit : headersFit (w .model .params) (w .model .started) (o .headers) ≡ true
+  pub layer-fits : layerFits (o .kind) (o .interval) (o .layer) ≡ true
+  pub position-far : position w o ≤ 2 ^ 48
+  pub end-far : end w o ≤ 2 ^ 48
+  pub in-time : early (w .model .params) (position w o) (deliveredAt w o) ≡ false
+  pub no-overflow : overflows (w .model .params) (w .model .«prev_end_bits») (deliveredAt w o) ≡ false
+  pub no-underflow : underflows (w .model .params) (end w o) (deliveredAt w o) ≡ false
+  pub room : length (placedBytes w o) ≤ length (o .out)
+
+-- why an offer is refused
+pub data Reason (w : CbrWriter) (o : Offer) : CbrError → Type 0 where
+  unfit : writerFits w ≡ false → Reason w o (Model Params)
+  out-of-turn : (w .finished || clashes (w .pending) (o .kind)) ≡ true → Reason w o Kind
+  bad-headers : headersFit (w .model .params) (w .model .started) (o .headers) ≡ false → Reason w o Headers
+  bad-layer : layerFits (o .kind) (o .interval) (o .layer) ≡ false → Reason w o Layer
+  too-far : (ltb (2 ^ 48) (position w o) || ltb (2 ^ 48) (end w o)) ≡ true → Reason w o (Model Range)
+  too-early : early (w .model .params) (position w o) (deliveredAt w o) ≡ true → Reason w o (Model Early)
+  over-full : w .finished ≡ false → overflows (w .model .params) (w .model .«prev_end_bits») (deliveredAt w o) ≡ true
+      → Reason w o (Violation (Overflow (w .model .removed) 0 0))
+  no-edge : underflows (w .model .params) (end w o) (deliveredAt w o) ≡ true → Reason w o Stuffing
+  no-room : length (o .out) < length (placedBytes w o) → Reason w o Output
+
+pub data Outcome (w : CbrWriter) (o : Offer) : CbrOffered → Type 0 where
+  stays : (e : CbrError) → Reason w o e → Outcome w o (refused w e)
+  closes : q-of w o ≡ 31 → Outcome w o (record { answer = Refused TooLarge; writer = withPending w Nothing })
+  retries : (q-of w o ≡ 31 → ⊥)
+      → Outcome w o (record { answer = Again (coarser (q-of w o)); writer = withPending w (Waits (o .kind) (coarser (q-of w o))) })
+  places : Placing w o → Outcome w o (placed w o (q-of w o))
+
+size-outcome : (w : CbrWriter) (o : Offer) → Outcome w o (tooLarge w (o .kind) (q-of w o))
+unfolding tooLarge
+size-outcome w o = pick-elim (Outcome w o) _ (λ e. closes (eqb-true _ _ e)) (λ e. retries (eqb-false _ _ e))
+
+pub outcome : (w : CbrWriter) (o : Offer) → Outcome w o (offer w o)
+unfolding offer
+outcome w o =
+    pick-elim P _ (λ e. stays _ (unfit (not-true _ e))) λ h12.
+    pick-elim P _ (λ e. stays _ (out-of-turn e)) λ h17.
+    pick-elim P _ (λ e. stays _ (bad-headers (not-true _ e))) λ h18.
+    pick-elim P _ (λ e. stays _ (bad-layer (not-true _ e))) λ h20.
+    pick-elim P _ (λ e. stays _ (too-far e)) λ h14.
+    pick-elim P _ (λ e. stays _ (too-early e)) λ h7.
+    pick-elim P _ (λ e. stays _ (over-full (or-left _ _ h17) e)) λ h9.
+    pick-elim P _ (λ e. size-outcome w o) λ size.
+    pick-elim P _ (λ e. stays _ (no-edge e)) λ h22.
+    pick-elim P _ (λ e. stays _ (no-room (ltb-true _ _ e))) λ h19.
+    places (record {
+      fitted = not-false _ h12;
+      unfinished = or-left _ _ h17;
+      same-kind = or-right (w .finished) _ h17;
+      headers-fit = not-false _ h18;
+      layer-fits = not-false _ h20;
+      position-far = ltb-false _ _ (or-left _ _ h14);
+      end-far = ltb-false _ _ (or-right (ltb (2 ^ 48) (position w o)) _ h14);
+      in-time = h7;
+      no-overflow = h9;
+      no-underflow = h22;
+      room = ltb-false _ _ h19;
+    })
+  where
+    P : CbrOffered → Type 0
+    P r = Outcome w o r

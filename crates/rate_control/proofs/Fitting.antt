@@ -1,0 +1,88 @@
+-- What the test of a writer's state says, as bounds, and back.
+-- Assumes nothing.
+use mathlib.Core.Path.{_≡_, refl}
+use mathlib.Core.Bool.{Bool, true}
+use mathlib.Core.List.{List, [], _∷_}
+use Prim.Native.Nat.{ℕ, zero, suc, _*_, _%_, _^_, _≤_, _<_}
+use native.Mathlib.Omega.{arith}
+use lib.Dec.{leb, eqb}
+use lib.ListN.{length, getD, set}
+use borrow.Author.Tests.{leb-true, eqb-true, le-leb, eq-eqb}
+use Rattle.bits.proofs.Reading.{both-true}
+use Rattle.vbv.specs.Model.{modelFits}
+use Rattle.rate_control.specs.Create.{within}
+use Rattle.rate_control.specs.Writer.{quantiser, every, pendingFits, writerFits}
+use Rattle.rate_control.specs.declared.Pending.the-variants.{Nothing, Waits}
+use Rattle.rate_control.specs.declared.CbrWriter.{CbrWriter}
+use Rattle.rate_control.proofs.Retries.{Quant}
+
+-- ---- tests of a list
+
+pub every-at : (f : ℕ → Bool) (xs : List ℕ) (i : ℕ) → every f xs ≡ true → i < length xs → f (getD xs i 0) ≡ true
+unfolding every
+every-at f [] i h l = absurd (omega arith)
+every-at f (x ∷ xs) zero h l = both-true (f x) (every f xs) h .0
+every-at f (x ∷ xs) (suc i) h l = every-at f xs i (both-true (f x) (every f xs) h .1) (omega arith)
+
+pub every-set : (f : ℕ → Bool) (xs : List ℕ) (i x : ℕ) → every f xs ≡ true → f x ≡ true → every f (set xs i x) ≡ true
+unfolding every
+every-set f [] i x h g = h
+every-set f (y ∷ ys) zero x h g = rw (g, both-true (f y) (every f ys) h .1)
+every-set f (y ∷ ys) (suc i) x h g =
+    let b = both-true (f y) (every f ys) h in
+    rw (b .0, every-set f ys i x (b .1) g)
+
+-- ---- quantisers
+
+pub quantiser-is : {q : ℕ} → quantiser q ≡ true → Quant q
+unfolding quantiser within
+quantiser-is {q} h =
+    let b = both-true (leb 1 q) (leb q 31) h in
+    record { low = leb-true _ _ (b .0); high = leb-true _ _ (b .1) }
+
+pub is-quantiser : {q : ℕ} → Quant q → quantiser q ≡ true
+unfolding quantiser within
+is-quantiser h = simp (le-leb _ _ (h .low), le-leb _ _ (h .high))
+
+pub none-fits : pendingFits Nothing ≡ true
+unfolding pendingFits
+none-fits = refl
+
+pub waits-fits : {q : ℕ} → Quant q → (k : _) → pendingFits (Waits k q) ≡ true
+unfolding pendingFits
+waits-fits h k = is-quantiser h
+
+-- ---- the state
+
+pub record WriterFits (w : CbrWriter) : Type 0 where
+  pub model-fits : modelFits (w .model) ≡ true
+  pub whole-bytes : w .model .«prev_end_bits» % 8 ≡ 0
+  pub few : 8 * w .model .removed ≤ w .model .«prev_end_bits»
+  pub stuffed : 8 * w .«stuffing_bytes» ≤ w .model .«prev_end_bits»
+  pub targets : every (λ t. leb t (2 ^ 48)) (w .«target_bits») ≡ true
+  pub quantisers : every quantiser (w .q) ≡ true
+  pub pending : pendingFits (w .pending) ≡ true
+
+pub writer-fits : {w : CbrWriter} → writerFits w ≡ true → WriterFits w
+unfolding writerFits
+writer-fits {w} h =
+    let a = both-true (modelFits (w .model)) _ h in
+    let b = both-true (eqb (w .model .«prev_end_bits» % 8) 0) _ (a .1) in
+    let c = both-true (leb (8 * w .model .removed) (w .model .«prev_end_bits»)) _ (b .1) in
+    let d = both-true (leb (8 * w .«stuffing_bytes») (w .model .«prev_end_bits»)) _ (c .1) in
+    let e = both-true (every (λ t. leb t (2 ^ 48)) (w .«target_bits»)) _ (d .1) in
+    let f = both-true (every quantiser (w .q)) _ (e .1) in
+    record {
+      model-fits = a .0;
+      whole-bytes = eqb-true _ _ (b .0);
+      few = leb-true _ _ (c .0);
+      stuffed = leb-true _ _ (d .0);
+      targets = e .0;
+      quantisers = f .0;
+      pending = f .1;
+    }
+
+pub fitting-writer : (w : CbrWriter) → WriterFits w → writerFits w ≡ true
+unfolding writerFits
+fitting-writer w f =
+    simp (f .model-fits, eq-eqb _ _ (f .whole-bytes), le-leb _ _ (f .few), le-leb _ _ (f .stuffed), f .targets, f .quantisers, f .pending)

@@ -1,0 +1,171 @@
+-- What holds of a writer between calls, after n retries of the pending picture.
+-- Assumes nothing.
+use mathlib.Core.Path.{_≡_, refl, sym, _∙_}
+use mathlib.Core.Bool.{true, false, true≢false}
+use Prim.Native.Nat.{ℕ, _+_, _^_, _≤_, _<_}
+use native.Mathlib.Omega.{arith}
+use lib.ListN.{length, length-set}
+use Rattle.bits.specs.Bits.{pick}
+use Rattle.vbv.specs.Annex.{overflows}
+use Rattle.vbv.specs.Model.{delivered}
+use Rattle.vbv.proofs.Fitting.{model-fits}
+use Rattle.vbv.proofs.After.{after as model-after, after-fits}
+use Rattle.layers.specs.declared.PictureKind.{PictureKind}
+use Rattle.layers.specs.declared.PictureKind.the-variants.{I, P, B}
+use Rattle.layers.proofs.Laws.{layer-long}
+use Rattle.rate_control.specs.Writer.{writerFits, quantiser, index, of, asked, askedOf, coarser, pendingFits}
+use Rattle.rate_control.specs.Offer.{Offer, end, deliveredAt, deliveredNext, withPending, refused, placed, withdraw}
+use Rattle.rate_control.specs.Calls.{Call, offering, withdrawing, stepOf, after}
+use Rattle.rate_control.specs.Sent.{retriesBy, retriesAfter}
+use Rattle.rate_control.specs.declared.Pending.{Pending}
+use Rattle.rate_control.specs.declared.Pending.the-variants.{Nothing, Waits}
+use Rattle.rate_control.specs.declared.CbrWriter.{CbrWriter}
+use Rattle.rate_control.specs.declared.CbrError.{CbrError}
+use Rattle.rate_control.specs.declared.CbrAnswer.the-variants.{Refused}
+use Rattle.rate_control.specs.declared.CbrOffered.{CbrOffered}
+use Rattle.rate_control.proofs.Chain.{q-of, Placing, Reason, unfit, out-of-turn, bad-headers, bad-layer, too-far, too-early, over-full, no-edge, no-room, Outcome, stays, closes, retries, places, outcome}
+use Rattle.rate_control.proofs.Retries.{Quant, rest, rest-small, rest-step, coarser-quant, steered-quant}
+use Rattle.rate_control.proofs.Fitting.{every-at, every-set, quantiser-is, is-quantiser, none-fits, waits-fits, WriterFits, writer-fits, fitting-writer}
+use Rattle.rate_control.proofs.Placing.{placed-size, end-is, next-room, params-fitted}
+
+-- no picture pending: no retries; one pending: those it had and those it may have are eleven at most
+abbrev pub PendingOk : ℕ → Pending → Type 0
+PendingOk n Nothing = n ≡ 0
+PendingOk n (Waits k q) = Quant q × (n + rest q ≤ 11)
+
+pub record Inv (n : ℕ) (w : CbrWriter) : Type 0 where
+  pub fits : writerFits w ≡ true
+  pub three : length (w .q) ≡ 3
+  pub none-yet : w .model .started ≡ false → w .model .«prev_end_bits» ≡ 0
+  pub waiting : PendingOk n (w .pending)
+  -- unless it was the last, the picture just placed has made room for the next
+  pub room : w .model .started ≡ true → w .finished ≡ false → overflows (w .model .params) (w .model .«prev_end_bits») (delivered (w .model)) ≡ false
+
+-- before the first placing no picture is removed and no byte stuffed
+pub none-removed : {n : ℕ} {w : CbrWriter} → Inv n w → w .model .started ≡ false → (w .model .removed ≡ 0) × (w .«stuffing_bytes» ≡ 0)
+none-removed {w = w} h e =
+    let f = writer-fits (h .fits) in
+    let z = h .none-yet e in
+    (omega (arith, f .few), omega (arith, f .stuffed))
+
+pub pending-few : (n : ℕ) (x : Pending) → PendingOk n x → n ≤ 11
+pending-few n Nothing h = omega arith
+pending-few n (Waits k q) h = omega arith
+
+-- ---- the quantiser of an offer, and the retries it may still have
+
+index-low : (k : PictureKind) → index k < 3
+index-low I = omega arith
+index-low P = omega arith
+index-low B = omega arith
+
+kind-quant : {n : ℕ} {w : CbrWriter} (k : PictureKind) → Inv n w → Quant (of k (w .q))
+unfolding of
+kind-quant {w = w} k h = quantiser-is (every-at quantiser (w .q) (index k) (writer-fits (h .fits) .quantisers) (omega (arith, index-low k, h .three)))
+
+asked-of : (n : ℕ) {q : ℕ} (x : Pending) → PendingOk n x → Quant q → Quant (askedOf x q) × (n + rest (askedOf x q) ≤ 11)
+unfolding askedOf
+asked-of n Nothing h g = (g, omega (arith, rest-small g))
+asked-of n (Waits k q) h g = h
+
+pub asked-quant : {n : ℕ} {w : CbrWriter} (k : PictureKind) → Inv n w → Quant (asked w k) × (n + rest (asked w k) ≤ 11)
+unfolding asked
+asked-quant {n} {w} k h = asked-of n (w .pending) (h .waiting) (kind-quant k h)
+
+-- ---- kept by a placing
+
+place-fits : {n : ℕ} {w : CbrWriter} {o : Offer} → Inv n w → Placing w o → WriterFits (placed w o (q-of w o) .writer)
+unfolding placed deliveredNext
+place-fits {w = w} {o = o} h g =
+    let m = w .model in
+    let f = writer-fits (g .fitted) in
+    let v = model-fits (f .model-fits) in
+    let e = end-is w o in
+    let s = placed-size w o in
+    let l = layer-long (o .kind) (o .interval) (o .layer) (g .layer-fits) in
+    let c : m .removed < 2 ^ 48 = omega (arith, f .few, v .end-high) in
+    let a = model-after m (end w o) (deliveredNext w o) in
+    record {
+      model-fits =
+          after-fits m (f .model-fits) (deliveredAt w o) (g .no-overflow) (end w o) (o .interval)
+          (record { end-far = g .end-far; end-low = omega arith; count = c }) (g .no-underflow);
+      whole-bytes = rw (a .end-is) (omega (arith, f .whole-bytes));
+      few = rw (a .end-is, a .count-is) (omega (arith, f .few));
+      stuffed = rw (a .end-is) (omega (arith, f .stuffed));
+      targets = f .targets;
+      quantisers = every-set quantiser (w .q) (index (o .kind)) _ (f .quantisers) (is-quantiser (steered-quant _ _ (asked-quant (o .kind) h .0)));
+      pending = none-fits;
+    }
+
+place-inv : {n : ℕ} {w : CbrWriter} {o : Offer} → Inv n w → Placing w o → Inv 0 (placed w o (q-of w o) .writer)
+unfolding placed
+place-inv {w = w} {o = o} h g =
+    let a = model-after (w .model) (end w o) (deliveredNext w o) in
+    record {
+      fits = fitting-writer _ (place-fits h g);
+      three = length-set (w .q) (index (o .kind)) _ ∙ h .three;
+      none-yet = λ e. absurd (true≢false (sym (a .is-started) ∙ e));
+      waiting = refl;
+      room = λ s e. rw (a .delivered-is, a .params-kept, a .end-is) (next-room w o (params-fitted w o g) e);
+    }
+
+-- ---- kept by every call
+
+-- another pending picture
+pending-inv : {n m : ℕ} {w : CbrWriter} (x : Pending) → Inv n w → PendingOk m x → pendingFits x ≡ true → Inv m (withPending w x)
+unfolding withPending
+pending-inv {w = w} x h k e =
+    let f = writer-fits (h .fits) in
+    record {
+      fits =
+          fitting-writer _
+          (record {
+            model-fits = f .model-fits;
+            whole-bytes = f .whole-bytes;
+            few = f .few;
+            stuffed = f .stuffed;
+            targets = f .targets;
+            quantisers = f .quantisers;
+            pending = e;
+          });
+      three = h .three;
+      none-yet = h .none-yet;
+      waiting = k;
+      room = h .room;
+    }
+
+-- no refusal but 21 counts as anything
+reason-retries : {w : CbrWriter} {o : Offer} {e : CbrError} (n : ℕ) → Reason w o e → retriesBy n (Refused e) ≡ n
+unfolding retriesBy
+reason-retries n (unfit h) = refl
+reason-retries n (out-of-turn h) = refl
+reason-retries n (bad-headers h) = refl
+reason-retries n (bad-layer h) = refl
+reason-retries n (too-far h) = refl
+reason-retries n (too-early h) = refl
+reason-retries n (over-full f h) = refl
+reason-retries n (no-edge h) = refl
+reason-retries n (no-room h) = refl
+
+pub outcome-inv : {n : ℕ} {w : CbrWriter} {o : Offer} {r : CbrOffered} → Inv n w → Outcome w o r → Inv (retriesBy n (r .answer)) (r .writer)
+unfolding refused placed retriesBy
+outcome-inv {n} h (stays e g) = rw (reason-retries n g) h
+outcome-inv h (closes g) = pending-inv Nothing h refl none-fits
+outcome-inv {n} {w} {o} h (retries g) =
+    let a = asked-quant (o .kind) h in
+    let l : q-of w o < 31 = below (a .0) g in
+    let c = coarser-quant (a .0) in
+    pending-inv (Waits (o .kind) (coarser (q-of w o))) h (c, omega (arith, rest-step (a .0) l)) (waits-fits c (o .kind))
+  where
+    below : {q : ℕ} → Quant q → (q ≡ 31 → ⊥) → q < 31
+    below a b = omega arith
+outcome-inv h (places g) = place-inv h g
+
+pub withdraw-is : (w : CbrWriter) → writerFits w ≡ true → withdraw w .writer ≡ withPending w Nothing
+unfolding withdraw pick
+withdraw-is w e = rw e
+
+pub call-inv : {n : ℕ} {w : CbrWriter} (c : Call) → Inv n w → Inv (retriesAfter n (stepOf w c)) (after w c)
+unfolding stepOf after retriesAfter
+call-inv {w = w} (offering o) h = outcome-inv h (outcome w o)
+call-inv {w = w} withdrawing h = rw (withdraw-is w (h .fits)) (pending-inv Nothing h refl none-fits)

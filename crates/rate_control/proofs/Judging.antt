@@ -1,0 +1,329 @@
+-- The tests as the code goes come to the chain of an offer.
+-- Assumes nothing.
+use mathlib.Core.Path.{_≡_, refl, sym, ap, _∙_}
+use mathlib.Core.Bool.{Bool, true, false, _||_}
+use Prim.Native.Nat.{ℕ, _+_, _*_, _^_, _≤_, _<_, max}
+use native.Mathlib.Omega.{arith}
+use lib.Dec.{ltb}
+use lib.ListN.{length}
+use borrow.Author.Tests.{ltb-true, ltb-false, lt-ltb, le-ltb}
+use Rattle.bits.specs.Bits.{pick}
+use Rattle.vbv.specs.Annex.{firstDelivered, overflows, underflows, early, expectedDelay, greatestEnd, leastEnd}
+use Rattle.vbv.specs.Fits.{EndFits}
+use Rattle.vbv.specs.Model.{paramsFit, delivered, modelFits, atDelivered, afterRemoval, nextDelivered, delayForPicture, removePicture, maxEndBits, minEndBits}
+use Rattle.vbv.specs.declared.RemovalInterval.{RemovalInterval}
+use Rattle.vbv.specs.declared.VbvParams.{VbvParams}
+use Rattle.vbv.specs.declared.VbvCbrModel.{VbvCbrModel}
+use Rattle.vbv.specs.declared.VbvError.the-variants.{Early, Range}
+use Rattle.vbv.specs.declared.VbvViolation.{VbvViolation}
+use Rattle.vbv.specs.declared.VbvViolation.the-variants.{Overflow, Underflow}
+use Rattle.vbv.specs.declared.VbvModel.the-variants as md
+use Rattle.vbv.specs.declared.VbvRemoval.the-variants as rm
+use Rattle.vbv.specs.declared.VbvDelay.the-variants as dl
+use Rattle.vbv.specs.declared.VbvBits.the-variants as bt
+use Rattle.vbv.proofs.Fitting.{params-fit, model-fits}
+use Rattle.vbv.proofs.Laws.{early-is, delay-most, fits-params, started, starts, delays, max-end, min-end}
+use Rattle.vbv.proofs.Told.{next-told, removal-told}
+use Rattle.vbv.proofs.After.{after-same}
+use Rattle.rate_control.specs.Writer.{writerFits}
+use Rattle.rate_control.specs.Offer.{Offer, position, content, end, firstDelay, deliveredAt, deliveredNext, stuffing, delay, tail, placedBytes}
+use Rattle.rate_control.specs.Steps.{startedAt, zeros, byDelay, byEnd, violated, bySize, byMost, withZeros, byLeast, byStart, extentOf, within14, measured}
+use Rattle.rate_control.specs.declared.CbrWriter.{CbrWriter}
+use Rattle.rate_control.specs.declared.CbrError.the-variants.{Model, Violation, Stuffing}
+use Rattle.rate_control.specs.declared.Extent.{Extent}
+use Rattle.rate_control.specs.declared.Placement.{Placement}
+use Rattle.rate_control.specs.declared.Judged.{Judged}
+use Rattle.rate_control.specs.declared.Judged.the-variants.{Refused, TooLarge, Ready}
+use Rattle.rate_control.proofs.Fitting.{writer-fits}
+use Rattle.rate_control.proofs.Placing.{delivered-later, delivered-first, placed-size}
+use Rattle.rate_control.proofs.Ways.{first-low}
+
+-- ---- chains
+
+-- a function of a choice
+pub through : {A B : Type 0} (f : A → B) (t : Bool) (a b : A) (c d : B) → f a ≡ c → (t ≡ false → f b ≡ d) → f (pick t a b) ≡ pick t c d
+unfolding pick
+through f true a b c d e h = e
+through f false a b c d e h = h refl
+
+pick-no : {A : Type 0} (t : Bool) (x : A) {y z : A} → (t ≡ false → y ≡ z) → pick t x y ≡ pick t x z
+unfolding pick
+pick-no true x h = refl
+pick-no false x h = h refl
+
+one : {A : Type 0} (t : Bool) (x y : A) → t ≡ true → pick t x y ≡ x
+unfolding pick
+one t x y h = rw h
+
+other : {A : Type 0} (t : Bool) (x y : A) → t ≡ false → pick t x y ≡ y
+unfolding pick
+other t x y h = rw h
+
+-- one of two numbers passes 2^48
+either : (a b : ℕ) → 281474976710656 < max a b → (ltb (2 ^ 48) a || ltb (2 ^ 48) b) ≡ true
+either a b h = go (ltb (2 ^ 48) a) refl
+  where
+    go : (t : Bool) → ltb (2 ^ 48) a ≡ t → (ltb (2 ^ 48) a || ltb (2 ^ 48) b) ≡ true
+    go true e = rw e
+    go false e = let l = ltb-false (2 ^ 48) a e in rw (e, lt-ltb (2 ^ 48) b (omega arith))
+
+neither : (a b : ℕ) → a ≤ 281474976710656 → b ≤ 281474976710656 → (ltb (2 ^ 48) a || ltb (2 ^ 48) b) ≡ false
+neither a b h g = rw (le-ltb (2 ^ 48) a h, le-ltb (2 ^ 48) b g)
+
+-- ---- the answer of the tests, in the offer's own quantities
+
+unfoldable pub placement : CbrWriter → Offer → Placement
+placement w o = record {
+  model = afterRemoval (w .model) (end w o) (deliveredNext w o);
+  «vbv_delay» = delay w o;
+  bytes = length (placedBytes w o);
+  «stuffing_bytes» = stuffing w o;
+}
+
+unfoldable pub told : CbrWriter → Offer → Judged
+told w o =
+    pick (ltb (2 ^ 48) (position w o) || ltb (2 ^ 48) (end w o)) (Refused (Model Range))
+    (pick (early (w .model .params) (position w o) (deliveredAt w o)) (Refused (Model Early))
+    (pick (overflows (w .model .params) (w .model .«prev_end_bits») (deliveredAt w o)) (Refused (Violation (Overflow (w .model .removed) 0 0)))
+    (pick (underflows (w .model .params) (content w o) (deliveredAt w o)) TooLarge
+    (pick (underflows (w .model .params) (end w o) (deliveredAt w o)) (Refused Stuffing)
+    (Ready (placement w o))))))
+
+-- ---- the model that the pending picture is removed from
+
+pub record Begun (w : CbrWriter) (o : Offer) (n : VbvCbrModel) : Type 0 where
+  pub fits : modelFits n ≡ true
+  pub is-started : n .started ≡ true
+  pub same-params : n .params ≡ w .model .params
+  pub same-end : n .«prev_end_bits» ≡ w .model .«prev_end_bits»
+  pub same-count : n .removed ≡ w .model .removed
+  pub delivered-is : delivered n ≡ deliveredAt w o
+
+pub record BegunAt (w : CbrWriter) (o : Offer) : Type 0 where
+  pub model : VbvCbrModel
+  pub started-is : startedAt (w .model) (position w o) ≡ md.Model model
+  pub begun : Begun w o model
+
+first-small : (p : VbvParams) → paramsFit p ≡ true → firstDelay p < 65536
+unfolding firstDelay
+first-small p f = first-low p (params-fit f)
+
+begin : (w : CbrWriter) (o : Offer) → writerFits w ≡ true → position w o ≤ 2 ^ 48 → BegunAt w o
+unfolding startedAt
+begin w o f h = go (w .model .started) refl
+  where
+    fitted : modelFits (w .model) ≡ true
+    fitted = writer-fits f .model-fits
+
+    go : (t : Bool) → w .model .started ≡ t → BegunAt w o
+    go true e =
+        record {
+          model = w .model;
+          started-is = one _ _ _ e;
+          begun = record { fits = fitted; is-started = e; same-params = refl; same-end = refl; same-count = refl; delivered-is = sym (delivered-later w o e) };
+        }
+    go false e =
+        let d = firstDelay (w .model .params) in
+        let s = starts (w .model) d (position w o) fitted e h in
+        let r = started (w .model) d (position w o) _ s in
+        record {
+          model = atDelivered (w .model) (firstDelivered (w .model .params) (position w o) d);
+          started-is = other _ _ _ e ∙ s;
+          begun =
+              record {
+                fits = r .fits (first-small (w .model .params) (fits-params (w .model) fitted));
+                is-started = r .is-started;
+                same-params = r .params-kept;
+                same-end = r .end-kept;
+                same-count = r .count-kept;
+                delivered-is = r .delivered-is ∙ sym (delivered-first w o e);
+              };
+        }
+
+-- ---- what it says to the picture
+
+-- the picture in the stream
+abbrev pub extent : CbrWriter → Offer → Extent
+extent w o = record { position = position w o; content = content w o; bytes = length (o .headers) + length (o .layer) + length (tail (o .last)) }
+
+extent-is : (w : CbrWriter) (o : Offer) → extentOf (w .model) (length (o .headers)) (length (o .layer)) (o .last) ≡ extent w o
+unfolding extentOf position content
+extent-is w o = refl
+
+end-same : (w : CbrWriter) (o : Offer) → content w o + 8 * stuffing w o ≡ end w o
+unfolding end
+end-same w o = refl
+
+-- the cases of each test
+module _ (m : VbvCbrModel) (x : Extent) (z : ℕ) (i : RemovalInterval) where
+  delay-case : (next : VbvCbrModel) (d : ℕ)
+      → byDelay next x z (dl.Delay d) ≡ Ready (record { model = next; «vbv_delay» = d; bytes = x .bytes + z; «stuffing_bytes» = z })
+  unfolding byDelay
+  delay-case next d = refl
+
+  end-violated : (v : VbvViolation) → byEnd m x z (rm.Violation v) ≡ Refused Stuffing
+  unfolding byEnd
+  end-violated v = refl
+
+  end-model : (next : VbvCbrModel) → byEnd m x z (rm.Model next) ≡ byDelay next x z (delayForPicture m (x .position))
+  unfolding byEnd
+  end-model next = refl
+
+  size-over : (k c e : ℕ) → bySize m x z i (rm.Violation (Overflow k c e)) ≡ Refused (Violation (Overflow k c e))
+  unfolding bySize violated
+  size-over k c e = refl
+
+  size-under : (k c e : ℕ) → bySize m x z i (rm.Violation (Underflow k c e)) ≡ TooLarge
+  unfolding bySize violated
+  size-under k c e = refl
+
+  size-model : (next : VbvCbrModel) → bySize m x z i (rm.Model next) ≡ byEnd m x z (removePicture m (x .content + 8 * z) i)
+  unfolding bySize
+  size-model next = refl
+
+  most-case : (most : ℕ) → byMost m x z i (bt.Bits most) ≡ pick (ltb most (x .position)) (Refused (Model Early)) (bySize m x z i (removePicture m (x .content) i))
+  unfolding byMost
+  most-case most = refl
+
+module _ (w : CbrWriter) (o : Offer) (f : writerFits w ≡ true) (n : VbvCbrModel) (b : Begun w o n) where
+  abbrev p : VbvParams
+  p = w .model .params
+
+  abbrev x : Extent
+  x = extent w o
+
+  params-fits : paramsFit (w .model .params) ≡ true
+  params-fits = fits-params (w .model) (writer-fits f .model-fits)
+
+  next-same : nextDelivered n (o .interval) ≡ deliveredNext w o
+  unfolding deliveredNext
+  next-same = next-told n (o .interval) ∙ rw (b .delivered-is, b .same-params)
+
+  pub least-told : minEndBits n (o .interval) ≡ bt.Bits (leastEnd p (deliveredNext w o))
+  least-told = min-end n (b .fits) (b .is-started) (o .interval) ∙ rw (next-same, b .same-params)
+
+  most-told : maxEndBits n ≡ bt.Bits (greatestEnd p (deliveredAt w o))
+  most-told = max-end n (b .fits) (b .is-started) ∙ rw (b .delivered-is, b .same-params)
+
+  ends : (e : ℕ) → w .model .«prev_end_bits» ≤ e → e ≤ 2 ^ 48 → EndFits n e
+  ends e l h =
+      let v = writer-fits f in
+      let g = model-fits (v .model-fits) in
+      record { end-far = h; end-low = omega (arith, b .same-end); count = omega (arith, b .same-count, v .few, g .end-high) }
+
+  removal : (e : ℕ) → w .model .«prev_end_bits» ≤ e → e ≤ 2 ^ 48
+      → removePicture n e (o .interval)
+      ≡ pick (overflows p (w .model .«prev_end_bits») (deliveredAt w o)) (rm.Violation (Overflow (w .model .removed) 0 0))
+      (pick (underflows p e (deliveredAt w o)) (rm.Violation (Underflow (w .model .removed) 0 0))
+      (rm.Model (afterRemoval (w .model) e (deliveredNext w o))))
+  removal e l h =
+      removal-told n (b .fits) (b .is-started) e (o .interval) (ends e l h)
+      ∙ rw (next-same, after-same (w .model) n e (deliveredNext w o) (b .same-params) (b .same-count), b .delivered-is, b .same-end, b .same-count, b .same-params)
+
+  sizes : x .bytes + stuffing w o ≡ length (placedBytes w o)
+  sizes = omega (arith, placed-size w o)
+
+  before : w .model .«prev_end_bits» ≤ position w o
+  unfolding position
+  before = omega arith
+
+  inside : w .model .«prev_end_bits» ≤ content w o
+  unfolding content
+  inside = omega arith
+
+  -- in time and no overflow: the delay can be told
+  ready-told : position w o ≤ 2 ^ 48 → early p (position w o) (deliveredAt w o) ≡ false
+      → overflows p (w .model .«prev_end_bits») (deliveredAt w o) ≡ false
+      → byDelay (afterRemoval (w .model) (end w o) (deliveredNext w o)) x (stuffing w o) (delayForPicture n (position w o)) ≡ Ready (placement w o)
+  unfolding placement delay
+  ready-told h t g =
+      let e : early (n .params) (position w o) (delivered n) ≡ false = rw (b .delivered-is, b .same-params) t in
+      let l = delay-most p params-fits (w .model .«prev_end_bits») (position w o) (deliveredAt w o) g before in
+      let k : expectedDelay (n .params) (position w o) (delivered n) ≤ 65534 = rw (b .delivered-is, b .same-params) l in
+      rw (delays n (position w o) (b .fits) (b .is-started) h e k, b .delivered-is, b .same-params)
+      (delay-case n x (stuffing w o) (o .interval) _ _ ∙ rw sizes)
+
+  module _ (near : position w o ≤ 2 ^ 48) (far : end w o ≤ 2 ^ 48) where
+    end-told : early p (position w o) (deliveredAt w o) ≡ false → overflows p (w .model .«prev_end_bits») (deliveredAt w o) ≡ false
+        → byEnd n x (stuffing w o) (removePicture n (end w o) (o .interval))
+        ≡ pick (underflows p (end w o) (deliveredAt w o)) (Refused Stuffing) (Ready (placement w o))
+    end-told t g =
+        let i = o .interval in
+        ap (byEnd n x (stuffing w o)) (removal (end w o) (omega (arith, inside, end-same w o)) far ∙ other _ _ _ g)
+        ∙ through (byEnd n x (stuffing w o)) _ _ _ _ _ (end-violated n x (stuffing w o) i _)
+        (λ h22. end-model n x (stuffing w o) i _ ∙ ready-told near t g)
+
+    size-told : early p (position w o) (deliveredAt w o) ≡ false
+        → bySize n x (stuffing w o) (o .interval) (removePicture n (content w o) (o .interval))
+        ≡ pick (overflows p (w .model .«prev_end_bits») (deliveredAt w o)) (Refused (Violation (Overflow (w .model .removed) 0 0)))
+        (pick (underflows p (content w o) (deliveredAt w o)) TooLarge
+        (pick (underflows p (end w o) (deliveredAt w o)) (Refused Stuffing) (Ready (placement w o))))
+    size-told t =
+        let i = o .interval in
+        let z = stuffing w o in
+        ap (bySize n x z i) (removal (content w o) inside (omega (arith, end-same w o)))
+        ∙ through (bySize n x z i) _ _ _ _ _ (size-over n x z i _ _ _)
+        (λ h9. through (bySize n x z i) _ _ _ _ _ (size-under n x z i _ _ _)
+        (λ size. size-model n x z i _ ∙ rw (end-same w o) (end-told t h9)))
+
+    pub position-told : byMost n x (stuffing w o) (o .interval) (maxEndBits n) ≡ told w o
+    unfolding told
+    position-told =
+        rw most-told
+        (most-case n x (stuffing w o) (o .interval) _
+        ∙ rw (← early-is p params-fits (position w o) (deliveredAt w o))
+        (pick-no _ _ (λ h7. size-told h7) ∙ sym (other _ _ _ (neither (position w o) (end w o) near far))))
+
+-- ---- 14
+
+module _ (w : CbrWriter) (o : Offer) where
+  far-told : 281474976710656 < max (position w o) (end w o) → Refused (Model Range) ≡ told w o
+  unfolding told
+  far-told h = sym (one _ _ _ (either (position w o) (end w o) h))
+
+  module _ (f : writerFits w ≡ true) where
+    zeros-told : (n : VbvCbrModel) → Begun w o n → position w o ≤ 2 ^ 48 → withZeros n (extent w o) (o .interval) (stuffing w o) ≡ told w o
+    unfolding withZeros
+    zeros-told n b near = go (ltb (2 ^ 45) (stuffing w o)) refl
+      where
+        near-end : (t : Bool) → ltb (2 ^ 48) (content w o + 8 * stuffing w o) ≡ t
+            → pick (ltb (2 ^ 48) (content w o + 8 * stuffing w o)) (Refused (Model Range)) (byMost n (extent w o) (stuffing w o) (o .interval) (maxEndBits n))
+            ≡ told w o
+        near-end true e = let l = ltb-true (2 ^ 48) (content w o + 8 * stuffing w o) e in one _ _ _ e ∙ far-told (omega (arith, end-same w o))
+        near-end false e =
+            let l = ltb-false (2 ^ 48) (content w o + 8 * stuffing w o) e in
+            other _ _ _ e ∙ position-told w o f n b near (omega (arith, end-same w o))
+
+        go : (t : Bool) → ltb (2 ^ 45) (stuffing w o) ≡ t → withZeros n (extent w o) (o .interval) (stuffing w o) ≡ told w o
+        go true e = let l = ltb-true (2 ^ 45) (stuffing w o) e in one _ _ _ e ∙ far-told (omega (arith, end-same w o))
+        go false e = other _ _ _ e ∙ near-end (ltb (2 ^ 48) (content w o + 8 * stuffing w o)) refl
+
+    start-told : position w o ≤ 2 ^ 48
+        → byStart (extent w o) (o .interval) (o .last) (startedAt (w .model) (position w o)) ≡ told w o
+    unfolding byStart byLeast zeros stuffing
+    start-told near =
+        let g = begin w o f near in
+        rw (g .started-is, least-told w o f (g .model) (g .begun)) (zeros-told (g .model) (g .begun) near)
+
+    bytes-far : 35184372088832 < max (length (o .headers)) (length (o .layer)) → 281474976710656 < max (position w o) (end w o)
+    unfolding position content
+    bytes-far h = omega (arith, end-same w o)
+
+    pub measured-is : measured (w .model) (length (o .headers)) (length (o .layer)) (o .interval) (o .last) ≡ told w o
+    unfolding measured within14
+    measured-is = rw (extent-is w o) (go (ltb (2 ^ 45) (max (length (o .headers)) (length (o .layer)))) refl)
+      where
+        near : (t : Bool) → ltb (2 ^ 48) (max (position w o) (content w o)) ≡ t
+            → pick (ltb (2 ^ 48) (max (position w o) (content w o))) (Refused (Model Range))
+            (byStart (extent w o) (o .interval) (o .last) (startedAt (w .model) (position w o)))
+            ≡ told w o
+        near true e = let l = ltb-true (2 ^ 48) (max (position w o) (content w o)) e in one _ _ _ e ∙ far-told (omega (arith, end-same w o))
+        near false e = let l = ltb-false (2 ^ 48) (max (position w o) (content w o)) e in other _ _ _ e ∙ start-told (omega arith)
+
+        go : (t : Bool) → ltb (2 ^ 45) (max (length (o .headers)) (length (o .layer))) ≡ t
+            → pick (ltb (2 ^ 45) (max (length (o .headers)) (length (o .layer)))) (Refused (Model Range))
+            (pick (ltb (2 ^ 48) (max (position w o) (content w o))) (Refused (Model Range))
+            (byStart (extent w o) (o .interval) (o .last) (startedAt (w .model) (position w o))))
+            ≡ told w o
+        go true e = one _ _ _ e ∙ far-told (bytes-far (ltb-true _ _ e))
+        go false e = other _ _ _ e ∙ near (ltb (2 ^ 48) (max (position w o) (content w o))) refl

@@ -1,0 +1,233 @@
+-- The ways through an offer: each with its answer, and with what the output part then holds.
+-- Assumes nothing.
+use mathlib.Core.Path.{_≡_, refl, sym, ap, _∙_}
+use mathlib.Core.Bool.{Bool, true, false, not, _||_}
+use mathlib.Core.List.{List, [], _∷_, _++_}
+use Prim.Native.Nat.{ℕ, zero, suc, _+_, _^_, _≤_, _<_}
+use native.Mathlib.Omega.{arith}
+use lib.Dec.{leb, ltb, eqb}
+use lib.ListN.{length, getD, replicate}
+use borrow.Author.Tests.{leb-true, lt-ltb, le-ltb, ltb-false, not-false}
+use Rattle.bits.specs.Bits.{pick}
+use Rattle.bits.specs.Answers.{over}
+use Rattle.bits.proofs.Reading.{both-true}
+use Rattle.vbv.specs.Fits.{ModelFits}
+use Rattle.vbv.specs.Patch.{patched}
+use Rattle.vbv.specs.declared.RemovalInterval.{RemovalInterval}
+use Rattle.vbv.specs.declared.VbvError.the-variants.{Params}
+use Rattle.vbv.proofs.Fitting.{model-fits}
+use Rattle.vbv.proofs.Picks.{yes, no, was-no}
+use Rattle.layers.specs.declared.PictureKind.{PictureKind}
+use Rattle.layers.specs.Headers.{headersFit}
+use Rattle.layers.specs.Layer.{layerFits}
+use Rattle.rate_control.specs.Writer.{writerFits, every, index, of, clashes, asked}
+use Rattle.rate_control.specs.Offer.{Offer, position, content, end, stuffing, tail, placedBytes, refused, tooLarge, placed, offer, outOf, outAfter}
+use Rattle.rate_control.specs.Steps.{measured, judged, Placeable, placedBy}
+use Rattle.rate_control.specs.declared.CbrWriter.{CbrWriter}
+use Rattle.rate_control.specs.declared.CbrError.{CbrError}
+use Rattle.rate_control.specs.declared.CbrError.the-variants.{Model, Kind, Headers, Layer, Output}
+use Rattle.rate_control.specs.declared.CbrOffered.{CbrOffered}
+use Rattle.rate_control.specs.declared.Placement.{Placement}
+use Rattle.rate_control.specs.declared.Judged.{Judged}
+use Rattle.rate_control.specs.declared.Judged.the-variants.{Refused, TooLarge, Ready}
+use Rattle.rate_control.proofs.Fitting.{writer-fits}
+use Rattle.rate_control.proofs.Placing.{placed-size}
+use Rattle.rate_control.proofs.Judging.{through, placement, told, measured-is}
+
+-- ---- the tests
+
+pub model-of : (w : CbrWriter) (f : Bool) → f ≡ writerFits w → f ≡ true → ModelFits (w .model)
+model-of w f e h = model-fits (writer-fits (sym e ∙ h) .model-fits)
+
+module _ (w : CbrWriter) (headers : List ℕ) (k : PictureKind) (i : RemovalInterval) (last : Bool) (layer : List ℕ) (f : Bool) (e : f ≡ writerFits w) where
+  pub way-unfit : f ≡ false → Refused (Model Params) ≡ judged w headers k i last layer
+  unfolding judged
+  way-unfit h = yes _ _ _ (rw (← e, h)) refl
+
+  module _ (h : f ≡ true) (c : Bool) (q : c ≡ clashes (w .pending) k) where
+    fine : not (writerFits w) ≡ false
+    fine = rw (← e, h)
+
+    pub way-17 : (w .finished || c) ≡ true → Refused Kind ≡ judged w headers k i last layer
+    unfolding judged
+    way-17 g = no _ _ _ fine (yes _ _ _ (rw (← q) g) refl)
+
+    module _ (g : (w .finished || c) ≡ false) (t : Bool) (a : t ≡ headersFit (w .model .params) (w .model .started) headers) where
+      pub way-18 : t ≡ false → Refused Headers ≡ judged w headers k i last layer
+      unfolding judged
+      way-18 l = no _ _ _ fine (no _ _ _ (rw (← q) g) (yes _ _ _ (rw (← a, l)) refl))
+
+      module _ (l : t ≡ true) (u : Bool) (b : u ≡ layerFits k i layer) where
+        pub way-20 : u ≡ false → Refused Layer ≡ judged w headers k i last layer
+        unfolding judged
+        way-20 r = no _ _ _ fine (no _ _ _ (rw (← q) g) (no _ _ _ (rw (← a, l)) (yes _ _ _ (rw (← b, r)) refl)))
+
+        pub way-on : (j : Judged) → u ≡ true → j ≡ measured (w .model) (length headers) (length layer) i last → j ≡ judged w headers k i last layer
+        unfolding judged
+        way-on j r v = no _ _ _ fine (no _ _ _ (rw (← q) g) (no _ _ _ (rw (← a, l)) (no _ _ _ (rw (← b, r)) v)))
+
+-- ---- the answer of the tests
+
+-- what they are for an offer
+abbrev pub judgedFor : CbrWriter → Offer → Judged
+judgedFor w o = judged w (o .headers) (o .kind) (o .interval) (o .last) (o .layer)
+
+unfoldable answered : CbrWriter → Offer → Judged → CbrOffered
+answered w o (Refused e) = refused w e
+answered w o TooLarge = tooLarge w (o .kind) (asked w (o .kind))
+answered w o (Ready p) =
+    pick (ltb (length (o .out)) (p .bytes)) (refused w Output) (placedBy w (o .kind) (length (o .layer)) (o .last) p)
+
+module _ (w : CbrWriter) (o : Offer) where
+  answered-no : (e : CbrError) → answered w o (Refused e) ≡ refused w e
+  unfolding answered
+  answered-no e = refl
+
+  answered-large : answered w o TooLarge ≡ tooLarge w (o .kind) (asked w (o .kind))
+  unfolding answered
+  answered-large = refl
+
+  placed-by : placedBy w (o .kind) (length (o .layer)) (o .last) (placement w o) ≡ placed w o (asked w (o .kind))
+  unfolding placement placedBy placed
+  placed-by = refl
+
+  answered-ready : answered w o (Ready (placement w o))
+      ≡ pick (ltb (length (o .out)) (length (placedBytes w o))) (refused w Output) (placed w o (asked w (o .kind)))
+  unfolding answered placement
+  answered-ready = ap (pick (ltb (length (o .out)) (length (placedBytes w o))) (refused w Output)) placed-by
+
+  offer-is : answered w o (judgedFor w o) ≡ offer w o
+  unfolding judged offer told
+  offer-is =
+      let a = answered w o in
+      through a _ _ _ _ _ (answered-no _) λ h12.
+      through a _ _ _ _ _ (answered-no _) λ h17.
+      through a _ _ _ _ _ (answered-no _) λ h18.
+      through a _ _ _ _ _ (answered-no _) λ h20.
+      ap a (measured-is w o (not-false _ h12)) ∙
+      (through a _ _ _ _ _ (answered-no _) λ h14.
+      through a _ _ _ _ _ (answered-no _) λ h7.
+      through a _ _ _ _ _ (answered-no _) λ h9.
+      through a _ _ _ _ _ answered-large λ size.
+      through a _ _ _ _ _ (answered-no _) λ h22.
+      answered-ready)
+
+-- ---- a picture to place
+
+not-ready : {e : CbrError} {p : Placement} → Refused e ≡ Ready p → ⊥
+not-ready h = let z : _≡_ {A = ℕ} 0 1 = cc in omega arith
+
+large-ready : {p : Placement} → TooLarge ≡ Ready p → ⊥
+large-ready h = let z : _≡_ {A = ℕ} 0 1 = cc in omega arith
+
+or-right : (a b : Bool) → (a || b) ≡ false → b ≡ false
+or-right true b e = cc
+or-right false b e = e
+
+record Readied (w : CbrWriter) (o : Offer) (p : Placement) : Type 0 where
+  fitted : writerFits w ≡ true
+  end-far : end w o ≤ 2 ^ 48
+  is : p ≡ placement w o
+
+readied : (w : CbrWriter) (o : Offer) (p : Placement) → judgedFor w o ≡ Ready p → Readied w o p
+unfolding judged told
+readied w o p h =
+    let a = was-no _ _ _ not-ready h in
+    let b = was-no _ _ _ not-ready (a .1) in
+    let c = was-no _ _ _ not-ready (b .1) in
+    let d = was-no _ _ _ not-ready (c .1) in
+    let f = not-false _ (a .0) in
+    let e14 = was-no _ _ _ not-ready (sym (measured-is w o f) ∙ d .1) in
+    let e7 = was-no _ _ _ not-ready (e14 .1) in
+    let e9 = was-no _ _ _ not-ready (e7 .1) in
+    let size = was-no _ _ _ large-ready (e9 .1) in
+    let e22 = was-no _ _ _ not-ready (size .1) in
+    record {
+      fitted = f;
+      end-far = ltb-false (2 ^ 48) (end w o) (or-right (ltb (2 ^ 48) (position w o)) _ (e14 .0));
+      is = ready-same _ _ (sym (e22 .1));
+    }
+  where
+    ready-same : (x y : Placement) → Ready x ≡ Ready y → x ≡ y
+    ready-same x y e = cc
+
+every-get : (f : ℕ → Bool) (xs : List ℕ) (i : ℕ) → f 0 ≡ true → every f xs ≡ true → f (getD xs i 0) ≡ true
+unfolding every
+every-get f [] i z h = z
+every-get f (x ∷ xs) zero z h = both-true (f x) (every f xs) h .0
+every-get f (x ∷ xs) (suc i) z h = every-get f xs i z (both-true (f x) (every f xs) h .1)
+
+module _ (w : CbrWriter) (o : Offer) (j : Judged) (e : j ≡ judgedFor w o) (p : Placement) (h : j ≡ Ready p) where
+  ready : Readied w o p
+  ready = readied w o p (sym e ∙ h)
+
+  pub bytes-are : p .bytes ≡ length (o .headers) + length (o .layer) + p .«stuffing_bytes» + length (tail (o .last))
+  unfolding placement
+  bytes-are = rw (ready .is) (placed-size w o)
+
+  pub placeable : Placeable w (o .kind) (length (o .layer)) p
+  unfolding of end content placement
+  placeable =
+      let r = ready in
+      let v = writer-fits (r .fitted) in
+      let m = model-fits (v .model-fits) in
+      let s : p .«stuffing_bytes» ≡ stuffing w o = ap (λ (x : Placement). x .«stuffing_bytes») (r .is) in
+      record {
+        layer-far = omega (arith, r .end-far);
+        target-far = leb-true _ _ (every-get (λ t. leb t (2 ^ 48)) (w .«target_bits») (index (o .kind)) refl (v .targets));
+        total-far = omega (arith, r .end-far, v .stuffed, m .end-high);
+      }
+
+  offered : offer w o ≡ pick (ltb (length (o .out)) (p .bytes)) (refused w Output) (placedBy w (o .kind) (length (o .layer)) (o .last) p)
+  unfolding answered
+  offered = sym (offer-is w o) ∙ rw (← e, h)
+
+-- ---- the output part
+
+out-refused : (w : CbrWriter) (o : Offer) (e : CbrError) → offer w o ≡ refused w e → o .out ≡ outAfter w o
+unfolding outAfter refused outOf
+out-refused w o e h = rw h
+
+out-large : (w : CbrWriter) (o : Offer) (k : PictureKind) (q : ℕ) → offer w o ≡ tooLarge w k q → o .out ≡ outAfter w o
+unfolding outAfter tooLarge outOf pick
+out-large w o k q h = go (eqb q 31) refl
+  where
+    go : (t : Bool) → eqb q 31 ≡ t → o .out ≡ outAfter w o
+    go true e = rw (h, e)
+    go false e = rw (h, e)
+
+out-placed : (w : CbrWriter) (o : Offer) (q : ℕ) → offer w o ≡ placed w o q → over (placedBytes w o) (o .out) ≡ outAfter w o
+unfolding outAfter placed outOf
+out-placed w o q h = rw h
+
+-- ---- the ways
+
+module _ (w : CbrWriter) (o : Offer) (j : Judged) (e : j ≡ judgedFor w o) (r : CbrOffered) where
+  pub offer-refused : (error : CbrError) → j ≡ Refused error → r ≡ refused w error → (r ≡ offer w o) × (o .out ≡ outAfter w o)
+  unfolding answered
+  offer-refused error h g =
+      let a : offer w o ≡ refused w error = sym (offer-is w o) ∙ rw (← e, h) in
+      (g ∙ sym a, out-refused w o error a)
+
+  pub offer-large : j ≡ TooLarge → r ≡ tooLarge w (o .kind) (asked w (o .kind)) → (r ≡ offer w o) × (o .out ≡ outAfter w o)
+  unfolding answered
+  offer-large h g =
+      let a : offer w o ≡ tooLarge w (o .kind) (asked w (o .kind)) = sym (offer-is w o) ∙ rw (← e, h) in
+      (g ∙ sym a, out-large w o _ _ a)
+
+  module _ (p : Placement) (h : j ≡ Ready p) where
+    pub offer-short : length (o .out) < p .bytes → r ≡ refused w Output → (r ≡ offer w o) × (o .out ≡ outAfter w o)
+    unfolding pick
+    offer-short l g =
+        let a : offer w o ≡ refused w Output = offered w o j e p h ∙ rw (lt-ltb _ _ l) in
+        (g ∙ sym a, out-refused w o Output a)
+
+    pub offer-placed : (x : List ℕ) → p .bytes ≤ length (o .out) → r ≡ placedBy w (o .kind) (length (o .layer)) (o .last) p
+        → x ≡ over (o .headers ++ (patched (o .layer) (p .«vbv_delay») ++ (replicate (p .«stuffing_bytes») 0 ++ tail (o .last)))) (o .out)
+        → (r ≡ offer w o) × (x ≡ outAfter w o)
+    unfolding pick placement placedBytes
+    offer-placed x l g k =
+        let s = ready w o j e p h .is in
+        let a : offer w o ≡ placedBy w (o .kind) (length (o .layer)) (o .last) p = offered w o j e p h ∙ rw (le-ltb _ _ l) in
+        let b : offer w o ≡ placed w o (asked w (o .kind)) = a ∙ rw s (placed-by w o) in
+        (g ∙ sym a, k ∙ rw s (out-placed w o _ b))

@@ -1,0 +1,107 @@
+-- The numbers of a placing: bits delivered, stuffing, end and delay, by Annex C's laws.
+-- Assumes nothing.
+use mathlib.Core.Path.{_≡_, sym, _∙_}
+use mathlib.Core.Bool.{Bool, true, false}
+use mathlib.Core.List.{List, _++_}
+use mathlib.Core.Logic.{_↔_}
+use Prim.Native.Nat.{ℕ, _+_, _*_, _≤_}
+use native.Mathlib.Omega.{arith}
+use lib.ListN.{length, length-append, length-replicate, replicate}
+use borrow.Author.Tests.{ltb-false, le-ltb}
+use Rattle.bits.specs.Bits.{pick}
+use Rattle.vbv.specs.Annex.{unit, firstDelivered, overflows, leastEnd}
+use Rattle.vbv.specs.Model.{paramsFit, delivered}
+use Rattle.vbv.specs.Patch.{patched}
+use Rattle.vbv.specs.declared.VbvParams.{VbvParams}
+use Rattle.vbv.proofs.Laws.{over-units, units-over, least-end, delay-most, first-delay, fits-params}
+use Rattle.vbv.proofs.After.{patched-size}
+use Rattle.rate_control.specs.Offer.{Offer, position, content, end, firstDelay, deliveredAt, deliveredNext, stuffing, delay, tail, placedBytes}
+use Rattle.rate_control.specs.declared.CbrWriter.{CbrWriter}
+use Rattle.rate_control.proofs.Fitting.{writer-fits}
+use Rattle.rate_control.proofs.Chain.{Placing}
+
+-- the other of two, below a bound
+other-le : (b : Bool) (x y k : ℕ) → b ≡ false → pick b x y ≤ k → y ≤ k
+unfolding pick
+other-le b x y k e h = rw e at (h)
+
+le-other : (b : Bool) (x y k : ℕ) → b ≡ false → y ≤ k → pick b x y ≤ k
+unfolding pick
+le-other b x y k e h = rw e h
+
+module _ (w : CbrWriter) (o : Offer) where
+  -- ---- bits delivered
+
+  pub delivered-later : w .model .started ≡ true → deliveredAt w o ≡ delivered (w .model)
+  unfolding deliveredAt pick
+  delivered-later e = rw e
+
+  pub delivered-first : w .model .started ≡ false
+      → deliveredAt w o ≡ firstDelivered (w .model .params) (position w o) (firstDelay (w .model .params))
+  unfolding deliveredAt pick
+  delivered-first e = rw e
+
+  -- ---- sizes
+
+  pub placed-size : length (placedBytes w o) ≡ length (o .headers) + length (o .layer) + stuffing w o + length (tail (o .last))
+  unfolding placedBytes
+  placed-size =
+      let l : List ℕ = patched (o .layer) (delay w o) in
+      let z : List ℕ = replicate (stuffing w o) 0 in
+      let a : length (placedBytes w o) ≡ length (o .headers) + length (l ++ (z ++ tail (o .last))) = length-append (o .headers) (l ++ (z ++ tail (o .last))) in
+      let b = length-append l (z ++ tail (o .last)) in
+      let c = length-append z (tail (o .last)) in
+      omega (arith, patched-size (o .layer) (delay w o), length-replicate {A = ℕ} (stuffing w o) 0)
+
+  pub end-is : end w o ≡ w .model .«prev_end_bits» + 8 * length (placedBytes w o)
+  unfolding end content
+  end-is = omega (arith, placed-size)
+
+  -- ---- stuffing
+
+  pub stuffing-last : o .last ≡ true → stuffing w o ≡ 0
+  unfolding stuffing pick
+  stuffing-last e = rw e
+
+  module _ (f : paramsFit (w .model .params) ≡ true) (e : o .last ≡ false) where
+    abbrev p : VbvParams
+    p = w .model .params
+
+    -- so many zero bytes, and no fewer, keep the next removal from overflow
+    pub stuffing-least : (k : ℕ) → (stuffing w o ≤ k) ↔ (deliveredNext w o ≤ (content w o + 8 * k + p .«buffer_size_bits») * unit p)
+    unfolding stuffing
+    stuffing-least k = (there, back)
+      where
+        there : stuffing w o ≤ k → deliveredNext w o ≤ (content w o + 8 * k + p .«buffer_size_bits») * unit p
+        there a =
+            let b = other-le (o .last) _ _ k e a in
+            let l : leastEnd p (deliveredNext w o) ≤ content w o + 8 * k = omega arith in
+            over-units p _ _ (least-end p f (content w o + 8 * k) (deliveredNext w o) ∙ le-ltb _ _ l)
+
+        back : deliveredNext w o ≤ (content w o + 8 * k + p .«buffer_size_bits») * unit p → stuffing w o ≤ k
+        back a =
+            let l : leastEnd p (deliveredNext w o) ≤ content w o + 8 * k
+            = ltb-false _ _ (sym (least-end p f (content w o + 8 * k) (deliveredNext w o)) ∙ units-over p _ _ a) in
+            le-other (o .last) _ _ k e (omega arith)
+
+    pub next-room : overflows p (end w o) (deliveredNext w o) ≡ false
+    unfolding end
+    next-room = units-over p _ _ (stuffing-least (stuffing w o) .0 (omega arith))
+
+-- ---- the delay
+
+module _ (w : CbrWriter) (o : Offer) (g : Placing w o) where
+  pub params-fitted : paramsFit (w .model .params) ≡ true
+  params-fitted = fits-params (w .model) (writer-fits (g .fitted) .model-fits)
+
+  pub delay-told : delay w o ≤ 65534
+  unfolding delay position
+  delay-told = delay-most (w .model .params) params-fitted (w .model .«prev_end_bits») (position w o) (deliveredAt w o) (g .no-overflow) (omega arith)
+
+  -- what is delivered at the first removal is what the first position and delay say
+  pub delivered-told : w .model .started ≡ false → deliveredAt w o ≡ firstDelivered (w .model .params) (position w o) (delay w o)
+  unfolding delay
+  delivered-told e =
+      let d = delivered-first w o e in
+      let x : delay w o ≡ firstDelay (w .model .params) = rw d (first-delay (w .model .params) params-fitted (position w o) (firstDelay (w .model .params))) in
+      rw x d

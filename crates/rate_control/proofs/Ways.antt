@@ -1,0 +1,178 @@
+-- The ways through the tests of an offer, by what the model answers.
+-- Assumes nothing.
+use mathlib.Core.Path.{_≡_, _∙_}
+use mathlib.Core.Bool.{Bool, true, false}
+use Prim.Native.Nat.{ℕ, _+_, _-_, _*_, _/_, _^_, _≤_, _<_, max}
+use native.Mathlib.Omega.{arith}
+use native.Mathlib.Nat.{div-lt-iff-lt-mul}
+use lib.ListN.{length}
+use borrow.Author.Tests.{lt-ltb, le-ltb}
+use Rattle.bits.specs.Bits.{pick}
+use Rattle.vbv.specs.Fits.{ParamsFit}
+use Rattle.vbv.specs.Model.{startModel, delayForPicture, removePicture, maxEndBits, minEndBits}
+use Rattle.vbv.specs.declared.RemovalInterval.{RemovalInterval}
+use Rattle.vbv.specs.declared.VbvParams.{VbvParams}
+use Rattle.vbv.specs.declared.VbvCbrModel.{VbvCbrModel}
+use Rattle.vbv.specs.declared.VbvError.{VbvError}
+use Rattle.vbv.specs.declared.VbvError.the-variants.{Early, Range}
+use Rattle.vbv.specs.declared.VbvViolation.{VbvViolation}
+use Rattle.vbv.specs.declared.VbvViolation.the-variants.{Overflow, Underflow, DelayMismatch}
+use Rattle.vbv.specs.declared.VbvModel.{VbvModel}
+use Rattle.vbv.specs.declared.VbvModel.the-variants as md
+use Rattle.vbv.specs.declared.VbvRemoval.{VbvRemoval}
+use Rattle.vbv.specs.declared.VbvRemoval.the-variants as rm
+use Rattle.vbv.specs.declared.VbvDelay.{VbvDelay}
+use Rattle.vbv.specs.declared.VbvDelay.the-variants as dl
+use Rattle.vbv.specs.declared.VbvBits.{VbvBits}
+use Rattle.vbv.specs.declared.VbvBits.the-variants as bt
+use Rattle.scan.proofs.Laid.{ending-is}
+use Rattle.rate_control.specs.Offer.{firstDelay, tail}
+use Rattle.rate_control.specs.Steps.{startedAt, zeros, byDelay, byEnd, violated, bySize, byMost, withZeros, byLeast, byStart, extentOf, within14, measured}
+use Rattle.rate_control.specs.declared.CbrError.the-variants.{Model, Violation, Stuffing}
+use Rattle.rate_control.specs.declared.Extent.{Extent}
+use Rattle.rate_control.specs.declared.Judged.{Judged}
+use Rattle.rate_control.specs.declared.Judged.the-variants.{Refused, TooLarge, Ready}
+
+-- ---- the first delay
+
+pub first-low : (p : VbvParams) → ParamsFit p → 90000 * p .«buffer_size_bits» * 3 / (4 * p .«bit_rate») < 65536
+first-low p f =
+    div-lt-iff-lt-mul {k = 4 * p .«bit_rate»} {x = 90000 * p .«buffer_size_bits» * 3} {y = 65536} (omega arith) .1 (omega arith)
+
+module _ (m : VbvCbrModel) (position : ℕ) where
+  pub start-kept : m .started ≡ true → md.Model m ≡ startedAt m position
+  unfolding startedAt pick
+  start-kept h = rw h
+
+  pub start-new : (d : ℕ) (r : VbvModel) → m .started ≡ false → d ≡ firstDelay (m .params) → r ≡ startModel m d position → r ≡ startedAt m position
+  unfolding startedAt pick
+  start-new d r h e g = g ∙ rw (h, e)
+
+-- ---- stuffing
+
+module _ (least content : ℕ) (last : Bool) where
+  pub zeros-last : last ≡ true → 0 ≡ zeros least content last
+  unfolding zeros pick
+  zeros-last h = rw h
+
+  pub zeros-to : (r : ℕ) → last ≡ false → r ≡ (least - content + 7) / 8 → r ≡ zeros least content last
+  unfolding zeros pick
+  zeros-to r h e = rw h e
+
+-- ---- the delay
+
+module _ (next : VbvCbrModel) (x : Extent) (z : ℕ) (r v : VbvDelay) (e : r ≡ v) where
+  pub delay-no : (error : VbvError) → r ≡ dl.Refused error → Refused (Model error) ≡ byDelay next x z v
+  unfolding byDelay
+  delay-no error h = rw (← e, h)
+
+  pub delay-yes : (d : ℕ) → r ≡ dl.Delay d
+      → Ready (record { model = next; «vbv_delay» = d; bytes = x .bytes + z; «stuffing_bytes» = z }) ≡ byDelay next x z v
+  unfolding byDelay
+  delay-yes d h = rw (← e, h)
+
+-- ---- the stuffed end
+
+module _ (m : VbvCbrModel) (x : Extent) (z : ℕ) (r v : VbvRemoval) (e : r ≡ v) where
+  pub end-no : (error : VbvError) → r ≡ rm.Refused error → Refused (Model error) ≡ byEnd m x z v
+  unfolding byEnd
+  end-no error h = rw (← e, h)
+
+  pub end-under : (w : VbvViolation) → r ≡ rm.Violation w → Refused Stuffing ≡ byEnd m x z v
+  unfolding byEnd
+  end-under w h = rw (← e, h)
+
+  pub end-yes : (next : VbvCbrModel) (j : Judged) → r ≡ rm.Model next → j ≡ byDelay next x z (delayForPicture m (x .position)) → j ≡ byEnd m x z v
+  unfolding byEnd
+  end-yes next j h g = g ∙ rw (← e, h)
+
+-- ---- position and size
+
+pub violated-over : (v : VbvViolation) (n c d : ℕ) → v ≡ Overflow n c d → Refused (Violation v) ≡ violated v
+unfolding violated
+violated-over v n c d e = rw e
+
+pub violated-under : (v : VbvViolation) (n c d : ℕ) → v ≡ Underflow n c d → TooLarge ≡ violated v
+unfolding violated
+violated-under v n c d e = rw e
+
+pub violated-delay : (v : VbvViolation) (n c d : ℕ) → v ≡ DelayMismatch n c d → Refused (Violation v) ≡ violated v
+unfolding violated
+violated-delay v n c d e = rw e
+
+module _ (m : VbvCbrModel) (x : Extent) (z : ℕ) (i : RemovalInterval) (r v : VbvBits) (e : r ≡ v) where
+  pub most-no : (error : VbvError) → r ≡ bt.Refused error → Refused (Model error) ≡ byMost m x z i v
+  unfolding byMost
+  most-no error h = rw (← e, h)
+
+  module _ (most : ℕ) (h : r ≡ bt.Bits most) where
+    pub most-early : most < x .position → Refused (Model Early) ≡ byMost m x z i v
+    unfolding byMost pick
+    most-early g = rw (← e, h, lt-ltb _ _ g)
+
+    module _ (g : x .position ≤ most) (s : VbvRemoval) (k : s ≡ removePicture m (x .content) i) where
+      pub size-no : (error : VbvError) → s ≡ rm.Refused error → Refused (Model error) ≡ byMost m x z i v
+      unfolding byMost bySize pick
+      size-no error l = rw (← e, h, le-ltb _ _ g, ← k, l)
+
+      pub size-violated : (w : VbvViolation) (j : Judged) → s ≡ rm.Violation w → j ≡ violated w → j ≡ byMost m x z i v
+      unfolding byMost bySize pick
+      size-violated w j l q = q ∙ rw (← e, h, le-ltb _ _ g, ← k, l)
+
+      pub size-yes : (next : VbvCbrModel) (j : Judged) → s ≡ rm.Model next → j ≡ byEnd m x z (removePicture m (x .content + 8 * z) i)
+          → j ≡ byMost m x z i v
+      unfolding byMost bySize pick
+      size-yes next j l q = q ∙ rw (← e, h, le-ltb _ _ g, ← k, l)
+
+-- ---- the end
+
+module _ (m : VbvCbrModel) (x : Extent) (i : RemovalInterval) (last : Bool) (r v : VbvBits) (e : r ≡ v) where
+  pub least-no : (error : VbvError) → r ≡ bt.Refused error → Refused (Model error) ≡ byLeast m x i last v
+  unfolding byLeast
+  least-no error h = rw (← e, h)
+
+  module _ (least z : ℕ) (h : r ≡ bt.Bits least) (k : z ≡ zeros least (x .content) last) where
+    pub far-zeros : 35184372088832 < z → Refused (Model Range) ≡ byLeast m x i last v
+    unfolding byLeast withZeros pick
+    far-zeros g = rw (← e, h, ← k, lt-ltb (2 ^ 45) z g)
+
+    module _ (g : z ≤ 35184372088832) where
+      pub far-end : 281474976710656 < x .content + 8 * z → Refused (Model Range) ≡ byLeast m x i last v
+      unfolding byLeast withZeros pick
+      far-end l = rw (← e, h, ← k, le-ltb (2 ^ 45) z g, lt-ltb (2 ^ 48) (x .content + 8 * z) l)
+
+      pub near-end : (j : Judged) → x .content + 8 * z ≤ 281474976710656 → j ≡ byMost m x z i (maxEndBits m) → j ≡ byLeast m x i last v
+      unfolding byLeast withZeros pick
+      near-end j l q = q ∙ rw (← e, h, ← k, le-ltb (2 ^ 45) z g, le-ltb (2 ^ 48) (x .content + 8 * z) l)
+
+-- ---- all
+
+pub tail-ends : (last : Bool) → last ≡ true → (4 ≡ length (tail last)) × (4 ≤ 4)
+unfolding tail
+tail-ends last h = (rw (h, ending-is), omega arith)
+
+pub tail-open : (last : Bool) → last ≡ false → (0 ≡ length (tail last)) × (0 ≤ 4)
+unfolding tail
+tail-open last h = (rw h, omega arith)
+
+module _ (m : VbvCbrModel) (headers layer : ℕ) (i : RemovalInterval) (last : Bool) (a : ℕ) (e : a ≡ max headers layer) where
+  pub far-bytes : 35184372088832 < a → Refused (Model Range) ≡ measured m headers layer i last
+  unfolding measured pick
+  far-bytes h = rw (← e, lt-ltb (2 ^ 45) a h)
+
+  module _ (h : a ≤ 35184372088832) (t b : ℕ) (k : t ≡ length (tail last))
+      (f : b ≡ max (m .«prev_end_bits» + 8 * (headers + 4)) (m .«prev_end_bits» + 8 * (headers + layer + t))) where
+    pub far-position : 281474976710656 < b → Refused (Model Range) ≡ measured m headers layer i last
+    unfolding measured within14 extentOf pick
+    far-position g = rw (← e, le-ltb (2 ^ 45) a h, ← k, ← f, lt-ltb (2 ^ 48) b g)
+
+    module _ (g : b ≤ 281474976710656) (s : VbvModel) (q : s ≡ startedAt m (m .«prev_end_bits» + 8 * (headers + 4))) where
+      pub not-started : (error : VbvError) → s ≡ md.Refused error → Refused (Model error) ≡ measured m headers layer i last
+      unfolding measured within14 extentOf byStart pick
+      not-started error l = rw (← e, le-ltb (2 ^ 45) a h, ← k, ← f, le-ltb (2 ^ 48) b g, ← q, l)
+
+      pub is-started : (n : VbvCbrModel) (j : Judged) → s ≡ md.Model n
+          → j ≡ byLeast n (record { position = m .«prev_end_bits» + 8 * (headers + 4); content = m .«prev_end_bits» + 8 * (headers + layer + t); bytes = headers + layer + t }) i last (minEndBits n i)
+          → j ≡ measured m headers layer i last
+      unfolding measured within14 extentOf byStart pick
+      is-started n j l w = w ∙ rw (← e, le-ltb (2 ^ 45) a h, ← k, ← f, le-ltb (2 ^ 48) b g, ← q, l)

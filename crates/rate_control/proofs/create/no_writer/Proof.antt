@@ -1,0 +1,11 @@
+use Rattle.rate_control.specs.Create.{noWriter}
+use borrow.Author.Needs.{needs}
+use Rattle.rate_control.proofs.create.no_writer.Statement.{statement}
+use Rattle.rate_control.proofs.create.no_writer.Tie as tie
+
+returns : tie.Need-returns
+unfolding noWriter
+returns c = search needs
+
+pub no-writer-spec : {M : Type 1} → statement M
+no-writer-spec = tie.close (tie.spec returns)

@@ -1,0 +1,72 @@
+-- Creation of a writer (paper 01, 'A placed picture'): 12 for a range, 6 for the rate code, 12 for the ratio.
+-- Assumes nothing.
+use Prim.Native.Nat.{ℕ, _*_}
+use mathlib.Core.List.{List, [], _∷_}
+use mathlib.Core.Bool.{Bool, true, false, _&&_}
+use lib.Dec.{leb}
+use Rattle.bits.specs.Bits.{pick}
+use Rattle.vbv.specs.Answers.{frameRate}
+use Rattle.vbv.specs.Model.{newModel}
+use Rattle.vbv.specs.declared.FrameRate.{FrameRate}
+use Rattle.vbv.specs.declared.FrameRate.the-variants.{Rate, Refused as NoRate}
+use Rattle.vbv.specs.declared.VbvParams.{VbvParams}
+use Rattle.vbv.specs.declared.VbvCbrModel.{VbvCbrModel}
+use Rattle.vbv.specs.declared.VbvError.{VbvError}
+use Rattle.vbv.specs.declared.VbvError.the-variants.{Params}
+use Rattle.vbv.specs.declared.VbvModel.{VbvModel}
+use Rattle.vbv.specs.declared.VbvModel.the-variants.{Model, Refused as NoModel}
+use Rattle.rate_control.specs.Targets.{targets}
+use Rattle.rate_control.specs.declared.CbrConfig.{CbrConfig}
+use Rattle.rate_control.specs.declared.Pending.the-variants.{Nothing}
+use Rattle.rate_control.specs.declared.CbrWriter.{CbrWriter}
+use Rattle.rate_control.specs.declared.CbrCreation.the-variants.{Created, Refused}
+use Rattle.rate_control.specs.declared.CbrCreated.{CbrCreated}
+
+-- from low to high
+unfoldable pub within : ℕ → ℕ → ℕ → Bool
+within low high v = leb low v && leb v high
+
+unfoldable pub configFits : CbrConfig → Bool
+configFits c =
+    within 1 262143 (c .«bit_rate_value»)
+    && (within 1 1023 (c .«vbv_buffer_size_value»)
+    && (within 1 31 (c .«initial_quantiser_scale_code»)
+    && (within 0 15 (c .«b_between») && within 1 255 (c .«anchors_per_gop»))))
+
+-- nothing placed, nothing pending, every kind at the given quantiser
+unfoldable pub freshWriter : CbrConfig → VbvCbrModel → CbrWriter
+freshWriter c m = record {
+  model = m;
+  «target_bits» = targets (m .params) (c .«b_between») (c .«anchors_per_gop»);
+  q = c .«initial_quantiser_scale_code» ∷ c .«initial_quantiser_scale_code» ∷ c .«initial_quantiser_scale_code» ∷ [];
+  pending = Nothing;
+  «stuffing_bytes» = 0;
+  finished = false;
+}
+
+-- beside a refusal stands a writer of no use: all zeros, so that every call refuses it
+unfoldable pub noWriter : CbrWriter
+noWriter = record {
+  model = record { params = record { «bit_rate» = 0; «buffer_size_bits» = 0; frn = 0; frd = 0 }; whole = 0; rest = 0; «prev_end_bits» = 0; removed = 0; started = false };
+  «target_bits» = 0 ∷ 0 ∷ 0 ∷ [];
+  q = 0 ∷ 0 ∷ 0 ∷ [];
+  pending = Nothing;
+  «stuffing_bytes» = 0;
+  finished = false;
+}
+
+unfoldable pub notCreated : VbvError → CbrCreated
+notCreated e = record { answer = Refused e; writer = noWriter }
+
+unfoldable pub withModel : CbrConfig → VbvModel → CbrCreated
+withModel c (Model m) = record { answer = Created; writer = freshWriter c m }
+withModel c (NoModel e) = notCreated e
+
+-- R in units of 400 bits a second, B in units of 16 × 1024 bits
+unfoldable pub withRate : CbrConfig → FrameRate → CbrCreated
+withRate c (Rate n d) =
+    withModel c (newModel (record { «bit_rate» = 400 * c .«bit_rate_value»; «buffer_size_bits» = 16384 * c .«vbv_buffer_size_value»; frn = n; frd = d }))
+withRate c (NoRate e) = notCreated e
+
+unfoldable pub create : CbrConfig → CbrCreated
+create c = pick (configFits c) (withRate c (frameRate (c .«frame_rate_code»))) (notCreated Params)

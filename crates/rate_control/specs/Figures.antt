@@ -1,0 +1,20 @@
+-- The figures of paper 01 that are marked P: one joint statement about the definitions.
+-- Assumes nothing.
+use mathlib.Core.Path.{_≡_}
+use mathlib.Core.List.{List, [], _∷_}
+use Prim.Native.Nat.{ℕ, zero, suc}
+use Rattle.vbv.specs.Figures.{Figures as ModelFigures, at25}
+use Rattle.rate_control.specs.Targets.{targets}
+use Rattle.rate_control.specs.Writer.{coarser}
+use Rattle.rate_control.specs.Offer.{firstDelay}
+
+-- the first n quantisers of a picture that is sent back again and again
+unfoldable pub retried : ℕ → ℕ → List ℕ
+retried zero q = []
+retried (suc n) q = coarser q ∷ retried n (coarser q)
+
+pub record Figures : Type 0 where
+  pub model : ModelFigures
+  pub first-delay : firstDelay (at25 1000000 327680) ≡ 22118
+  pub targets-of-three : targets (at25 1000000 327680) 2 4 ≡ 118181 ∷ 47272 ∷ 26590 ∷ []
+  pub retries-from-1 : retried 11 1 ≡ 2 ∷ 3 ∷ 4 ∷ 6 ∷ 8 ∷ 11 ∷ 14 ∷ 18 ∷ 23 ∷ 29 ∷ 31 ∷ []

@@ -1,0 +1,10 @@
+pub mod Targets
+pub mod Create
+pub mod Answers
+pub mod Writer
+pub mod Offer
+pub mod Steps
+pub mod Calls
+pub mod Sent
+pub mod Figures
+pub mod Demand

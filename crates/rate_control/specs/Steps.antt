@@ -1,0 +1,158 @@
+-- The writer as the code goes: the promises of the private functions. proofs/Judging.antt says that they come to specs/Offer.antt.
+-- Assumes nothing.
+use Prim.Native.Nat.{ℕ, _+_, _-_, _*_, _/_, _^_, _≤_, max}
+use mathlib.Core.Bool.{Bool, not, _||_}
+use mathlib.Core.List.{List}
+use lib.Dec.{ltb}
+use lib.ListN.{length, set}
+use Rattle.bits.specs.Bits.{pick}
+use Rattle.vbv.specs.Model.{startModel, delayForPicture, removePicture, maxEndBits, minEndBits}
+use Rattle.vbv.specs.declared.RemovalInterval.{RemovalInterval}
+use Rattle.vbv.specs.declared.VbvParams.{VbvParams}
+use Rattle.vbv.specs.declared.VbvCbrModel.{VbvCbrModel}
+use Rattle.vbv.specs.declared.VbvError.the-variants.{Early, Params, Range}
+use Rattle.vbv.specs.declared.VbvViolation.{VbvViolation}
+use Rattle.vbv.specs.declared.VbvViolation.the-variants.{Overflow, Underflow, DelayMismatch}
+use Rattle.vbv.specs.declared.VbvModel.{VbvModel}
+use Rattle.vbv.specs.declared.VbvModel.the-variants as md
+use Rattle.vbv.specs.declared.VbvRemoval.{VbvRemoval}
+use Rattle.vbv.specs.declared.VbvRemoval.the-variants as rm
+use Rattle.vbv.specs.declared.VbvDelay.{VbvDelay}
+use Rattle.vbv.specs.declared.VbvDelay.the-variants as dl
+use Rattle.vbv.specs.declared.VbvBits.{VbvBits}
+use Rattle.vbv.specs.declared.VbvBits.the-variants as bt
+use Rattle.layers.specs.declared.PictureKind.{PictureKind}
+use Rattle.layers.specs.Headers.{headersFit}
+use Rattle.layers.specs.Layer.{layerFits}
+use Rattle.rate_control.specs.Writer.{writerFits, index, of, clashes, asked, steered}
+use Rattle.rate_control.specs.Offer.{firstDelay, tail}
+use Rattle.rate_control.specs.declared.CbrConfig.{CbrConfig}
+use Rattle.rate_control.specs.declared.Pending.the-variants.{Nothing}
+use Rattle.rate_control.specs.declared.CbrWriter.{CbrWriter}
+use Rattle.rate_control.specs.declared.CbrError.the-variants.{Model, Violation, Kind, Headers, Layer, Stuffing}
+use Rattle.rate_control.specs.declared.CbrAnswer.the-variants.{Placed}
+use Rattle.rate_control.specs.declared.CbrOffered.{CbrOffered}
+use Rattle.rate_control.specs.declared.Extent.{Extent}
+use Rattle.rate_control.specs.declared.Placement.{Placement}
+use Rattle.rate_control.specs.declared.Judged.{Judged}
+use Rattle.rate_control.specs.declared.Judged.the-variants.{Refused, TooLarge, Ready}
+
+-- ---- creation
+
+-- what the ranges say, as bounds
+pub record ConfigFits (c : CbrConfig) : Type 0 where
+  pub rate-high : c .«bit_rate_value» ≤ 262143
+  pub size-high : c .«vbv_buffer_size_value» ≤ 1023
+  pub between-high : c .«b_between» ≤ 15
+  pub anchors-high : c .«anchors_per_gop» ≤ 255
+
+-- the targets are counted in 64 bits
+pub record Shares (p : VbvParams) (between anchors : ℕ) : Type 0 where
+  pub rate-high : p .«bit_rate» ≤ 104857200
+  pub frn-low : 1 ≤ p .frn
+  pub frd-high : p .frd ≤ 32032
+  pub between-high : between ≤ 15
+  pub anchors-high : anchors ≤ 255
+
+-- ---- the tests of an offer, by what the model answers
+
+-- a picture that ends within the ranges
+pub record ExtentFits (x : Extent) (zeros : ℕ) : Type 0 where
+  pub end-far : x .content + 8 * zeros ≤ 2 ^ 48
+  pub bytes-far : x .bytes ≤ 2 ^ 48
+
+-- the model as it is, or, before the first placing, started with the first delay
+unfoldable pub startedAt : VbvCbrModel → ℕ → VbvModel
+startedAt m position = pick (m .started) (md.Model m) (startModel m (firstDelay (m .params)) position)
+
+-- zero bytes up to the least end; none after the last picture
+unfoldable pub zeros : ℕ → ℕ → Bool → ℕ
+zeros least content last = pick last 0 ((least - content + 7) / 8)
+
+unfoldable pub byDelay : VbvCbrModel → Extent → ℕ → VbvDelay → Judged
+byDelay next x z (dl.Delay d) = Ready (record { model = next; «vbv_delay» = d; bytes = x .bytes + z; «stuffing_bytes» = z })
+byDelay next x z (dl.Refused e) = Refused (Model e)
+
+-- 22: the stuffed end
+unfoldable pub byEnd : VbvCbrModel → Extent → ℕ → VbvRemoval → Judged
+byEnd m x z (rm.Model next) = byDelay next x z (delayForPicture m (x .position))
+byEnd m x z (rm.Refused e) = Refused (Model e)
+byEnd m x z (rm.Violation v) = Refused Stuffing
+
+-- 9, and the size
+unfoldable pub violated : VbvViolation → Judged
+violated (Overflow n c e) = Refused (Violation (Overflow n c e))
+violated (Underflow n c e) = TooLarge
+violated (DelayMismatch n c e) = Refused (Violation (DelayMismatch n c e))
+
+unfoldable pub bySize : VbvCbrModel → Extent → ℕ → RemovalInterval → VbvRemoval → Judged
+bySize m x z i (rm.Model next) = byEnd m x z (removePicture m (x .content + 8 * z) i)
+bySize m x z i (rm.Refused e) = Refused (Model e)
+bySize m x z i (rm.Violation v) = violated v
+
+-- 7
+unfoldable pub byMost : VbvCbrModel → Extent → ℕ → RemovalInterval → VbvBits → Judged
+byMost m x z i (bt.Bits most) = pick (ltb most (x .position)) (Refused (Model Early)) (bySize m x z i (removePicture m (x .content) i))
+byMost m x z i (bt.Refused e) = Refused (Model e)
+
+-- 14 of the end; more than 2^45 zero bytes pass it
+unfoldable pub withZeros : VbvCbrModel → Extent → RemovalInterval → ℕ → Judged
+withZeros m x i z =
+    pick (ltb (2 ^ 45) z) (Refused (Model Range))
+    (pick (ltb (2 ^ 48) (x .content + 8 * z)) (Refused (Model Range)) (byMost m x z i (maxEndBits m)))
+
+unfoldable pub byLeast : VbvCbrModel → Extent → RemovalInterval → Bool → VbvBits → Judged
+byLeast m x i last (bt.Bits least) = withZeros m x i (zeros least (x .content) last)
+byLeast m x i last (bt.Refused e) = Refused (Model e)
+
+unfoldable pub byStart : Extent → RemovalInterval → Bool → VbvModel → Judged
+byStart x i last (md.Model m) = byLeast m x i last (minEndBits m i)
+byStart x i last (md.Refused e) = Refused (Model e)
+
+unfoldable pub extentOf : VbvCbrModel → ℕ → ℕ → Bool → Extent
+extentOf m headers layer last = record {
+  position = m .«prev_end_bits» + 8 * (headers + 4);
+  content = m .«prev_end_bits» + 8 * (headers + layer + length (tail last));
+  bytes = headers + layer + length (tail last);
+}
+
+-- 14 of the position and of the end without stuffing; more than 2^45 bytes pass it
+unfoldable pub within14 : Extent → RemovalInterval → Bool → VbvModel → Judged
+within14 x i last m =
+    pick (ltb (2 ^ 48) (max (x .position) (x .content))) (Refused (Model Range)) (byStart x i last m)
+
+unfoldable pub measured : VbvCbrModel → ℕ → ℕ → RemovalInterval → Bool → Judged
+measured m headers layer i last =
+    pick (ltb (2 ^ 45) (max headers layer)) (Refused (Model Range))
+    (within14 (extentOf m headers layer last) i last (startedAt m (extentOf m headers layer last .position)))
+
+-- 12 for the state, 17, 18 and 20 before these
+unfoldable pub judged : CbrWriter → List ℕ → PictureKind → RemovalInterval → Bool → List ℕ → Judged
+judged w headers k i last layer =
+    pick (not (writerFits w)) (Refused (Model Params))
+    (pick (w .finished || clashes (w .pending) k) (Refused Kind)
+    (pick (not (headersFit (w .model .params) (w .model .started) headers)) (Refused Headers)
+    (pick (not (layerFits k i layer)) (Refused Layer)
+    (measured (w .model) (length headers) (length layer) i last))))
+
+-- ---- the answer
+
+-- the sums of a placing are counted in 64 bits
+pub record Placeable (w : CbrWriter) (k : PictureKind) (layer : ℕ) (p : Placement) : Type 0 where
+  pub layer-far : 8 * layer ≤ 2 ^ 48
+  pub target-far : of k (w .«target_bits») ≤ 2 ^ 48
+  pub total-far : w .«stuffing_bytes» + p .«stuffing_bytes» ≤ 2 ^ 48
+
+unfoldable pub placedBy : CbrWriter → PictureKind → ℕ → Bool → Placement → CbrOffered
+placedBy w k layer last p = record {
+  answer = Placed (asked w k) (p .«vbv_delay») (p .bytes) (p .«stuffing_bytes»);
+  writer =
+      record {
+        model = p .model;
+        «target_bits» = w .«target_bits»;
+        q = set (w .q) (index k) (steered (asked w k) (of k (w .«target_bits»)) (8 * layer));
+        pending = Nothing;
+        «stuffing_bytes» = w .«stuffing_bytes» + p .«stuffing_bytes»;
+        finished = last;
+      };
+}

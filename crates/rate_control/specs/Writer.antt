@@ -1,0 +1,77 @@
+-- A writer's state: its ranges, and what it keeps for each kind of picture (paper 01, 'A placed picture').
+-- Assumes nothing.
+use Prim.Native.Nat.{ℕ, _+_, _-_, _*_, _/_, _%_, _^_, min, max}
+use mathlib.Core.List.{List, [], _∷_}
+use mathlib.Core.Bool.{Bool, true, false, not, _&&_}
+use lib.Dec.{leb, ltb, eqb}
+use lib.ListN.{getD}
+use Rattle.bits.specs.Bits.{pick}
+use Rattle.vbv.specs.Model.{modelFits}
+use Rattle.layers.specs.declared.PictureKind.{PictureKind}
+use Rattle.layers.specs.declared.PictureKind.the-variants.{I, P, B}
+use Rattle.rate_control.specs.Create.{within}
+use Rattle.rate_control.specs.declared.Pending.{Pending}
+use Rattle.rate_control.specs.declared.Pending.the-variants.{Nothing, Waits}
+use Rattle.rate_control.specs.declared.CbrWriter.{CbrWriter}
+
+-- ---- ranges
+
+-- a quantiser_scale_code (6.3.16)
+unfoldable pub quantiser : ℕ → Bool
+unfolding within
+quantiser q = within 1 31 q
+
+unfoldable pub every : (ℕ → Bool) → List ℕ → Bool
+every f [] = true
+every f (x ∷ xs) = f x && every f xs
+
+unfoldable pub pendingFits : Pending → Bool
+pendingFits Nothing = true
+pendingFits (Waits k n) = quantiser n
+
+-- the model's ranges; what was handed out is whole bytes, and at least one for each picture and each byte of stuffing; targets up to 2^48, quantisers 1 to 31
+unfoldable pub writerFits : CbrWriter → Bool
+writerFits w =
+    modelFits (w .model)
+    && (eqb (w .model .«prev_end_bits» % 8) 0
+    && (leb (8 * w .model .removed) (w .model .«prev_end_bits»)
+    && (leb (8 * w .«stuffing_bytes») (w .model .«prev_end_bits»)
+    && (every (λ t. leb t (2 ^ 48)) (w .«target_bits»)
+    && (every quantiser (w .q) && pendingFits (w .pending))))))
+
+-- ---- by kind
+
+abbrev pub index : PictureKind → ℕ
+index I = 0
+index P = 1
+index B = 2
+
+-- one of three, for a kind
+unfoldable pub of : PictureKind → List ℕ → ℕ
+of k xs = getD xs (index k) 0
+
+-- the pending picture is of another kind
+unfoldable pub clashes : Pending → PictureKind → Bool
+clashes Nothing k = false
+clashes (Waits j n) k = not (eqb (index j) (index k))
+
+-- the quantiser that a layer is asked for with: the pending picture's, or the kind's
+unfoldable pub askedOf : Pending → ℕ → ℕ
+askedOf Nothing q = q
+askedOf (Waits j n) q = n
+
+unfoldable pub asked : CbrWriter → PictureKind → ℕ
+unfolding askedOf of
+asked w k = askedOf (w .pending) (of k (w .q))
+
+-- ---- the quantiser
+
+-- to encode a picture with again that is too large
+unfoldable pub coarser : ℕ → ℕ
+coarser q = min 31 (q + 1 + q / 4)
+
+-- the kind's next quantiser, from the one just placed and the layer's bits; a target of 0 counts as 1
+unfoldable pub steered : ℕ → ℕ → ℕ → ℕ
+steered q target bits =
+    pick (ltb (6 * max 1 target) (5 * bits)) (min 31 (q + 1))
+    (pick (ltb (10 * bits) (7 * max 1 target)) (max 1 (q - 1)) q)

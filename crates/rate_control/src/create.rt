@@ -1,0 +1,145 @@
+// Creation of a writer, and the bits that a picture of each kind is meant to have.
+ghost use mathlib.Core.Path.{_≡_};
+ghost use Rattle.vbv.specs.declared.FrameRate.the-variants.{Rate};
+ghost use Rattle.rate_control.specs.Create.{within as withinOf, configFits, freshWriter, noWriter, notCreated, withRate, create as createOf};
+ghost use Rattle.rate_control.specs.Steps.{ConfigFits, Shares};
+ghost use Rattle.rate_control.specs.Targets.{targets};
+use crate::CbrConfig;
+use crate::CbrCreated;
+use crate::CbrCreation;
+use crate::CbrWriter;
+use crate::Pending;
+use vbv::FrameRate;
+use vbv::VbvCbrModel;
+use vbv::VbvError;
+use vbv::VbvModel;
+use vbv::VbvParams;
+
+fn within(low: u64, high: u64, value: u64) -> bool
+    ensures { λ r. ⌜ r ≡ withinOf low high value ⌝ }
+{
+    (low <= value) & (value <= high)
+}
+
+// The bits of a group of pictures, shared out by weight.
+fn type_target_bits(params: VbvParams, b_between: u64, anchors_per_gop: u64) -> [u64; 3]
+    requires { ⌜ Shares params «b_between» «anchors_per_gop» ⌝ }
+    ensures { λ r. ⌜ r ≡ targets params «b_between» «anchors_per_gop» ⌝ }
+{
+    let pictures = 1 + anchors_per_gop * (b_between + 1);
+    let gop_bits = params.bit_rate * params.frd / params.frn * pictures;
+    let weight = 40 + 16 * anchors_per_gop + 9 * (anchors_per_gop * b_between);
+    [
+        gop_bits * 40 / weight,
+        gop_bits * 16 / weight,
+        gop_bits * 9 / weight,
+    ]
+}
+
+// Of no use: all zeros, so that every call refuses it.
+fn no_writer() -> CbrWriter
+    ensures { λ r. ⌜ r ≡ noWriter ⌝ }
+{
+    CbrWriter {
+        model: VbvCbrModel {
+            params: VbvParams {
+                bit_rate: 0,
+                buffer_size_bits: 0,
+                frn: 0,
+                frd: 0,
+            },
+            whole: 0,
+            rest: 0,
+            prev_end_bits: 0,
+            removed: 0,
+            started: false,
+        },
+        target_bits: [0, 0, 0],
+        q: [0, 0, 0],
+        pending: Pending::Nothing,
+        stuffing_bytes: 0,
+        finished: false,
+    }
+}
+
+fn not_created(error: VbvError) -> CbrCreated
+    ensures { λ r. ⌜ r ≡ notCreated error ⌝ }
+{
+    CbrCreated {
+        answer: CbrCreation::Refused(error),
+        writer: no_writer(),
+    }
+}
+
+impl CbrConfig {
+    // Every field but the rate code in its range.
+    fn fits(self) -> bool
+        ensures { λ r. ⌜ r ≡ configFits self ⌝ }
+    {
+        let rate = self.bit_rate_value as u64;
+        let size = self.vbv_buffer_size_value as u64;
+        let q = self.initial_quantiser_scale_code as u64;
+        let between = self.b_between as u64;
+        let anchors = self.anchors_per_gop as u64;
+        within(1, 262143, rate)
+            & (within(1, 1023, size)
+                & (within(1, 31, q) & (within(0, 15, between) & within(1, 255, anchors))))
+    }
+
+    // Nothing placed, nothing pending, every kind at the given quantiser.
+    fn fresh(self, model: VbvCbrModel) -> CbrWriter
+        requires { ⌜ Shares (model .params) (self .«b_between») (self .«anchors_per_gop») ⌝ }
+        ensures { λ r. ⌜ r ≡ freshWriter self model ⌝ }
+    {
+        let params = model.params;
+        let between = self.b_between as u64;
+        let anchors = self.anchors_per_gop as u64;
+        let target_bits = type_target_bits(params, between, anchors);
+        let q = self.initial_quantiser_scale_code;
+        CbrWriter {
+            model,
+            target_bits,
+            q: [q, q, q],
+            pending: Pending::Nothing,
+            stuffing_bytes: 0,
+            finished: false,
+        }
+    }
+
+    fn with_rate(self, frn: u64, frd: u64) -> CbrCreated
+        requires { ⌜ ConfigFits self ⌝ }
+        ensures { λ r. ⌜ r ≡ withRate self (Rate frn frd) ⌝ }
+    {
+        let rate = self.bit_rate_value as u64;
+        let size = self.vbv_buffer_size_value as u64;
+        let params = VbvParams {
+            bit_rate: 400 * rate,
+            buffer_size_bits: 16384 * size,
+            frn,
+            frd,
+        };
+        match VbvCbrModel::new(params) {
+            VbvModel::Model(model) => CbrCreated {
+                answer: CbrCreation::Created,
+                writer: self.fresh(model),
+            },
+            VbvModel::Refused(error) => not_created(error),
+        }
+    }
+}
+
+impl CbrWriter {
+    // Refused in this order: 12 for a range, 6 for the rate code, 12 for the ratio.
+    pub fn create(config: CbrConfig) -> CbrCreated
+        ensures { λ r. ⌜ r ≡ createOf config ⌝ }
+    {
+        if config.fits() {
+            match vbv::frame_rate_value(config.frame_rate_code) {
+                FrameRate::Rate(frn, frd) => config.with_rate(frn, frd),
+                FrameRate::Refused(error) => not_created(error),
+            }
+        } else {
+            not_created(VbvError::Params)
+        }
+    }
+}

@@ -1,0 +1,197 @@
+// Where an offered picture lies in the stream, and what the model says to it: 14, 7, 9, the size and 22, in this order.
+ghost use mathlib.Core.Path.{_≡_};
+ghost use Prim.Native.Nat.{_+_, _*_, _^_, _≤_, max};
+ghost use lib.ListN.{length};
+ghost use Rattle.vbv.specs.Fits.{ParamsFit, ModelFits};
+ghost use Rattle.vbv.specs.Model.{delayForPicture, removePicture, maxEndBits, minEndBits};
+ghost use Rattle.rate_control.specs.Offer.{firstDelay, tail};
+ghost use Rattle.rate_control.specs.Steps.{ExtentFits, startedAt, zeros, violated as violatedOf, byDelay, byEnd, byMost, byLeast, measured as measuredOf};
+use crate::CbrError;
+use crate::Extent;
+use crate::Judged;
+use crate::Placement;
+use vbv::RemovalInterval;
+use vbv::VbvBits;
+use vbv::VbvCbrModel;
+use vbv::VbvDelay;
+use vbv::VbvError;
+use vbv::VbvModel;
+use vbv::VbvParams;
+use vbv::VbvRemoval;
+use vbv::VbvViolation;
+
+// Positions and ends go up to 2^48 bits.
+const FAR: u64 = 281474976710656;
+
+const FAR_BYTES: u64 = 35184372088832;
+
+// Three quarters of the buffer.
+fn first_delay(params: VbvParams) -> u16
+    requires { ⌜ ParamsFit params ⌝ }
+    ensures { λ r. ⌜ r ≡ firstDelay params ⌝ }
+{
+    let delay = 90000 * params.buffer_size_bits * 3 / (4 * params.bit_rate);
+    delay as u16
+}
+
+// The model as it is, or, before the first placing, started with the first delay.
+fn started(model: VbvCbrModel, position: u64) -> VbvModel
+    requires { ⌜ ParamsFit (model .params) ⌝ }
+    ensures { λ r. ⌜ r ≡ startedAt model position ⌝ }
+{
+    if model.started {
+        return VbvModel::Model(model);
+    }
+    let params = model.params;
+    model.start(first_delay(params), position)
+}
+
+// Zero bytes up to the least end; none after the last picture.
+fn stuffing(least: u64, content: u64, last: bool) -> u64
+    ensures { λ r. ⌜ r ≡ zeros least content last ⌝ }
+{
+    if last {
+        return 0;
+    }
+    if least <= content {
+        return 0;
+    }
+    let bits = least - content;
+    bits / 8 + (bits % 8 + 7) / 8
+}
+
+// An underflow is a picture too large.
+fn violated(violation: VbvViolation) -> Judged
+    ensures { λ r. ⌜ r ≡ violatedOf violation ⌝ }
+{
+    match violation {
+        VbvViolation::Overflow {
+            picture: _,
+            coded: _,
+            expected: _,
+        } => Judged::Refused(CbrError::Violation(violation)),
+        VbvViolation::Underflow {
+            picture: _,
+            coded: _,
+            expected: _,
+        } => Judged::TooLarge,
+        VbvViolation::DelayMismatch {
+            picture: _,
+            coded: _,
+            expected: _,
+        } => Judged::Refused(CbrError::Violation(violation)),
+    }
+}
+
+// With the model behind the picture, the delay.
+fn ready(model: VbvCbrModel, next: VbvCbrModel, extent: Extent, zeros: u64) -> Judged
+    requires { ⌜ ExtentFits extent zeros ⌝ }
+    ensures { λ r. ⌜ r ≡ byDelay next extent zeros (delayForPicture model (extent .position)) ⌝ }
+{
+    match model.delay_for_picture(extent.position) {
+        VbvDelay::Refused(error) => Judged::Refused(CbrError::Model(error)),
+        VbvDelay::Delay(vbv_delay) => Judged::Ready(Placement {
+            model: next,
+            vbv_delay,
+            bytes: extent.bytes + zeros,
+            stuffing_bytes: zeros,
+        }),
+    }
+}
+
+// 22: the stuffed end.
+fn stuffed(model: VbvCbrModel, extent: Extent, zeros: u64, interval: RemovalInterval) -> Judged
+    requires { ⌜ ExtentFits extent zeros ⌝ }
+    ensures { λ r. ⌜ r ≡ byEnd model extent zeros (removePicture model (extent .content + 8 * zeros) interval) ⌝ }
+{
+    match model.remove_picture(extent.content + 8 * zeros, interval) {
+        VbvRemoval::Refused(error) => Judged::Refused(CbrError::Model(error)),
+        VbvRemoval::Violation(_) => Judged::Refused(CbrError::Stuffing),
+        VbvRemoval::Model(next) => ready(model, next, extent, zeros),
+    }
+}
+
+// 7, 9 and the size.
+fn removed(model: VbvCbrModel, extent: Extent, zeros: u64, interval: RemovalInterval) -> Judged
+    requires { ⌜ ExtentFits extent zeros ⌝ }
+    ensures { λ r. ⌜ r ≡ byMost model extent zeros interval (maxEndBits model) ⌝ }
+{
+    match model.max_end_bits() {
+        VbvBits::Refused(error) => Judged::Refused(CbrError::Model(error)),
+        VbvBits::Bits(most) => {
+            if most < extent.position {
+                return Judged::Refused(CbrError::Model(VbvError::Early));
+            }
+            match model.remove_picture(extent.content, interval) {
+                VbvRemoval::Refused(error) => Judged::Refused(CbrError::Model(error)),
+                VbvRemoval::Violation(violation) => violated(violation),
+                VbvRemoval::Model(_) => stuffed(model, extent, zeros, interval),
+            }
+        }
+    }
+}
+
+// 14 of the end.
+fn ended(model: VbvCbrModel, extent: Extent, interval: RemovalInterval, last: bool) -> Judged
+    requires { ⌜ extent .content ≤ 2 ^ 48 ⌝ }
+    requires { ⌜ extent .bytes ≤ 2 ^ 48 ⌝ }
+    ensures { λ r. ⌜ r ≡ byLeast model extent interval last (minEndBits model interval) ⌝ }
+{
+    match model.min_end_bits(interval) {
+        VbvBits::Refused(error) => Judged::Refused(CbrError::Model(error)),
+        VbvBits::Bits(least) => {
+            let zeros = stuffing(least, extent.content, last);
+            if FAR_BYTES < zeros {
+                return Judged::Refused(CbrError::Model(VbvError::Range));
+            }
+            if FAR < extent.content + 8 * zeros {
+                return Judged::Refused(CbrError::Model(VbvError::Range));
+            }
+            removed(model, extent, zeros, interval)
+        }
+    }
+}
+
+fn greater(a: u64, b: u64) -> u64
+    ensures { λ r. ⌜ r ≡ max a b ⌝ }
+{
+    if a < b { b } else { a }
+}
+
+fn tail_bytes(last: bool) -> u64
+    ensures { λ r. ⌜ (r ≡ length (tail last)) × (r ≤ 4) ⌝ }
+{
+    if last { 4 } else { 0 }
+}
+
+// 14 of the position, and what follows.
+pub(crate) fn measured(
+    model: VbvCbrModel,
+    headers: u64,
+    layer: u64,
+    interval: RemovalInterval,
+    last: bool,
+) -> Judged
+    requires { ⌜ ModelFits model ⌝ }
+    ensures { λ r. ⌜ r ≡ measuredOf model headers layer interval last ⌝ }
+{
+    if FAR_BYTES < greater(headers, layer) {
+        return Judged::Refused(CbrError::Model(VbvError::Range));
+    }
+    let previous = model.prev_end_bits;
+    let bytes = headers + layer + tail_bytes(last);
+    let position = previous + 8 * (headers + 4);
+    let content = previous + 8 * bytes;
+    if FAR < greater(position, content) {
+        return Judged::Refused(CbrError::Model(VbvError::Range));
+    }
+    let extent = Extent {
+        position,
+        content,
+        bytes,
+    };
+    match started(model, position) {
+        VbvModel::Refused(error) => Judged::Refused(CbrError::Model(error)),
+        VbvModel::Model(begun) => ended(begun, extent, interval, last),
+    }
+}

@@ -1,0 +1,77 @@
+// An offer: its tests in paper 01's order, and its answer.
+ghost use mathlib.Core.Path.{_≡_};
+ghost use Rattle.rate_control.specs.Offer.{Offer, offer as offerOf, outAfter};
+ghost use Rattle.rate_control.specs.Steps.{judged as judgedOf};
+use crate::CbrError;
+use crate::CbrOffered;
+use crate::CbrWriter;
+use crate::Judged;
+use crate::measure::measured;
+use crate::output::put_placed;
+use crate::state::clashes;
+use layers::PictureKind;
+use vbv::RemovalInterval;
+use vbv::VbvError;
+
+impl CbrWriter {
+    // 12 for the state, 17, 18 and 20, then what lengths and model say.
+    fn judged(
+        self,
+        headers: &[u8],
+        kind: PictureKind,
+        interval: RemovalInterval,
+        last: bool,
+        layer: &[u8],
+    ) -> Judged
+        ensures { λ r. ⌜ r ≡ judgedOf self (now (headers .entry)) kind interval last (now (layer .entry)) ⌝ }
+    {
+        if self.fits() {
+            let model = self.model;
+            let pending = self.pending;
+            if self.finished | clashes(pending, kind) {
+                return Judged::Refused(CbrError::Kind);
+            }
+            let params = model.params;
+            if layers::headers_fit(headers, params, model.started) {
+                if layers::layer_fits(layer, kind, interval) {
+                    let ahead = headers.len() as u64;
+                    let bytes = layer.len() as u64;
+                    return measured(model, ahead, bytes, interval, last);
+                }
+                return Judged::Refused(CbrError::Layer);
+            }
+            return Judged::Refused(CbrError::Headers);
+        }
+        Judged::Refused(CbrError::Model(VbvError::Params))
+    }
+
+    // Places a picture in the output part, asks for it again with a coarser quantiser, or refuses it.
+    pub fn offer(
+        self,
+        headers: &[u8],
+        kind: PictureKind,
+        interval: RemovalInterval,
+        last: bool,
+        layer: &[u8],
+        out: &mut [u8],
+    ) -> CbrOffered
+        ensures { λ r. ⌜ r ≡ offerOf self (record { headers = now (headers .entry); kind = kind; interval = interval; last = last; layer = now (layer .entry); out = now (out .entry) }) ⌝ }
+        ensures { λ r. ⌜ now (out .exit) ≡ outAfter self (record { headers = now (headers .entry); kind = kind; interval = interval; last = last; layer = now (layer .entry); out = now (out .entry) }) ⌝ }
+    {
+        match self.judged(headers, kind, interval, last, layer) {
+            Judged::Refused(error) => self.refused(error),
+            Judged::TooLarge => self.too_large(kind),
+            Judged::Ready(placement) => {
+                let bytes = placement.bytes;
+                let room = out.len() as u64;
+                if room < bytes {
+                    return self.refused(CbrError::Output);
+                }
+                let zeros = placement.stuffing_bytes as usize;
+                put_placed(out, headers, layer, placement.vbv_delay, zeros, last);
+                let layer_bytes = layer.len() as u64;
+                self.placed(kind, layer_bytes, last, placement)
+            }
+        }
+    }
+}
