@@ -1,0 +1,4 @@
+pub mod Patching
+pub mod Laying
+pub mod Places
+pub mod Numbers

@@ -1,0 +1,18 @@
+// The delay of a picture header.
+ghost use mathlib.Core.Path.{_≡_};
+ghost use Rattle.vbv.specs.Patch.{patchAnswer, patched};
+ghost use Rattle.hipokuta.specs.Patch.{patchNumber};
+use vbv::VbvPatch;
+use vbv::patch_vbv_delay;
+
+// Writes the delay into a picture header: 0, or 20 where none begins there.
+#[no_mangle]
+pub extern "C" fn vbv_patch_delay(picture: &mut [u8], vbv_delay: u16) -> u64
+    ensures { λ r. ⌜ r ≡ patchNumber (patchAnswer (now (picture .entry))) ⌝ }
+    ensures { λ r. ⌜ now (picture .exit) ≡ patched (now (picture .entry)) «vbv_delay» ⌝ }
+{
+    match patch_vbv_delay(picture, vbv_delay) {
+        VbvPatch::Done => 0,
+        VbvPatch::Refused(error) => error.number() as u64,
+    }
+}

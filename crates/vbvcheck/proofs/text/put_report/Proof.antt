@@ -1,0 +1,39 @@
+use mathlib.Core.Path.{_∙_}
+use native.Mathlib.Omega.{arith}
+use Rattle.vbvcheck.specs.Text.{reportText}
+use borrow.Author.Needs.{needs}
+use Rattle.vbvcheck.proofs.text.put_report.Statement.{statement}
+use Rattle.vbvcheck.proofs.text.put_report.Tie as tie
+
+slice-aggregate-put : tie.Need-slice-aggregate-put
+slice-aggregate-put c = search needs
+
+put-requires : tie.Need-put-requires
+put-requires c κs = search needs
+
+slice-aggregate-put-line : tie.Need-slice-aggregate-put-line
+slice-aggregate-put-line c = search needs
+
+put-line-requires : tie.Need-put-line-requires
+put-line-requires c κs = search needs
+
+same-length : tie.Need-same-length
+same-length c = search needs
+
+returns : tie.Need-returns
+unfolding reportText
+returns c =
+    let l = c .before .before .put-line .ensures in
+    let p = c .before .before .before .before .before .before .before .put .ensures in
+    (omega (arith, l .0, p .0), l .1 ∙ rw (p .1))
+
+pub put-report-spec : {M : Type 1} → statement M
+put-report-spec =
+    tie.close
+    (tie.spec
+    slice-aggregate-put
+    put-requires
+    slice-aggregate-put-line
+    put-line-requires
+    same-length
+    returns)
