@@ -1,6 +1,6 @@
 //! The original's answer to a case, as FORMAT.md lays it out.
 
-use crate::{check, model};
+use crate::{check, lists, model};
 use original::gop_header::{Mpeg2Gop, TimeCode, nominal_pictures_per_second, write_gop_header};
 use original::picture_header::{
     Mpeg2PictureHeader, PictureCodingExtension, PictureCodingType, PictureStructure, oracle_picture_header_byte_length,
@@ -16,7 +16,7 @@ use original::{Error, Result};
 use oxideav_core::bits::BitWriter;
 
 /// The kinds of cases by their number, with the refusals that each can give.
-pub const KINDS: [(&str, &[u8]); 18] = [
+pub const KINDS: [(&str, &[u8]); 19] = [
     ("Mpeg2SequenceHeader::parse", &[1, 2]),
     ("Mpeg2SequenceExtension::parse", &[1, 2]),
     ("Mpeg2Sequence::from_buf", &[1, 2]),
@@ -35,6 +35,7 @@ pub const KINDS: [(&str, &[u8]); 18] = [
     ("patch_vbv_delay", &[20]),
     ("verify_cbr_stream, MPEG-1", &[1, 2, 3, 4, 5, 6, 7, 8, 9, 10, 11, 12, 15]),
     ("verify_cbr_stream, MPEG-2", &[1, 2, 3, 4, 5, 6, 7, 8, 9, 10, 11, 12, 15]),
+    ("CbrWriter", &[6, 7, 9, 12, 14, 17, 18, 19, 20, 21, 22, 29, 30, 31, 32, 33, 34, 35]),
 ];
 
 /// The bytes of an answer, and what was met on the way to them: 0, or a refusal with its reason.
@@ -66,6 +67,7 @@ pub fn answer(kind: u8, input: &[u8]) -> Answer {
         16 => model::patched(input),
         17 => check::checked(VbvStandard::Mpeg1, input),
         18 => check::checked(VbvStandard::Mpeg2, input),
+        19 => lists::answer(input),
         _ => unreachable!("no kind {kind}"),
     }
 }

@@ -111,28 +111,48 @@ fn report(report: &VbvStreamReport, part: &mut [u8]) -> [u64; 5] {
     [report.bit_rate, report.buffer_size_bits, report.pictures.len() as u64, least as u64, greatest as u64]
 }
 
-/// The number, five words, and the record part.
-pub fn checked(standard: VbvStandard, input: &[u8]) -> Answer {
-    let mut part: Vec<u8> = (0..number(&input[..2])).map(|i| (i % 251) as u8).collect();
-    let stream = &input[2..];
+/// What the original makes of a stream: its number and five words, the records stored in the part.
+fn judged(standard: VbvStandard, stream: &[u8], part: &mut [u8]) -> (Refusal, [u64; 5]) {
     let result = verify_cbr_stream(stream, standard);
     let run = match &result {
         Err(VbvVerifyError::Parse(e)) => matches!(refusal(*e).0, 7 | 8),
         _ => true,
     };
     let all = if run { pictures(standard, stream) } else { vec![] };
-    let (met, words) = match result {
+    match result {
         _ if part.len() / 32 < all.len() => (PLACES, [0; 5]),
         Ok(r) => {
             assert_eq!(r.pictures.len(), all.len(), "the oracle's own pictures are not the original's");
-            ((0, ""), report(&r, &mut part))
+            ((0, ""), report(&r, part))
         }
         Err(VbvVerifyError::Parse(e)) => (refusal(e), [0; 5]),
         Err(VbvVerifyError::Violation(v)) => violation(standard, stream, &all, v),
         Err(_) => unreachable!("no other refusal"),
-    };
+    }
+}
+
+/// The number, five words, and the record part.
+pub fn checked(standard: VbvStandard, input: &[u8]) -> Answer {
+    let mut part: Vec<u8> = (0..number(&input[..2])).map(|i| (i % 251) as u8).collect();
+    let (met, words) = judged(standard, &input[2..], &mut part);
     let mut bytes = vec![met.0];
     bytes.extend(words.iter().flat_map(|w| w.to_le_bytes()));
     bytes.extend(part);
     Answer { bytes, met: vec![met] }
+}
+
+/// The answer for a stream with places for all of its pictures, in the lines of `vbvcheck`.
+pub fn lines(standard: VbvStandard, stream: &[u8]) -> String {
+    let mut part = vec![0; 32 * stream.windows(4).filter(|w| w == &[0, 0, 1, 0]).count()];
+    let ((number, _), words) = judged(standard, stream, &mut part);
+    let line = |words: &[u64]| words.iter().map(u64::to_string).collect::<Vec<_>>().join(" ") + "\n";
+    if number != 0 {
+        return "refused picture coded expected\n".to_string() + &line(&[&[number.into()], &words[..3]].concat());
+    }
+    let word = |bytes: &[u8]| u64::from_le_bytes(bytes.try_into().unwrap());
+    let records = part.chunks(32).take(words[2] as usize);
+    "bit_rate buffer_bits pictures min_after max_before\n".to_string()
+        + &line(&words)
+        + "delay expected data_bits occupancy_before\n"
+        + &records.map(|r| line(&r.chunks(8).map(word).collect::<Vec<_>>())).collect::<String>()
 }

@@ -1,9 +1,14 @@
 //! Writes cases with the original's answers to standard output, and counts them on standard error.
 //!
-//!     cases [known] [short] [edges] SEED COUNT KIND..|all
+//!     cases [known] [short] [edges] SEED COUNT KIND..|all|19|small
 //!
 //! known: first the streams that have a name; short: then all inputs of at most two bytes; edges: then those around each
-//! boundary; then COUNT drawn ones.
+//! boundary; then COUNT drawn ones. Kind 19, lists of calls of the writer, goes to another program and stands alone;
+//! small: the same, but only lists of few bytes.
+//!
+//!     cases stream 1|2 FILE
+//!
+//! The original's answer for an MPEG-1 or MPEG-2 stream, as `vbvcheck` would print it.
 
 mod answers;
 mod calls;
@@ -12,18 +17,22 @@ mod checks;
 mod draw;
 mod headers;
 mod known;
+mod lists;
 mod model;
+mod sends;
 mod streams;
+mod writer;
 mod writers;
 
 use answers::{KINDS, answer};
 use draw::Draw;
+use original::vbv::VbvStandard;
 use std::collections::BTreeMap;
 use std::io::{BufWriter, Stdout, Write, stdout};
 use std::process::exit;
 
 /// How often each kind is drawn.
-const WEIGHTS: [usize; 18] = [12, 8, 16, 12, 8, 16, 6, 10, 2, 6, 3, 1, 1, 1, 24, 4, 40, 60];
+const WEIGHTS: [usize; 19] = [12, 8, 16, 12, 8, 16, 6, 10, 2, 6, 3, 1, 1, 1, 24, 4, 40, 60, 1];
 
 struct Cases {
     out: BufWriter<Stdout>,
@@ -62,7 +71,8 @@ impl Cases {
             1..=7 => headers::edges(kind, d, put),
             8..=13 => writers::edges(kind, d, put),
             14..=16 => calls::edges(kind, d, put),
-            _ => checks::edges(kind, d, put),
+            17 | 18 => checks::edges(kind, d, put),
+            _ => {}
         }
     }
 
@@ -75,7 +85,10 @@ impl Cases {
             eprintln!("{name}: {} accepted", of(0).map(|(_, n)| n).sum::<u64>());
             for &number in refusals {
                 for ((_, _, reason), n) in of(number) {
-                    eprintln!("    {n} refused {number}: {reason}");
+                    match number {
+                        29.. => eprintln!("    {n} {reason}"),
+                        _ => eprintln!("    {n} refused {number}: {reason}"),
+                    }
                 }
                 complete &= of(number).next().is_some();
             }
@@ -92,28 +105,50 @@ fn drawn(kind: u8, d: &mut Draw) -> Vec<u8> {
         1..=7 => headers::drawn(kind, d),
         8..=13 => writers::drawn(kind, d),
         14..=16 => calls::drawn(kind, d),
-        _ => checks::drawn(kind, d),
+        17 | 18 => checks::drawn(kind, d),
+        _ => sends::drawn(d),
     }
+}
+
+/// Prints the original's answer for a stream in a file.
+fn stream(standard: &str, file: &str) {
+    let standard = if standard == "1" { VbvStandard::Mpeg1 } else { VbvStandard::Mpeg2 };
+    let bytes = std::fs::read(file).unwrap_or_else(|e| {
+        eprintln!("cases: {file}: {e}");
+        exit(2)
+    });
+    print!("{}", check::lines(standard, &bytes));
 }
 
 fn main() {
     let mut words: Vec<String> = std::env::args().skip(1).collect();
+    if let [mode, standard @ ("1" | "2"), file] = &words.iter().map(String::as_str).collect::<Vec<_>>()[..] {
+        if *mode == "stream" {
+            return stream(standard, file);
+        }
+    }
     let mut flag = |name: &str| {
         let at = words.iter().position(|w| w == name);
         at.map(|i| words.remove(i)).is_some()
     };
-    let (known, short, edges, all) = (flag("known"), flag("short"), flag("edges"), flag("all"));
+    let (known, short, edges) = (flag("known"), flag("short"), flag("edges"));
+    let (all, small) = (flag("all"), flag("small"));
     let numbers: Vec<u64> = words.iter().filter_map(|w| w.parse().ok()).collect();
     let mut kinds: Vec<u8> = numbers.iter().skip(2).map(|&k| k as u8).collect();
     if all {
         kinds = (1..=18).collect();
     }
+    if small {
+        kinds.push(19);
+    }
     if numbers.len() < 2
         || numbers.len() != words.len()
         || kinds.is_empty()
-        || kinds.iter().any(|k| !(1..=18).contains(k))
+        || kinds.iter().any(|k| !(1..=19).contains(k))
+        || kinds.contains(&19) && 1 < kinds.len()
     {
-        eprintln!("usage: cases [known] [short] [edges] SEED COUNT KIND..|all   (kinds 1 to 18)");
+        eprintln!("usage: cases [known] [short] [edges] SEED COUNT KIND..|all|19|small   (all: 1 to 18)");
+        eprintln!("       cases stream 1|2 FILE");
         exit(2);
     }
 
@@ -133,7 +168,8 @@ fn main() {
     let lots: Vec<u8> = kinds.iter().flat_map(|&k| vec![k; WEIGHTS[k as usize - 1]]).collect();
     for _ in 0..numbers[1] {
         let kind = lots[d.below(lots.len())];
-        cases.put(kind, &drawn(kind, &mut d));
+        let input = if small { sends::small(&mut d) } else { drawn(kind, &mut d) };
+        cases.put(kind, &input);
     }
     cases.out.flush().unwrap_or_else(|_| exit(1));
     if !cases.report(&kinds) {

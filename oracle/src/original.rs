@@ -3,6 +3,7 @@
 pub mod gop_header;
 pub mod picture_header;
 pub mod quant_matrix_extension;
+pub mod rate_control;
 pub mod sequence_extension;
 pub mod sequence_header;
 pub mod stream_writer;

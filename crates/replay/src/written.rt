@@ -13,13 +13,13 @@ use crate::take::number16;
 use crate::take::number32;
 use crate::take::number64;
 use headers::Written;
-use headers::gop_header::Mpeg2Gop;
-use headers::gop_header::NominalRate;
-use headers::gop_header::TimeCode;
-use headers::gop_header::TimeCodeAnswer;
 use headers::quant_matrix_extension::QuantiserMatrix;
 use headers::sequence_extension::ChromaFormat;
 use headers::stream_writer::SequenceHeaderParams;
+use writers::gop_header::Mpeg2Gop;
+use writers::gop_header::NominalRate;
+use writers::gop_header::TimeCode;
+use writers::gop_header::TimeCodeAnswer;
 
 enum OptionChroma {
     Some(ChromaFormat),
@@ -46,7 +46,7 @@ pub(crate) fn write_sequence_header(s: &[u8], out: &mut [u8]) -> usize {
     if end < 5 || out.len() < end {
         return 0;
     }
-    let written = headers::stream_writer::write_sequence_header(&mut out[5..end], params);
+    let written = writers::stream_writer::write_sequence_header(&mut out[5..end], params);
     put_written(out, written);
     end
 }
@@ -63,7 +63,7 @@ pub(crate) fn write_sequence_extension(s: &[u8], out: &mut [u8]) -> usize {
     match chroma {
         OptionChroma::None => 0,
         OptionChroma::Some(format) => {
-            let written = headers::stream_writer::write_sequence_extension(
+            let written = writers::stream_writer::write_sequence_extension(
                 &mut out[5..end],
                 format,
                 is_set(s, 1),
@@ -94,7 +94,7 @@ pub(crate) fn write_gop_header(s: &[u8], out: &mut [u8]) -> usize {
     if end < 5 || out.len() < end {
         return 0;
     }
-    let written = headers::gop_header::write_gop_header(&mut out[5..end], gop);
+    let written = writers::gop_header::write_gop_header(&mut out[5..end], gop);
     put_written(out, written);
     end
 }
@@ -124,7 +124,7 @@ pub(crate) fn nominal_rate(s: &[u8], out: &mut [u8]) -> usize {
     if s.len() != 1 {
         return 0;
     }
-    let rate = headers::gop_header::nominal_pictures_per_second(byte(s, 0));
+    let rate = writers::gop_header::nominal_pictures_per_second(byte(s, 0));
     match rate {
         NominalRate::Refused(e) => put(out, 0, e.number()),
         NominalRate::PicturesPerSecond(n) => {
@@ -143,7 +143,7 @@ pub(crate) fn profile_and_level(s: &[u8], out: &mut [u8]) -> usize {
         OptionChroma::None => 0,
         OptionChroma::Some(format) => {
             let at = put(out, 0, 0);
-            let byte = headers::stream_writer::profile_and_level_indication(format);
+            let byte = writers::stream_writer::profile_and_level_indication(format);
             put32(out, at, byte as u32)
         }
     }

@@ -1,0 +1,66 @@
+// `oracle/build` puts this behind the original's `emit`: a writer that the oracle can see.
+
+pub struct OracleWriter(CbrWriter);
+
+impl OracleWriter {
+    /// As `encode_cbr_gop_sequence` makes it, of parameters that creation accepts, with nothing put out yet.
+    pub fn new(rate: u32, buffer: u16, rate_code: u8, q: u8, between: u8, anchors: u8) -> Self {
+        let frame_rate = frame_rate_value(rate_code).unwrap();
+        let (bit_rate, buffer_bits) = (u64::from(rate) * 400, u64::from(buffer) * 16 * 1024);
+        Self(CbrWriter {
+            out: vec![],
+            model: VbvCbrModel::new(&VbvParams::new(bit_rate, buffer_bits, frame_rate)).unwrap(),
+            frd: frame_rate.1,
+            target_bits: type_target_bits(bit_rate, frame_rate, between.into(), anchors.into()),
+            q: [q; 3],
+            quantisers: vec![],
+            stuffing_bytes: 0,
+            started: false,
+            buffer_bits,
+            bit_rate,
+        })
+    }
+
+    pub fn copy(&self) -> Self {
+        let w = &self.0;
+        Self(CbrWriter { out: w.out.clone(), model: w.model.clone(), quantisers: w.quantisers.clone(), ..*w })
+    }
+
+    /// Whether `emit` accepts; `layer` gives the layer for a quantiser, none where there is no more.
+    pub fn emit(
+        &mut self,
+        headers: &[u8],
+        kind: usize,
+        interval: RemovalInterval,
+        last: bool,
+        mut layer: impl FnMut(u8) -> Option<Vec<u8>>,
+    ) -> bool {
+        let kind = [PictureKind::I, PictureKind::P, PictureKind::B][kind];
+        let encode = |q| layer(q).map(|l| (l, None)).ok_or(Error::InvalidBitstream("no more layers"));
+        self.0.emit(headers, kind, interval, last, encode).is_ok()
+    }
+
+    pub fn out(&self) -> &[u8] {
+        &self.0.out
+    }
+
+    pub fn targets(&self) -> [u64; 3] {
+        self.0.target_bits
+    }
+
+    pub fn q(&self) -> [u8; 3] {
+        self.0.q
+    }
+
+    pub fn quantisers(&self) -> &[u8] {
+        &self.0.quantisers
+    }
+
+    pub fn stuffing_bytes(&self) -> u64 {
+        self.0.stuffing_bytes
+    }
+
+    pub fn state(&self) -> [u64; 4] {
+        self.0.model.oracle_state()
+    }
+}

@@ -1,0 +1,275 @@
+//! Kind 19: lists of calls of the constant-rate writer. The answer is the model's (writer.rs); on the way the original's `emit`
+//! runs beside it, and then the original's check over what was handed out.
+
+use crate::answers::{Answer, number};
+use crate::model::{interval, words};
+use crate::writer::{Config, Offer, Told, Writer};
+use original::rate_control::OracleWriter;
+use original::vbv::{VbvStandard, verify_cbr_stream};
+
+/// Answers that are no refusals, and what else is counted.
+const SET: u8 = 29;
+const AGAIN: u8 = 30;
+const WITHDRAWN: u8 = 31;
+const EMITTED: u8 = 32;
+const NOT_EMITTED: u8 = 33;
+const CHECKED: u8 = 34;
+const FINISHED: u8 = 35;
+
+/// What the answers are called.
+const REASONS: [(u8, &str); 19] = [
+    (0, ""),
+    (6, "rate code not 1 to 8"),
+    (7, "position beyond delivered bits"),
+    (9, "the first delay overflows"),
+    (12, "a parameter out of its range, or the ratio"),
+    (14, "position or end out of range"),
+    (17, "another kind than the pending one, or finished"),
+    (18, "headers do not fit"),
+    (19, "the part is too short"),
+    (20, "the layer does not fit"),
+    (21, "too large at 31"),
+    (22, "stuffed end beyond delivered bits"),
+    (SET, "states set by hand"),
+    (AGAIN, "asked for again"),
+    (WITHDRAWN, "withdrawn"),
+    (EMITTED, "placed by emit, with the same bytes, quantisers, stuffing and model"),
+    (NOT_EMITTED, "of those refused 7, 9, 21 and 22 refused by emit"),
+    (CHECKED, "lists with a picture, their bytes accepted by the original's check with these records"),
+    (FINISHED, "of these finished"),
+];
+
+fn met(number: u8) -> (u8, &'static str) {
+    *REASONS.iter().find(|r| r.0 == number).unwrap()
+}
+
+/// An input's bytes; the number of calls is one byte.
+pub fn config(c: &Config) -> Vec<u8> {
+    let mut bytes = c.rate.to_le_bytes().to_vec();
+    bytes.extend(c.buffer.to_le_bytes());
+    bytes.extend([c.rate_code, c.q, c.between, c.anchors, 0]);
+    bytes
+}
+
+pub fn add_withdrawal(input: &mut Vec<u8>) {
+    input[10] += 1;
+    input.extend([0; 10]);
+}
+
+/// A state set by hand: an end, and whole bits delivered.
+pub fn add_state(input: &mut Vec<u8>, end: u64, whole: u64) {
+    input[10] += 1;
+    input.extend([2, 0, 0, 0, 16, 0, 0, 0, 0, 0]);
+    words(input, &[end, whole]);
+}
+
+pub fn add_offer(input: &mut Vec<u8>, o: &Offer, part: usize) {
+    input[10] += 1;
+    input.extend([1, o.kind as u8, o.field.into(), o.last.into()]);
+    for n in [o.headers.len(), o.layer.len(), part] {
+        input.extend(u16::try_from(n).unwrap().to_le_bytes());
+    }
+    input.extend(&o.headers);
+    input.extend(&o.layer);
+}
+
+enum Call {
+    Withdrawal,
+    Offer(Offer),
+    State(u64, u64),
+}
+
+/// A call, the length of its output part, and the bytes behind it.
+fn call(s: &[u8]) -> (Call, usize, &[u8]) {
+    let length = |at: usize| number(&s[at..at + 2]) as usize;
+    let (middle, end) = (10 + length(4), 10 + length(4) + length(6));
+    let call = match s[0] {
+        0 => Call::Withdrawal,
+        1 => Call::Offer(Offer {
+            headers: s[10..middle].to_vec(),
+            kind: s[1].into(),
+            field: s[2] == 1,
+            last: s[3] == 1,
+            layer: s[middle..end].to_vec(),
+        }),
+        _ => Call::State(number(&s[10..18]), number(&s[18..26])),
+    };
+    (call, length(8), &s[end..])
+}
+
+/// What an output part holds before its offer.
+fn pattern(n: usize) -> Vec<u8> {
+    (0..n).map(|i| (i % 251) as u8).collect()
+}
+
+/// The original beside the model, and all that was handed out.
+struct Beside {
+    original: OracleWriter,
+    /// The offers of the pending picture.
+    tries: Vec<Offer>,
+    /// False behind a picture that `emit` cannot have seen so: one whose offers are not alike but for their layers.
+    compared: bool,
+    /// False behind a state set by hand.
+    whole: bool,
+    handed_out: Vec<u8>,
+    pictures: Vec<(u16, u64)>,
+    quantisers: Vec<u8>,
+    met: Vec<(u8, &'static str)>,
+}
+
+impl Beside {
+    /// Runs `emit` with the tries' layers, in turn.
+    fn emit(&self, original: &mut OracleWriter, qs: &mut Vec<u8>) -> bool {
+        let o = &self.tries[0];
+        let mut layers = self.tries.iter().map(|t| t.layer.clone());
+        original.emit(&o.headers, o.kind, interval(o.field.into()), o.last, |q| {
+            qs.push(q);
+            layers.next()
+        })
+    }
+
+    fn alike(&self) -> bool {
+        let first = &self.tries[0];
+        self.tries.iter().all(|t| Offer { layer: vec![], ..t.clone() } == Offer { layer: vec![], ..first.clone() })
+    }
+
+    /// After an offer that was placed, asked for again or refused.
+    fn offered(&mut self, after: &Writer, o: &Offer, told: Told, part: &[u8]) {
+        if !matches!(told, Told::Refused(17..=20 | 14)) {
+            self.tries.push(o.clone());
+        }
+        match told {
+            Told::Placed { q, delay, bytes, .. } => {
+                self.handed_out.extend(&part[..bytes as usize]);
+                self.pictures.push((delay, 8 * bytes));
+                self.quantisers.push(q);
+                self.compared &= self.alike();
+                if self.compared {
+                    self.placed(after, q);
+                }
+                self.tries.clear();
+            }
+            Told::Refused(n @ (7 | 9 | 21 | 22)) => {
+                if self.compared && self.alike() {
+                    let (mut copy, mut qs) = (self.original.copy(), vec![]);
+                    assert!(!self.emit(&mut copy, &mut qs), "emit does not refuse where the answer is {n}");
+                    // It finds 7 before it asks for a layer, and 9 only where the size lets it.
+                    let asked = if n == 7 { 0 } else { self.tries.len() };
+                    assert!(n == 9 || qs.len() == asked, "emit refuses for another reason than {n}");
+                    self.met.push(met(NOT_EMITTED));
+                }
+                self.tries.pop();
+                if n == 21 {
+                    self.tries.clear();
+                }
+            }
+            _ => {}
+        }
+    }
+
+    fn placed(&mut self, after: &Writer, q: u8) {
+        let mut original = self.original.copy();
+        let mut qs = vec![];
+        assert!(self.emit(&mut original, &mut qs), "emit refuses a placed picture");
+        assert_eq!(qs.len(), self.tries.len(), "emit asks for another number of layers");
+        assert_eq!(qs.last(), Some(&q));
+        assert!(original.out() == self.handed_out, "emit puts other bytes");
+        assert_eq!(original.quantisers(), self.quantisers);
+        assert_eq!(original.q(), after.q);
+        assert_eq!(original.stuffing_bytes(), after.stuffing);
+        assert_eq!(original.state(), after.model());
+        self.original = original;
+        self.met.push(met(EMITTED));
+    }
+
+    /// The original's check accepts what was handed out, with these records.
+    fn checked(&mut self, finished: bool) {
+        if self.pictures.is_empty() || !self.whole {
+            return;
+        }
+        let report = verify_cbr_stream(&self.handed_out, VbvStandard::Mpeg2).expect("the check refuses");
+        let records = report.pictures.iter().map(|p| (p.vbv_delay, p.expected_delay, p.data_bits));
+        assert!(records.eq(self.pictures.iter().map(|&(delay, bits)| (delay, delay, bits))), "other records");
+        self.met.push(met(CHECKED));
+        if finished {
+            self.met.push(met(FINISHED));
+        }
+    }
+}
+
+fn state(out: &mut Vec<u8>, w: &Writer) {
+    out.extend(w.q);
+    out.extend(w.pending.map_or([0, 0], |(kind, q)| [kind as u8 + 1, q]));
+    out.push(w.finished.into());
+    words(out, &[w.stuffing]);
+    words(out, &w.model());
+}
+
+fn in_words(told: Told) -> (u8, [u64; 4]) {
+    match told {
+        Told::Placed { q, delay, bytes, stuffing } => (0, [q.into(), delay.into(), bytes, stuffing]),
+        Told::Again(q) => (AGAIN, [q.into(), 0, 0, 0]),
+        Told::Refused(n) => (n, [0; 4]),
+    }
+}
+
+pub fn answer(input: &[u8]) -> Answer {
+    let c = Config {
+        rate: number(&input[..4]) as u32,
+        buffer: number(&input[4..6]) as u16,
+        rate_code: input[6],
+        q: input[7],
+        between: input[8],
+        anchors: input[9],
+    };
+    let mut w = match Writer::create(c) {
+        Ok(w) => w,
+        Err(n) => return Answer { bytes: vec![n], met: vec![met(n)] },
+    };
+    let original = OracleWriter::new(c.rate, c.buffer, c.rate_code, c.q, c.between, c.anchors);
+    assert_eq!(original.targets(), w.targets);
+    let mut beside = Beside {
+        original,
+        tries: vec![],
+        compared: true,
+        whole: true,
+        handed_out: vec![],
+        pictures: vec![],
+        quantisers: vec![],
+        met: vec![],
+    };
+    let mut answer = Answer { bytes: vec![0], met: vec![] };
+    words(&mut answer.bytes, &w.targets);
+    let mut rest = &input[11..];
+    while !rest.is_empty() {
+        let (call, part, behind) = call(rest);
+        rest = behind;
+        let mut part = pattern(part);
+        let (number, told) = match call {
+            Call::Withdrawal => {
+                w.withdraw();
+                beside.tries.clear();
+                (WITHDRAWN, [0; 4])
+            }
+            Call::State(end, whole) => {
+                w.set(end, whole);
+                beside.whole = false;
+                beside.compared = false;
+                (SET, [0; 4])
+            }
+            Call::Offer(o) => {
+                let told = w.offer(&o, &mut part);
+                beside.offered(&w, &o, told, &part);
+                in_words(told)
+            }
+        };
+        answer.met.push(met(number));
+        answer.bytes.push(number);
+        words(&mut answer.bytes, &told);
+        state(&mut answer.bytes, &w);
+        answer.bytes.extend(part);
+    }
+    beside.checked(w.finished);
+    answer.met.extend(beside.met);
+    answer
+}

@@ -1,0 +1,292 @@
+//! Inputs for kind 19: lists of calls, drawn call by call with the model at hand, so that sizes lie around the limits.
+
+use crate::draw::Draw;
+use crate::headers::{self, Field, damage, pack};
+use crate::lists::{add_offer, add_state, add_withdrawal, answer, config};
+use crate::streams::least_rate;
+use crate::writer::{Config, Offer, Told, Writer};
+
+/// Bytes that a layer, a part and a list with its answer have at most.
+const MOST_LAYER: u64 = 6_000;
+const MOST_PART: u64 = 9_000;
+const MOST_LIST: usize = 40_000;
+
+fn a_config(d: &mut Draw) -> Config {
+    let buffer = [1, 1, 1, 2, 3, d.nonzero(10)][d.below(6)];
+    let more = [0, d.below(8), d.below(100), d.below(100), d.below(600), d.below(600), d.below(3000), d.below(1 << 18)];
+    let mut c = Config {
+        rate: (least_rate(buffer) as u32 + more[d.below(8)] as u32).min(262_143),
+        buffer: buffer as u16,
+        rate_code: 1 + d.below(8) as u8,
+        q: [1, 31, 1 + d.below(31) as u8, 24 + d.below(8) as u8][d.below(4)],
+        between: [0, 1, 2, d.below(16) as u8][d.below(4)],
+        anchors: [1, 4, 1 + d.below(255) as u8][d.below(3)],
+    };
+    if d.one_in(24) {
+        // Interval and buffer alike, or nearly so.
+        (c.buffer, c.rate_code) = (1, [2, 3, 5, 6, 8][d.below(5)]);
+        c.rate = [983, 984, 1024, 1228, 1229, 2048, 2457, 2458][d.below(8)];
+    }
+    let faults = if d.one_in(12) { 1 + d.below(2) } else { 0 };
+    for _ in 0..faults {
+        match d.below(7) {
+            0 => c.rate = [0, 262_144, d.next() as u32][d.below(3)],
+            1 => c.buffer = [0, 1024, d.next() as u16][d.below(3)],
+            2 | 3 => c.rate_code = [0, 9, d.byte()][d.below(3)],
+            4 => c.q = [0, 32, d.byte()][d.below(3)],
+            5 => (c.between, c.anchors) = [(16, 1), (0, 0), (d.byte(), d.byte())][d.below(3)],
+            _ => c.rate = (least_rate(c.buffer.into()) as u32).saturating_sub(1 + d.below(3) as u32),
+        }
+    }
+    c
+}
+
+/// Bytes in which no start code can be, but for zeros at the end.
+fn filler(n: usize, d: &mut Draw) -> Vec<u8> {
+    (0..n).map(|_| 2 + d.below(254) as u8).collect()
+}
+
+fn user_data(n: usize, d: &mut Draw) -> Vec<u8> {
+    [&[0, 0, 1, 0xB2][..], &filler(n, d)].concat()
+}
+
+fn sequence(c: &Config, d: &mut Draw) -> Vec<u8> {
+    let matrices = if d.one_in(16) { d.below(4) } else { 0 };
+    let mut header = headers::sequence_header(matrices, d);
+    (header[4].1, header[5].1, header[7].1) = (c.rate_code.into(), c.rate.into(), c.buffer.into());
+    let mut extension = headers::sequence_extension(d);
+    for i in [7, 9, 11, 12] {
+        extension[i].1 = 0;
+    }
+    if d.one_in(24) {
+        let i = [7, 9, 11, 12][d.below(4)];
+        extension[i].1 = d.value(extension[i].0);
+    }
+    if d.one_in(24) {
+        let i = [4, 5, 7][d.below(3)];
+        header[i].1 = d.nonzero(header[i].0);
+    }
+    [pack(&header), pack(&extension)].concat()
+}
+
+fn some_headers(w: &Writer, c: &Config, d: &mut Draw) -> Vec<u8> {
+    let mut h = vec![];
+    if w.placed == 0 && !d.one_in(40) || d.one_in(60) {
+        h.extend(sequence(c, d));
+    }
+    if d.one_in(3) {
+        h.extend([&[0, 0, 1, 0xB8][..], &filler(4, d)].concat());
+    }
+    if d.one_in(6) {
+        let n = d.below(12);
+        h.extend(user_data(n, d));
+    }
+    if d.one_in(12) {
+        // Up to the bits delivered or the buffer's free quarter.
+        let most = if w.placed == 0 { 512 * u64::from(c.buffer) } else { w.room(h.len()) };
+        let n = most.saturating_sub(h.len() as u64).min(MOST_LAYER) as usize + d.below(12);
+        h.extend(user_data(n.saturating_sub(9), d));
+    }
+    if d.one_in(16) {
+        h.extend(vec![0; d.below(4)]);
+    }
+    if d.one_in(24) {
+        damage(&mut h, d);
+    }
+    if d.one_in(48) {
+        h.pop();
+    }
+    if d.one_in(48) {
+        h.extend([[0, 0, 1].to_vec(), vec![0, 0, 1, d.byte()], vec![0, 0, 1, 0xB7]][d.below(3)].clone());
+    }
+    h
+}
+
+/// A picture header and its extension as fields, perhaps with something in them that does not fit.
+fn front(kind: usize, field: bool, d: &mut Draw) -> (Vec<Field>, Vec<Field>) {
+    let extra = if d.one_in(16) { d.below(10) } else { 0 };
+    let mut header = headers::picture_header(kind as u64 + 1, extra, d);
+    for i in 0..kind {
+        (header[4 + 2 * i].1, header[5 + 2 * i].1) = (0, 7);
+    }
+    let last = header.len() - 1;
+    if 61 + 4 * kind + 9 * extra + 1 < header.iter().map(|f| f.0 as usize).sum() {
+        header[last].1 = 0;
+    }
+    let mut extension = headers::picture_coding_extension(d);
+    extension[7].1 = if field { 1 + d.below(2) as u64 } else { 3 };
+    extension[14].1 = 0;
+    if d.one_in(16) {
+        match d.below(3) {
+            0 => {
+                let i = 2 + d.below(header.len() - 2);
+                header[i].1 = d.value(header[i].0);
+            }
+            1 => extension[14].1 = 1,
+            _ => {
+                let i = 1 + d.below(extension.len() - 1);
+                extension[i].1 = d.value(extension[i].0);
+            }
+        }
+    }
+    (header, extension)
+}
+
+/// A layer of a length, or of the least that is possible.
+fn a_layer(kind: usize, field: bool, length: u64, d: &mut Draw) -> Vec<u8> {
+    let (header, extension) = front(kind, field, d);
+    let mut l = pack(&header);
+    if d.one_in(16) {
+        l.extend(vec![0; d.below(4)]);
+    }
+    let skip = if d.one_in(24) { l.iter().rev().take(2).take_while(|&&b| b == 0).count() } else { 0 };
+    l.extend(&pack(&extension)[skip..]);
+    if d.one_in(12) {
+        let n = d.below(6);
+        l.extend(user_data(n, d));
+    }
+    if d.one_in(24) {
+        l.extend([0, 0, 1, 0xB5, 0x32, 0x55]);
+    }
+    let skip = if d.one_in(8) { l.iter().rev().take(2).take_while(|&&b| b == 0).count() } else { 0 };
+    l.extend(&[0, 0, 1, 1 + d.below(0xAF) as u8][skip..]);
+    let length = length.min(MOST_LAYER) as usize;
+    if 12 < length.saturating_sub(l.len()) && d.one_in(3) {
+        l.extend(filler(3, d));
+        l.extend([0, 0, 1, 1 + d.below(0xAF) as u8]);
+    }
+    let rest = length.saturating_sub(l.len());
+    let zeros = if d.one_in(6) { d.below(rest + 1) } else { 0 };
+    l.extend(filler(rest - zeros, d));
+    l.extend(vec![0; zeros]);
+    if d.one_in(40) {
+        damage(&mut l, d);
+    }
+    if d.one_in(24) {
+        let behind = l.split_off(l.len().min(30));
+        damage(&mut l, d);
+        l.extend(behind);
+    }
+    if d.one_in(64) {
+        l.extend([vec![0, 0, 1], vec![0, 0, 1, d.byte(), 5], vec![0, 0, 1, 0xB5, 0x80]][d.below(3)].clone());
+    }
+    l
+}
+
+/// A layer's length: small, around the greatest, around the bounds of the quantiser's steps, or beyond; behind a state set by
+/// hand also around 2^48.
+fn length(w: &Writer, o: &Offer, d: &mut Draw) -> u64 {
+    let tail = if o.last { 4 } else { 0 };
+    let most = w.room(o.headers.len()).saturating_sub(o.headers.len() as u64 + tail);
+    let target = w.targets[o.kind] / 8;
+    let near = |n: u64, d: &mut Draw| (n + d.below(4) as u64).saturating_sub(2);
+    let before = (1 << 47) < w.end && w.end <= 1 << 48;
+    match d.below(12) {
+        _ if before && d.one_in(2) => {
+            let left = ((1 << 48) - w.end as u64) / 8;
+            near(left.saturating_sub(o.headers.len() as u64 + tail), d)
+        }
+        0 | 1 => 0,
+        2 | 3 => near(most, d),
+        4 => near(target * 6 / 5, d),
+        5 => near(target * 7 / 10, d),
+        6 => most + 1 + d.below(40) as u64,
+        7 => d.next() % (target + target / 2 + 1),
+        _ => d.next() % (most + most / 8 + 1),
+    }
+}
+
+fn an_offer(w: &Writer, c: &Config, before: Option<&Offer>, close: bool, d: &mut Draw) -> Offer {
+    let pending = w.pending.map(|p| p.0);
+    let kind = match pending {
+        Some(kind) if !d.one_in(24) => kind,
+        _ if w.placed == 0 && d.one_in(2) => 0,
+        _ => d.below(3),
+    };
+    let mut o = match before {
+        Some(o) if pending.is_some() && !d.one_in(12) => Offer { kind, layer: vec![], ..o.clone() },
+        _ => Offer {
+            headers: some_headers(w, c, d),
+            kind,
+            field: d.one_in(4),
+            last: close || d.one_in(16),
+            layer: vec![],
+        },
+    };
+    let n = if pending.is_some() && d.one_in(2) { w.room(o.headers.len()) + 1 } else { length(w, &o, d) };
+    let (shown, field) = (if d.one_in(64) { d.below(3) } else { o.kind }, o.field != d.one_in(64));
+    o.layer = a_layer(shown, field, n, d);
+    o
+}
+
+/// The length of an output part, mostly enough.
+fn a_part(w: &Writer, o: &Offer, d: &mut Draw) -> usize {
+    let mut room = vec![0; MOST_PART as usize];
+    let needed = match w.clone().offer(o, &mut room) {
+        Told::Placed { bytes, .. } => bytes as usize,
+        _ => return d.below(24),
+    };
+    match d.below(16) {
+        0 => needed - 1,
+        1 => d.below(needed),
+        2..=8 => needed,
+        _ => needed + d.below(16),
+    }
+}
+
+/// An end, and bits delivered in the buffer's range behind it, near 2^48.
+fn a_far_state(c: &Config, d: &mut Draw) -> (u64, u64) {
+    let end = (1 << 48) - 8 * [d.below(40), d.below(400), d.below(4000)][d.below(3)] as u64;
+    let most = 16_384 * u64::from(c.buffer);
+    (end, end + [most, d.next() % (most + 1), most - d.next() % (most.min(64) + 1)][d.below(3)])
+}
+
+/// One list.
+pub fn drawn(d: &mut Draw) -> Vec<u8> {
+    let c = a_config(d);
+    let mut input = config(&c);
+    let Ok(mut w) = Writer::create(c) else { return input };
+    let calls = if d.one_in(8) { d.below(30) } else { d.below(10) };
+    let far = d.one_in(40);
+    let mut before = None;
+    let mut size = 0;
+    for n in 0..calls {
+        if w.finished && !d.one_in(3) {
+            break;
+        }
+        if far && d.one_in(3) {
+            let (end, whole) = a_far_state(&c, d);
+            w.set(end, whole);
+            add_state(&mut input, end, whole);
+            size += 120;
+            continue;
+        }
+        if d.one_in(24) || w.pending.is_some() && d.one_in(16) {
+            w.withdraw();
+            add_withdrawal(&mut input);
+            size += 100;
+            continue;
+        }
+        let o = an_offer(&w, &c, before.as_ref(), n + 2 >= calls, d);
+        let part = a_part(&w, &o, d);
+        size += o.headers.len() + o.layer.len() + part + 100;
+        if MOST_LIST < size {
+            break;
+        }
+        w.offer(&o, &mut vec![0; part]);
+        add_offer(&mut input, &o, part);
+        before = Some(o);
+    }
+    input
+}
+
+/// One list that has at most 4,000 bytes with its answer, more often than not of at least four calls.
+pub fn small(d: &mut Draw) -> Vec<u8> {
+    loop {
+        let input = drawn(d);
+        let few = input[10] < 4 && !d.one_in(4);
+        if !few && input.len() + answer(&input).bytes.len() <= 4_000 {
+            return input;
+        }
+    }
+}

@@ -1,0 +1,293 @@
+//! The constant-rate writer as paper 01 tells it ('A placed picture'): a model of the paper's rules in plain numbers of 128 bits.
+//! It parses with the original's functions; everything else is its own.
+
+use original::picture_header::{Mpeg2PictureHeader, PictureCodingType, PictureStructure};
+use original::sequence_extension::Mpeg2Sequence;
+
+const FRAME_RATES: [(u128, u128); 8] =
+    [(24_000, 1001), (24, 1), (25, 1), (30_000, 1001), (30, 1), (50, 1), (60_000, 1001), (60, 1)];
+
+#[derive(Clone, Copy)]
+pub struct Config {
+    pub rate: u32,
+    pub buffer: u16,
+    pub rate_code: u8,
+    pub q: u8,
+    pub between: u8,
+    pub anchors: u8,
+}
+
+/// Kinds are 0, 1 and 2 for I, P and B.
+#[derive(Clone, PartialEq)]
+pub struct Offer {
+    pub headers: Vec<u8>,
+    pub kind: usize,
+    pub field: bool,
+    pub last: bool,
+    pub layer: Vec<u8>,
+}
+
+#[derive(Clone, Copy, Debug, PartialEq)]
+pub enum Told {
+    Placed { q: u8, delay: u16, bytes: u64, stuffing: u64 },
+    Again(u8),
+    Refused(u8),
+}
+
+/// Bits delivered are counted in units of 1 / (180,000 × frn) bit.
+#[derive(Clone)]
+pub struct Writer {
+    config: Config,
+    rate: u128,
+    buffer: u128,
+    frn: u128,
+    frd: u128,
+    pub targets: [u64; 3],
+    pub q: [u8; 3],
+    pub pending: Option<(usize, u8)>,
+    delivered: u128,
+    pub end: u128,
+    pub placed: u64,
+    pub stuffing: u64,
+    pub finished: bool,
+}
+
+/// Start codes with their places, found left to right.
+fn codes(s: &[u8]) -> Vec<(usize, u8)> {
+    let (mut found, mut i) = (vec![], 0);
+    while i + 3 < s.len() {
+        if s[i..i + 3] == [0, 0, 1] {
+            found.push((i, s[i + 3]));
+            i += 4;
+        } else {
+            i += 1;
+        }
+    }
+    found
+}
+
+fn bit(s: &[u8], i: usize) -> u8 {
+    s[i / 8] >> (7 - i % 8) & 1
+}
+
+/// The bits of a picture header that parses.
+fn header_bits(layer: &[u8], kind: usize) -> usize {
+    let mut at = 32 + 10 + 3 + 16 + 4 * kind;
+    while bit(layer, at) == 1 {
+        at += 9;
+    }
+    at + 1
+}
+
+fn layer_fits(o: &Offer) -> bool {
+    let layer = &o.layer;
+    let Ok((header, extension)) = Mpeg2PictureHeader::parse_with_extension(layer) else { return false };
+    let kind = match header.picture_coding_type {
+        PictureCodingType::Intra => 0,
+        PictureCodingType::Predictive => 1,
+        PictureCodingType::Bidirectional => 2,
+        _ => return false,
+    };
+    let structure = (extension.picture_structure == PictureStructure::Frame) != o.field;
+    let pel = [header.full_pel_forward_vector, header.full_pel_backward_vector].iter().all(|f| *f != Some(true));
+    let seven = [header.fwd_f_code, header.bwd_f_code].iter().flatten().all(|&c| c == 7);
+    if kind != o.kind || !structure || extension.repeat_first_field || !pel || !seven {
+        return false;
+    }
+    let bits = header_bits(layer, kind);
+    let bytes = bits.div_ceil(8);
+    let padded = (bits..8 * bytes).all(|i| bit(layer, i) == 0);
+    let zeros = layer[bytes..].iter().take_while(|&&b| b == 0).count();
+    let prefix = 2 <= zeros && layer[bytes + zeros..].starts_with(&[1, 0xB5]);
+    let codes = codes(layer);
+    let slice = |c: u8| (0x01..=0xAF).contains(&c);
+    let first = (1..codes.len()).find(|&i| slice(codes[i].1)).unwrap_or(codes.len());
+    padded
+        && prefix
+        && codes[0] == (0, 0)
+        && codes[1..first].iter().all(|c| c.1 == 0xB5 || c.1 == 0xB2)
+        && first < codes.len()
+        && codes[first..].iter().all(|c| slice(c.1))
+        && !layer.ends_with(&[0, 0, 1])
+}
+
+impl Writer {
+    pub fn create(c: Config) -> Result<Self, u8> {
+        let fits = (1..=262_143).contains(&c.rate)
+            && (1..=1023).contains(&c.buffer)
+            && (1..=31).contains(&c.q)
+            && c.between <= 15
+            && 1 <= c.anchors;
+        if !fits {
+            return Err(12);
+        }
+        if !(1..=8).contains(&c.rate_code) {
+            return Err(6);
+        }
+        let (rate, buffer) = (400 * u128::from(c.rate), 16_384 * u128::from(c.buffer));
+        if 90_000 * buffer > 65_534 * rate {
+            return Err(12);
+        }
+        let (frn, frd) = FRAME_RATES[c.rate_code as usize - 1];
+        let (between, anchors) = (u128::from(c.between), u128::from(c.anchors));
+        let group = rate * frd / frn * (1 + anchors * (between + 1));
+        let weights = 40 + 16 * anchors + 9 * anchors * between;
+        let targets = [40, 16, 9].map(|w| (group * w / weights) as u64);
+        let (q, pending) = ([c.q; 3], None);
+        let (delivered, end, placed, stuffing, finished) = (0, 0, 0, 0, false);
+        let config = c;
+        Ok(Self { config, rate, buffer, frn, frd, targets, q, pending, delivered, end, placed, stuffing, finished })
+    }
+
+    fn units(&self) -> u128 {
+        180_000 * self.frn
+    }
+
+    /// Whole bits delivered, the rest in units, the previous end and the removals.
+    pub fn model(&self) -> [u64; 4] {
+        let (whole, rest) = (self.delivered / self.units(), self.delivered % self.units());
+        [whole as u64, rest as u64, self.end as u64, self.placed]
+    }
+
+    fn headers_fit(&self, h: &[u8]) -> bool {
+        let codes = codes(h);
+        let sequences = codes.iter().filter(|c| c.1 == 0xB3).count();
+        let shape = (h.is_empty() || h.starts_with(&[0, 0, 1]))
+            && codes.iter().all(|c| [0xB2, 0xB3, 0xB5, 0xB8].contains(&c.1))
+            && !h.ends_with(&[0, 0, 1]);
+        if self.placed != 0 {
+            return shape && sequences == 0;
+        }
+        shape && sequences == 1 && codes[0] == (0, 0xB3) && self.declared(h)
+    }
+
+    /// A sequence header with this rate, buffer and frame rate.
+    fn declared(&self, h: &[u8]) -> bool {
+        Mpeg2Sequence::from_buf(h).is_ok_and(|s| {
+            400 * u128::from(s.bit_rate) == self.rate
+                && 16_384 * u128::from(s.vbv_buffer_size) == self.buffer
+                && s.header.frame_rate_code == self.config.rate_code
+                && (s.extension.frame_rate_extension_n, s.extension.frame_rate_extension_d) == (0, 0)
+        })
+    }
+
+    /// Where the picture's start code ends, in bits.
+    pub fn position(&self, headers: usize) -> u128 {
+        self.end + 8 * (headers as u128 + 4)
+    }
+
+    /// Units delivered at the removal of an offered picture.
+    pub fn delivered(&self, headers: usize) -> u128 {
+        if self.placed != 0 {
+            return self.delivered;
+        }
+        let delay = 90_000 * self.buffer * 3 / (4 * self.rate);
+        self.position(headers) * self.units() + delay * self.rate * 2 * self.frn
+    }
+
+    /// Bytes that may be added before the bits delivered are used up.
+    pub fn room(&self, headers: usize) -> u64 {
+        (self.delivered(headers) / self.units()).saturating_sub(self.end) as u64 / 8
+    }
+
+    pub fn asked(&self, kind: usize) -> u8 {
+        self.pending.map_or(self.q[kind], |p| p.1)
+    }
+
+    /// A state that no list of calls comes to: one picture placed, an end, and whole bits delivered.
+    pub fn set(&mut self, end: u64, whole: u64) {
+        (self.placed, self.end, self.delivered) = (1, end.into(), u128::from(whole) * self.units());
+    }
+
+    pub fn withdraw(&mut self) {
+        self.pending = None;
+    }
+
+    pub fn offer(&mut self, o: &Offer, part: &mut [u8]) -> Told {
+        if self.finished || self.pending.is_some_and(|p| p.0 != o.kind) {
+            return Told::Refused(17);
+        }
+        if !self.headers_fit(&o.headers) {
+            return Told::Refused(18);
+        }
+        if !layer_fits(o) {
+            return Told::Refused(20);
+        }
+        let units = self.units();
+        let position = self.position(o.headers.len());
+        let tail = if o.last { 4 } else { 0 };
+        let content = self.end + 8 * (o.headers.len() + o.layer.len() + tail) as u128;
+        let delivered = self.delivered(o.headers.len());
+        let period = self.rate * self.frd * if o.field { 90_000 } else { 180_000 };
+        let mut end = content;
+        if !o.last {
+            let least = (delivered + period).saturating_sub(self.buffer * units).div_ceil(units);
+            end = end.max(8 * least.div_ceil(8));
+        }
+        let far = 1 << 48;
+        if position > far || end > far {
+            return Told::Refused(14);
+        }
+        if position * units > delivered {
+            return Told::Refused(7);
+        }
+        if delivered > (self.end + self.buffer) * units {
+            return Told::Refused(9);
+        }
+        let q = self.asked(o.kind);
+        if content * units > delivered {
+            return self.too_large(o.kind, q);
+        }
+        if end * units > delivered {
+            return Told::Refused(22);
+        }
+        let bytes = ((end - self.end) / 8) as usize;
+        if part.len() < bytes {
+            return Told::Refused(19);
+        }
+        let (over, whole) = ((delivered - position * units) * 90_000, self.rate * units);
+        let delay = u16::try_from((2 * over + whole) / (2 * whole)).unwrap();
+        let stuffing = ((end - content) / 8) as u64;
+        self.put(o, delay, stuffing as usize, &mut part[..bytes]);
+        self.steer(o, q);
+        self.pending = None;
+        self.delivered = delivered + period;
+        self.end = end;
+        self.placed += 1;
+        self.stuffing += stuffing;
+        self.finished = o.last;
+        Told::Placed { q, delay, bytes: bytes as u64, stuffing }
+    }
+
+    fn too_large(&mut self, kind: usize, q: u8) -> Told {
+        if q == 31 {
+            self.pending = None;
+            return Told::Refused(21);
+        }
+        let next = (q + 1 + q / 4).min(31);
+        self.pending = Some((kind, next));
+        Told::Again(next)
+    }
+
+    fn put(&self, o: &Offer, delay: u16, stuffing: usize, part: &mut [u8]) {
+        let mut layer = o.layer.clone();
+        for i in 0..16 {
+            let (at, set) = (45 + i, (delay >> (15 - i) & 1) as u8);
+            let shift = 7 - at % 8;
+            layer[at / 8] = layer[at / 8] & !(1 << shift) | set << shift;
+        }
+        let tail: &[u8] = if o.last { &[0, 0, 1, 0xB7] } else { &[] };
+        part.copy_from_slice(&[&o.headers[..], &layer, &vec![0; stuffing], tail].concat());
+    }
+
+    fn steer(&mut self, o: &Offer, q: u8) {
+        let (bits, target) = (8 * o.layer.len() as u128, u128::from(self.targets[o.kind].max(1)));
+        self.q[o.kind] = if 5 * bits > 6 * target {
+            (q + 1).min(31)
+        } else if 10 * bits < 7 * target {
+            (q - 1).max(1)
+        } else {
+            q
+        };
+    }
+}
