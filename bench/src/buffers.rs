@@ -1,0 +1,123 @@
+//! The buffers that both are timed on.
+
+use original::picture_header::{Mpeg2PictureHeader, PictureStructure};
+use original::sequence_header::Mpeg2SequenceHeader;
+use original::vbv::{
+    RemovalInterval, VbvCbrModel, VbvParams, VbvStandard, frame_rate_value, oracle_scan_start_codes, patch_vbv_delay,
+};
+
+struct Picture {
+    at: usize,
+    end: usize,
+    interval: RemovalInterval,
+}
+
+/// The pictures of a stream that begins with its sequence header.
+fn pictures(standard: VbvStandard, stream: &[u8]) -> Vec<Picture> {
+    let codes = oracle_scan_start_codes(stream);
+    let slice = |i: &usize| (0x01..=0xAF).contains(&codes[*i].1);
+    let mut found = vec![];
+    let mut i = 0;
+    while let Some(picture) = (i..codes.len()).find(|&i| codes[i].1 == 0) {
+        let first = (picture..codes.len()).find(slice).unwrap_or(codes.len());
+        i = (first..codes.len()).find(|i| !slice(i)).unwrap_or(codes.len());
+        let (at, end) = (codes[picture].0, codes.get(i).map_or(stream.len(), |&(offset, _)| offset));
+        found.push(Picture { at, end, interval: interval(standard, &stream[at..]) });
+    }
+    found
+}
+
+fn interval(standard: VbvStandard, picture: &[u8]) -> RemovalInterval {
+    let frame = standard == VbvStandard::Mpeg1
+        || Mpeg2PictureHeader::parse_with_extension(picture).unwrap().1.picture_structure == PictureStructure::Frame;
+    if frame { RemovalInterval::Frame } else { RemovalInterval::Field }
+}
+
+/// Gives every picture the delay that the original's model expects, from the first one's on.
+fn stamp(standard: VbvStandard, stream: &mut [u8], first: u16) {
+    let header = Mpeg2SequenceHeader::parse(stream).unwrap();
+    let frame_rate = frame_rate_value(header.frame_rate_code).unwrap();
+    let (rate, buffer) = (400 * u64::from(header.bit_rate), 16_384 * u64::from(header.vbv_buffer_size));
+    let mut model = VbvCbrModel::new(&VbvParams::new(rate, buffer, frame_rate)).unwrap();
+    for (n, p) in pictures(standard, stream).iter().enumerate() {
+        let position = 8 * (p.at as u64 + 4);
+        if n == 0 {
+            model.start(first, position);
+        }
+        let delay = model.delay_for_picture(position).unwrap();
+        patch_vbv_delay(&mut stream[p.at..], delay).unwrap();
+        model.remove_picture(8 * p.end as u64, p.interval, frame_rate.1).unwrap();
+    }
+}
+
+/// A stream of 25 frames a second, over and over up to `size` bytes, and accepted: the rate that it declares is the least
+/// that carries it, each round is padded to that rate, and the delays are the expected ones.
+pub fn repeated(standard: VbvStandard, stream: &[u8], size: usize) -> Vec<u8> {
+    let fields: usize =
+        pictures(standard, stream).iter().map(|p| if p.interval == RemovalInterval::Frame { 2 } else { 1 }).sum();
+    let rate = stream.len().div_ceil(fields); // in 400 bits a second, which is one byte a field period
+    let mut round = stream.to_vec();
+    round.resize(rate * fields, 0);
+    let mut long = round.repeat((size / round.len()).max(1));
+    long[8] = (rate >> 10) as u8;
+    long[9] = (rate >> 2) as u8;
+    long[10] = (rate << 6) as u8 | (long[10] & 0x3F);
+    let header = Mpeg2SequenceHeader::parse(&long).unwrap();
+    let full = 90_000 * 16_384 * u64::from(header.vbv_buffer_size) / (400 * rate as u64);
+    stamp(standard, &mut long, (full * 3 / 4) as u16);
+    long
+}
+
+/// Fields of 23 or 24 bytes at 60 frames a second, the least that the least rate (22,800) carries; accepted.
+pub fn tiny(size: usize) -> Vec<u8> {
+    let mut stream = vec![0, 0, 1, 0xB3, 1, 0, 0x10, 0x18, 0, 0x0E, 0x60, 8];
+    stream.extend([0, 0, 1, 0xB5, 0x14, 0x82, 0, 1, 0, 0]);
+    let mut n = 0;
+    while stream.len() < size {
+        let structure = 0xF1 + n % 2;
+        stream
+            .extend([0, 0, 1, 0, 0, 8, 0, 0, 0, 0, 1, 0xB5, 0x8F, 0xFF, structure, 0x41, 0x80, 0, 0, 1, 1, 0x12, 0x34]);
+        if n % 4 != 3 {
+            stream.push(0);
+        }
+        n = (n + 1) % 4;
+    }
+    stamp(VbvStandard::Mpeg2, &mut stream, 40_000);
+    stream
+}
+
+/// Pictures as a broadcast at 3.6 Mbit/s has them: 36 slices of 504 bytes, whose data are those of the slices of a small
+/// stream, one after another; accepted.
+pub fn broadcast(from: &[u8], size: usize) -> Vec<u8> {
+    let codes = oracle_scan_start_codes(from);
+    let slices = codes.windows(2).filter(|w| (0x01..=0xAF).contains(&w[0].1));
+    let data: Vec<u8> = slices.flat_map(|w| from[w[0].0 + 4..w[1].0].iter().copied()).collect();
+    let mut data = data.chunks_exact(499).cycle();
+    let rate: u32 = 9_081; // in 400 bits a second, which is two bytes a frame: 18,162 bytes
+    let mut stream = vec![0, 0, 1, 0xB3, 0x2D, 2, 0x40, 0x13];
+    stream.extend((rate << 14 | 1 << 13 | 112 << 3).to_be_bytes());
+    stream.extend([0, 0, 1, 0xB5, 0x14, 0x82, 0, 1, 0, 0]);
+    while stream.len() < size {
+        stream.extend([0, 0, 1, 0, 0, 8, 0, 0, 0, 0, 1, 0xB5, 0x8F, 0xFF, 0xF3, 0x41, 0x80]);
+        for row in 1..=36 {
+            stream.extend([0, 0, 1, row]);
+            stream.extend(data.next().unwrap());
+            stream.push(0x80);
+        }
+        stream.push(0);
+    }
+    stamp(VbvStandard::Mpeg2, &mut stream, 30_000);
+    stream
+}
+
+/// Random bytes (xorshift).
+pub fn random(size: usize) -> Vec<u8> {
+    let mut x = 0x9E37_79B9_7F4A_7C15u64;
+    let mut next = || {
+        x ^= x << 13;
+        x ^= x >> 7;
+        x ^= x << 17;
+        x
+    };
+    (0..size / 8).flat_map(|_| next().to_le_bytes()).collect()
+}

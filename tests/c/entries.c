@@ -1,0 +1,304 @@
+/* Calls the two entries as C firmware would, and holds every byte of every lent place to what it must be afterwards.
+ * Each place is memory of its own of just its length, so that valgrind sees a byte too far. Exit status 1: something differs. */
+#define _DEFAULT_SOURCE
+#include "hipokuta.h"
+
+#include <inttypes.h>
+#include <stdio.h>
+#include <stdlib.h>
+#include <string.h>
+#include <sys/mman.h>
+
+enum { MOST_PICTURES = 2, WORDS = 4 * MOST_PICTURES };
+
+/* 16 by 16, 25 frames, 1,000,000 bits a second, buffer 327,680 bits, for either standard; MPEG-2's extension; a group. */
+#define SEQUENCE "000001B301001013027120A0"
+#define EXTENSION "000001B5148200010000"
+#define GROUP "000001B800080040"
+/* 182,400 bits a second and a buffer of 131,072 bits, 64,673 ticks; 22,800 bits a second and 16,384 bits. */
+#define SLOW "000001B30100101300722040"
+#define SLOWEST "000001B301001013000E6008"
+/* Picture headers of I pictures, by their delay. */
+#define I_0 "0000010000080000"
+#define I_400 "0000010000080C80"
+#define I_22118 "00000100000AB330"
+#define I_23901 "00000100000AEAE8"
+#define I_25701 "00000100000B2328"
+#define I_25708 "00000100000B2360"
+#define I_30000 "00000100000BA980"
+#define I_64000 "00000100000FD000"
+#define I_FFFF "00000100000FFFF8"
+/* A slice; before it, in MPEG-2, the coding extension of a frame, a top field, a bottom field. */
+#define SLICE "000001011234"
+#define FRAME "000001B58FFFF34180" SLICE
+#define TOP "000001B58FFFF14180" SLICE
+#define BOTTOM "000001B58FFFF24180" SLICE
+#define TEN "40404040404040404040"
+#define FIFTY TEN TEN TEN TEN TEN
+#define USER_DATA "000001B2" FIFTY FIFTY FIFTY FIFTY
+
+/* A stream and its answer: number 0 with report and records, or a refusal (number, picture, coded, expected). */
+struct known {
+    const char *name, *hex;
+    uint8_t standard;
+    uint64_t refusal[4], report[5], records[WORDS];
+};
+
+/* The answers are the original Rust's. */
+static const struct known accepted[] = {
+    { "the paper's stream", SEQUENCE EXTENSION GROUP I_22118 FRAME "000001B7", 2, { 0 },
+      { 1000000, 327680, 1, 245571, 246027 }, { 22118, 22118, 456, 246027 } },
+    { "two frames", SEQUENCE EXTENSION I_22118 FRAME I_25701 FRAME, 2, { 0 },
+      { 1000000, 327680, 2, 245603, 285603 }, { 22118, 22118, 360, 245963, 25701, 25701, 184, 285603 } },
+    { "two fields", SEQUENCE EXTENSION I_22118 TOP I_23901 BOTTOM, 2, { 0 },
+      { 1000000, 327680, 2, 245603, 265603 }, { 22118, 22118, 360, 245963, 23901, 23901, 184, 265603 } },
+    { "MPEG-1", SEQUENCE I_22118 SLICE I_25708 SLICE, 1, { 0 },
+      { 1000000, 327680, 2, 245675, 285675 }, { 22118, 22118, 208, 245883, 25708, 25708, 112, 285675 } },
+};
+
+static const struct known refused[] = {
+    { "a header cut short", SEQUENCE EXTENSION I_22118 "000001B58FFF", 2, { 1 }, { 0 }, { 0 } },
+    { "a last header cut short, before the first picture's underflow", SEQUENCE I_0 SLICE "00000100", 1, { 1 }, { 0 }, { 0 } },
+    { "a width of zero", "000001B300001013027120A0" EXTENSION I_22118 FRAME, 2, { 2 }, { 0 }, { 0 } },
+    { "MPEG-1 called MPEG-2", SEQUENCE I_22118 SLICE, 2, { 2 }, { 0 }, { 0 } },
+    { "no sequence header", I_22118 FRAME, 2, { 3 }, { 0 }, { 0 } },
+    { "no bytes", "", 2, { 3 }, { 0 }, { 0 } },
+    { "no bytes, MPEG-1", "", 1, { 3 }, { 0 }, { 0 } },
+    { "no picture", SEQUENCE EXTENSION, 2, { 4 }, { 0 }, { 0 } },
+    { "first delay 0xFFFF", SEQUENCE EXTENSION I_FFFF FRAME, 2, { 5 }, { 0 }, { 0 } },
+    { "rate code 9", "000001B301001019027120A0" EXTENSION I_22118 FRAME, 2, { 6 }, { 0 }, { 0 } },
+    { "a picture that begins too late", SLOWEST I_400 SLICE USER_DATA I_0 SLICE, 1, { 7 }, { 0 }, { 0 } },
+    { "a delay that no field holds", SLOW I_64000 SLICE I_0 SLICE, 1, { 8 }, { 0 }, { 0 } },
+    { "overflow", SEQUENCE EXTENSION I_30000 FRAME, 2, { 9, 0, 30000, 30000 }, { 0 }, { 0 } },
+    { "underflow", SEQUENCE EXTENSION I_0 FRAME, 2, { 10, 0, 0, 0 }, { 0 }, { 0 } },
+    { "a field after which the delay is that of a frame", SEQUENCE EXTENSION I_22118 TOP I_25701 BOTTOM, 2, { 11, 1, 25701, 23901 },
+      { 0 }, { 0 } },
+    { "delay mismatch", SEQUENCE EXTENSION I_22118 FRAME I_22118 FRAME, 2, { 11, 1, 22118, 25701 }, { 0 }, { 0 } },
+    { "a buffer of zero", "000001B30100101302712000" EXTENSION I_22118 FRAME, 2, { 12 }, { 0 }, { 0 } },
+    { "22,400 bits a second, buffer 16,384", "000001B301001013000E2008" I_0 SLICE, 1, { 12 }, { 0 }, { 0 } },
+};
+
+#define COUNT(table) (sizeof(table) / sizeof *(table))
+
+static int calls, failed;
+static int met[256];
+
+static void fail(const char *name, const char *what)
+{
+    printf("entries: %s: %s\n", name, what);
+    failed++;
+}
+
+/* A lent place: memory of just that length (none for 0), filled, with what it must hold afterwards. */
+struct place {
+    size_t length;
+    uint8_t *bytes, *expected;
+};
+
+static uint8_t *memory(size_t length)
+{
+    uint8_t *bytes = length > 0 ? malloc(length) : NULL;
+    if (length > 0 && bytes == NULL)
+        exit(2);
+    return bytes;
+}
+
+static struct place lend(size_t length)
+{
+    struct place p = { length, memory(length), memory(length) };
+    for (size_t i = 0; i < length; i++)
+        p.bytes[i] = p.expected[i] = (uint8_t)(i * 7 + 3);
+    return p;
+}
+
+/* Low byte first. */
+static void expect_words(struct place *p, const uint64_t *words, size_t count)
+{
+    for (size_t i = 0; i < 8 * count; i++)
+        p->expected[i] = (uint8_t)(words[i / 8] >> 8 * (i % 8));
+}
+
+static void take_back(struct place *p, const char *name, const char *what)
+{
+    if (p->length > 0 && memcmp(p->bytes, p->expected, p->length) != 0)
+        fail(name, what);
+    free(p->bytes);
+    free(p->expected);
+}
+
+/* The bytes of a line of hexadecimal digits, in memory of just their length. */
+static uint8_t *bytes_of(const char *hex, size_t *length)
+{
+    *length = strlen(hex) / 2;
+    uint8_t *bytes = memory(*length);
+    for (size_t i = 0; i < *length; i++) {
+        char digits[3] = { hex[2 * i], hex[2 * i + 1], 0 };
+        bytes[i] = (uint8_t)strtoul(digits, NULL, 16);
+    }
+    return bytes;
+}
+
+/* One call with places of these lengths: its value, and every byte of every place. */
+static void check(const struct known *k, size_t report_length, size_t records_length, size_t refusal_length)
+{
+    size_t length;
+    uint8_t *stream = bytes_of(k->hex, &length);
+    struct place same = { length, stream, bytes_of(k->hex, &length) };
+    struct place report = lend(report_length), records = lend(records_length), refusal = lend(refusal_length);
+
+    if (k->refusal[0] == 0) {
+        expect_words(&report, k->report, 5);
+        expect_words(&records, k->records, 4 * k->report[2]);
+    } else if (refusal_length >= VBV_REFUSAL_BYTES) {
+        expect_words(&refusal, k->refusal, 4);
+    }
+    uint64_t answer = vbv_check(stream, length, k->standard, report.bytes, report.length, records.bytes, records.length,
+                                refusal.bytes, refusal.length);
+    calls++;
+    met[answer & 255] = 1;
+    if (answer != k->refusal[0]) {
+        fail(k->name, "another answer");
+        printf("    %" PRIu64 " in place of %" PRIu64 "\n", answer, k->refusal[0]);
+    }
+    take_back(&same, k->name, "the stream has changed");
+    take_back(&report, k->name, "the report's place");
+    take_back(&records, k->name, "the records' place");
+    take_back(&refusal, k->name, "the refusal's place");
+}
+
+/* The same stream with another answer. */
+static void check_refused(const struct known *k, uint64_t number, size_t report, size_t records, size_t refusal)
+{
+    struct known other = *k;
+    memset(other.refusal, 0, sizeof other.refusal);
+    other.refusal[0] = number;
+    check(&other, report, records, refusal);
+}
+
+/* Accepted: places of just the length, and longer ones, whose further bytes stay. Too few record places: 15. */
+static void check_accepted(const struct known *k)
+{
+    size_t needed = VBV_RECORD_BYTES * (size_t)k->report[2];
+    for (size_t more = 0; more < 70; more += 23)
+        check(k, VBV_REPORT_BYTES + more, needed + more, VBV_REFUSAL_BYTES + more);
+    for (size_t records = 0; records < needed; records += records < needed - 32 ? 31 : 1)
+        check_refused(k, 15, VBV_REPORT_BYTES, records, VBV_REFUSAL_BYTES);
+}
+
+/* Refused: with no record places, with enough, and with longer places. */
+static void check_refusal(const struct known *k)
+{
+    check(k, VBV_REPORT_BYTES, VBV_RECORD_BYTES * MOST_PICTURES, VBV_REFUSAL_BYTES);
+    check(k, VBV_REPORT_BYTES + 9, VBV_RECORD_BYTES * MOST_PICTURES + 50, VBV_REFUSAL_BYTES + 13);
+    if (k->refusal[0] < 7 || k->refusal[0] == 12)
+        check(k, VBV_REPORT_BYTES, 0, VBV_REFUSAL_BYTES);
+    else
+        check_refused(k, 15, VBV_REPORT_BYTES, 0, VBV_REFUSAL_BYTES);
+}
+
+/* Places too short come first (19), then the standard (12), before any byte of the stream is judged. */
+static void check_places(const struct known *k)
+{
+    for (size_t report = 0; report < VBV_REPORT_BYTES; report++)
+        check_refused(k, 19, report, 64, VBV_REFUSAL_BYTES + report % 3);
+    for (size_t refusal = 0; refusal < VBV_REFUSAL_BYTES; refusal++)
+        check_refused(k, 19, VBV_REPORT_BYTES + refusal % 3, 64, refusal);
+    check_refused(k, 19, 0, 0, 0);
+    for (int standard = 0; standard < 256; standard++) {
+        struct known other = *k;
+        other.standard = (uint8_t)standard;
+        if (standard != 1 && standard != 2) {
+            check_refused(&other, 12, VBV_REPORT_BYTES, 64, VBV_REFUSAL_BYTES);
+            check_refused(&other, 19, VBV_REPORT_BYTES - 1, 64, VBV_REFUSAL_BYTES);
+        }
+    }
+}
+
+/* A stream above 2^48 bits is 14 by its length alone: none of its bytes can be read here. */
+static void check_too_long(void)
+{
+    size_t length = ((size_t)1 << 45) + 1;
+    void *stream = mmap(NULL, length, PROT_NONE, MAP_PRIVATE | MAP_ANONYMOUS | MAP_NORESERVE, -1, 0);
+    if (stream == MAP_FAILED) {
+        printf("entries: no room for addresses of 2^45 bytes, so 14 was not tried in this run\n");
+        return;
+    }
+    struct place report = lend(VBV_REPORT_BYTES), records = lend(64), refusal = lend(VBV_REFUSAL_BYTES);
+    uint64_t expected[4] = { 14, 0, 0, 0 };
+    expect_words(&refusal, expected, 4);
+    if (vbv_check(stream, length, VBV_MPEG2, report.bytes, report.length, records.bytes, records.length, refusal.bytes,
+                  refusal.length) != 14)
+        fail("a stream above 2^48 bits", "another answer");
+    calls++;
+    met[14] = 1;
+    take_back(&report, "a stream above 2^48 bits", "the report's place");
+    take_back(&records, "a stream above 2^48 bits", "the records' place");
+    take_back(&refusal, "a stream above 2^48 bits", "the refusal's place");
+    munmap(stream, length);
+}
+
+/* A header patched: its value and every byte. */
+static void patch(const char *name, const char *hex, uint16_t delay, uint64_t number, const char *afterwards)
+{
+    struct place picture = { 0, NULL, NULL };
+    picture.bytes = bytes_of(hex, &picture.length);
+    picture.expected = bytes_of(afterwards, &picture.length);
+    uint64_t answer = vbv_patch_delay(picture.bytes, picture.length, delay);
+    calls++;
+    met[answer & 255] = 1;
+    if (answer != number)
+        fail(name, "another answer");
+    take_back(&picture, name, "the picture's bytes");
+}
+
+static void check_patches(void)
+{
+    patch("the paper's header", I_FFFF, 22118, 0, I_22118);
+    patch("set bits of other fields stay", "00000100FFFFFFFFFFAA", 0, 0, "00000100FFF80007FFAA");
+    patch("clear bits of other fields stay", "0000010000000000005500", 65535, 0, "000001000007FFF8005500");
+    patch("no bytes", "", 1, 20, "");
+    patch("7 bytes", "00000100000AB3", 1, 20, "00000100000AB3");
+    patch("3 bytes", "000001", 1, 20, "000001");
+    patch("another first byte", "010001000008C350", 1, 20, "010001000008C350");
+    patch("another second byte", "000101000008C350", 1, 20, "000101000008C350");
+    patch("another third byte", "000002000008C350", 1, 20, "000002000008C350");
+    patch("a slice", "000001010008C350", 1, 20, "000001010008C350");
+}
+
+/* Every delay comes back out of the 16 bits from bit 45. */
+static void check_delays(void)
+{
+    uint8_t *picture = memory(8);
+    memcpy(picture, "\0\0\1\0\xA5\xFF\x5A\xFF", 8);
+    for (unsigned delay = 0; delay <= 0xFFFF; delay++, calls++) {
+        uint64_t answer = vbv_patch_delay(picture, 8, (uint16_t)delay);
+        unsigned read = (picture[5] & 7u) << 13 | picture[6] * 32u | picture[7] >> 3;
+        if (answer != 0 || read != delay || picture[4] != 0xA5 || picture[5] >> 3 != 31 || (picture[7] & 7) != 7)
+            fail("a delay", "not read back, or another bit changed");
+    }
+    free(picture);
+}
+
+int main(void)
+{
+    static const uint8_t needed[] = { 0, 1, 2, 3, 4, 5, 6, 7, 8, 9, 10, 11, 12, 15, 19, 20 };
+    for (size_t i = 0; i < COUNT(accepted); i++)
+        check_accepted(accepted + i);
+    for (size_t i = 0; i < COUNT(refused); i++)
+        check_refusal(refused + i);
+    check_places(accepted);
+    check_places(refused + 5); /* no bytes */
+    check_too_long();
+    check_patches();
+    check_delays();
+
+    for (size_t i = 0; i < COUNT(needed); i++)
+        if (!met[needed[i]])
+            fail("the refusals", "one was not met");
+    printf("entries: %d calls, answers", calls);
+    for (int i = 0; i < 256; i++)
+        if (met[i])
+            printf(" %d", i);
+    printf(", %d failed\n", failed);
+    return failed > 0;
+}

@@ -1,0 +1,80 @@
+/* Gives a stream the delays that the check expects, with the two entries of the library alone:
+ *
+ *     stamp FIRST FROM TO
+ *
+ * FIRST is the first picture's delay in ticks. Every other delay is what the check names in its refusal 11. Prints how many
+ * delays were changed. Exit status 1: refused by something that no delay mends; 2: bad use, or a file cannot be used. */
+#include "hipokuta.h"
+
+#include <stdio.h>
+#include <stdlib.h>
+#include <string.h>
+
+static uint64_t word(const uint8_t *bytes)
+{
+    uint64_t value = 0;
+    for (int i = 7; i >= 0; i--)
+        value = value << 8 | bytes[i];
+    return value;
+}
+
+static uint8_t *whole_file(const char *name, size_t *length)
+{
+    FILE *file = fopen(name, "rb");
+    if (file == NULL || fseek(file, 0, SEEK_END) != 0)
+        return NULL;
+    long size = ftell(file);
+    rewind(file);
+    uint8_t *bytes = size > 0 ? malloc((size_t)size) : NULL;
+    if (bytes != NULL && fread(bytes, 1, (size_t)size, file) == (size_t)size)
+        *length = (size_t)size;
+    else
+        bytes = NULL;
+    fclose(file);
+    return bytes;
+}
+
+/* The start code of a picture, counted from 0; the length where there is none. */
+static size_t picture(const uint8_t *stream, size_t length, uint64_t number)
+{
+    for (size_t at = 0; at + 4 <= length; at++)
+        if (memcmp(stream + at, "\0\0\1", 4) == 0 && number-- == 0)
+            return at;
+    return length;
+}
+
+static int patch(uint8_t *stream, size_t length, uint64_t number, uint64_t delay)
+{
+    size_t at = picture(stream, length, number);
+    return vbv_patch_delay(stream + at, length - at, (uint16_t)delay) == 0;
+}
+
+int main(int count, char **words)
+{
+    size_t length = 0;
+    uint8_t *stream = count == 4 ? whole_file(words[2], &length) : NULL;
+    if (stream == NULL)
+        return 2;
+    uint8_t *records = malloc(length * 8), report[VBV_REPORT_BYTES], refusal[VBV_REFUSAL_BYTES];
+    if (records == NULL || !patch(stream, length, 0, strtoul(words[1], NULL, 10)))
+        return 2;
+
+    uint64_t answer, changed = 1;
+    while ((answer = vbv_check(stream, length, VBV_MPEG2, report, sizeof report, records, length * 8, refusal,
+                               sizeof refusal)) == 11) {
+        if (!patch(stream, length, word(refusal + 8), word(refusal + 24)))
+            return 2;
+        changed++;
+    }
+    if (answer != 0) {
+        printf("refused %d at picture %d\n", (int)answer, (int)word(refusal + 8));
+        return 1;
+    }
+    FILE *to = fopen(words[3], "wb");
+    if (to == NULL || fwrite(stream, 1, length, to) != length || fclose(to) != 0)
+        return 2;
+    printf("%d delays\n", (int)changed);
+    free(stream);
+    free(records);
+    return 0;
+}
