@@ -1,5 +1,6 @@
 //! The buffers that both are timed on.
 
+use crate::spans::spans;
 use original::picture_header::{Mpeg2PictureHeader, PictureStructure};
 use original::sequence_header::Mpeg2SequenceHeader;
 use original::vbv::{
@@ -15,13 +16,9 @@ struct Picture {
 /// The pictures of a stream that begins with its sequence header.
 fn pictures(standard: VbvStandard, stream: &[u8]) -> Vec<Picture> {
     let codes = oracle_scan_start_codes(stream);
-    let slice = |i: &usize| (0x01..=0xAF).contains(&codes[*i].1);
     let mut found = vec![];
-    let mut i = 0;
-    while let Some(picture) = (i..codes.len()).find(|&i| codes[i].1 == 0) {
-        let first = (picture..codes.len()).find(slice).unwrap_or(codes.len());
-        i = (first..codes.len()).find(|i| !slice(i)).unwrap_or(codes.len());
-        let (at, end) = (codes[picture].0, codes.get(i).map_or(stream.len(), |&(offset, _)| offset));
+    for (picture, behind) in spans(&codes) {
+        let (at, end) = (codes[picture].0, codes.get(behind).map_or(stream.len(), |&(offset, _)| offset));
         found.push(Picture { at, end, interval: interval(standard, &stream[at..]) });
     }
     found

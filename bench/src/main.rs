@@ -3,6 +3,8 @@
 //!     bench FOLDER_OF_STREAMS
 
 mod buffers;
+#[path = "../../oracle/src/spans.rs"]
+mod spans;
 
 use original::vbv::{VbvStandard, VbvVerifyError, verify_cbr_stream};
 use std::alloc::{GlobalAlloc, Layout, System};

@@ -3,6 +3,7 @@
 
 use crate::answers::{Answer, number};
 use crate::model::{Refusal, refusal};
+use crate::spans::spans;
 use original::picture_header::{Mpeg2PictureHeader, PictureStructure};
 use original::sequence_extension::Mpeg2Sequence;
 use original::sequence_header::Mpeg2SequenceHeader;
@@ -23,13 +24,9 @@ struct Picture {
 /// The pictures of a stream whose headers the original has parsed.
 fn pictures(standard: VbvStandard, stream: &[u8]) -> Vec<Picture> {
     let codes = oracle_scan_start_codes(stream);
-    let slice = |i: &usize| (0x01..=0xAF).contains(&codes[*i].1);
     let mut found = vec![];
-    let mut i = 0;
-    while let Some(at) = (i..codes.len()).find(|&i| codes[i].1 == 0) {
-        let first = (at + 1..codes.len()).find(slice).unwrap_or(codes.len());
-        i = (first..codes.len()).find(|i| !slice(i)).unwrap_or(codes.len());
-        let end = match codes.get(i) {
+    for (at, behind) in spans(&codes) {
+        let end = match codes.get(behind) {
             Some(&(offset, 0xB7)) => offset + 4,
             Some(&(offset, _)) => offset,
             None => stream.len(),

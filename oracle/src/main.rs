@@ -20,6 +20,7 @@ mod known;
 mod lists;
 mod model;
 mod sends;
+mod spans;
 mod streams;
 mod writer;
 mod writers;

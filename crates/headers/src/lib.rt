@@ -1,4 +1,4 @@
-// The headers of MPEG-1 and MPEG-2 video (ISO/IEC 13818-2 6.2, 11172-2 2.4.2), read from byte slices and written into them.
+// The headers of MPEG-1 and MPEG-2 video (ISO/IEC 13818-2 6.2, 11172-2 2.4.2), read from byte slices; the crate `writers` writes them.
 ghost use mathlib.Core.Path.{_≡_};
 ghost use Prim.Native.Nat.{_+_, _*_, _≤_};
 ghost use lib.ListN.{drop};

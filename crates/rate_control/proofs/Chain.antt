@@ -34,7 +34,7 @@ or-right : (a b : Bool) → (a || b) ≡ false → b ≡ false
 or-right true b e = cc
 or-right false b e = e
 
--- the quantiser that the offered layer was made with
+-- the quantiser that the offered layer was asked for with
 abbrev pub q-of : CbrWriter → Offer → ℕ
 q-of w o = asked w (o .kind)
 

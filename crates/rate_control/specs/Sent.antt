@@ -18,7 +18,6 @@ use Rattle.rate_control.specs.Writer.{asked}
 use Rattle.rate_control.specs.Offer.{Offer, tail}
 use Rattle.rate_control.specs.Calls.{Call, offering, withdrawing, Step, offered, withdrawn, run, final}
 use Rattle.rate_control.specs.declared.CbrWriter.{CbrWriter}
-use Rattle.rate_control.specs.declared.CbrError.the-variants.{TooLarge}
 use Rattle.rate_control.specs.declared.CbrError.the-variants as er
 use Rattle.rate_control.specs.declared.CbrAnswer.{CbrAnswer}
 use Rattle.rate_control.specs.declared.CbrAnswer.the-variants.{Placed, Again, Refused}
@@ -148,7 +147,7 @@ retriesAfter n (withdrawn a) = 0
 
 -- 21 only at quantiser 31
 abbrev pub AtCoarsest : Step → Type 0
-AtCoarsest (offered w o a out) = a ≡ Refused TooLarge → asked w (o .kind) ≡ 31
+AtCoarsest (offered w o a out) = a ≡ Refused er.TooLarge → asked w (o .kind) ≡ 31
 AtCoarsest (withdrawn a) = Unit {0}
 
 -- never more than eleven retries of a picture

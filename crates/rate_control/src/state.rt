@@ -101,7 +101,7 @@ pub(crate) fn steered(q: u8, target: u64, bits: u64) -> u8
 }
 
 impl CbrWriter {
-    // The quantiser that an offered layer was made with: the pending picture's, or the kind's.
+    // The quantiser that a layer is asked for with: the pending picture's, or the kind's.
     pub(crate) fn asked(self, kind: PictureKind) -> u8
         ensures { λ r. ⌜ r ≡ askedOf self kind ⌝ }
     {

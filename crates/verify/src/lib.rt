@@ -1,4 +1,4 @@
-// The buffer report of a constant-rate stream: start codes, pictures, and the check of Annex C.
+// The buffer report of a constant-rate stream: what its headers tell, and the check of Annex C.
 ghost use mathlib.Core.Path.{_≡_};
 ghost use Rattle.verify.specs.Answers.{refusalOf, plain as plainOf};
 ghost use Rattle.verify.specs.declared.VbvVerifyError.the-variants.{Violation};
