@@ -21,6 +21,10 @@ laid s i bytes zero = s
 laid s i bytes (suc k) = wroteBits (laid s i bytes k) (i + 8 * k) 8 (getD bytes k 0)
 
 module _ (s : List ℕ) (i : ℕ) (bytes : List ℕ) where
+  pub laid-none : s ≡ laid s i bytes 0
+  unfolding laid
+  laid-none = refl
+
   pub laid-length : (k : ℕ) → i + 8 * k ≤ 8 * length s → length (laid s i bytes k) ≡ length s
   unfolding laid
   laid-length zero h = refl

@@ -8,6 +8,7 @@ pub mod Putting
 pub mod ReadLoop
 pub mod Reading
 pub mod Same
+pub mod Starting
 pub mod Storing
 pub mod Writing
 pub mod Over

@@ -2,13 +2,13 @@
 -- Assumes nothing.
 use mathlib.Core.Path.{_≡_, refl, sym, ap, _∙_}
 use mathlib.Core.List.{List, [], _∷_, _++_, append-assoc}
-use mathlib.Core.Bool.{Bool, true, false, _&&_, and-assoc, and-true}
+use mathlib.Core.Bool.{Bool, true, false, _&&_}
 use Prim.Native.Nat.{ℕ, zero, suc, _+_, _-_, _*_, _/_, _^_, _≤_, _<_, zero-le}
 use native.Mathlib.Nat.{add-assoc, add-zero}
 use native.Mathlib.Omega.{arith}
 use lib.Dec.{leb, eqb}
 use lib.ListN.{length, getD, take, drop, replicate, length-append, length-drop}
-use lib.Seq.{take-suc, take-all, take-append-le}
+use lib.Seq.{take-suc, take-append-le}
 use borrow.Author.Tests.{le-leb, lt-leb, leb-true, leb-false, eqb-true, eq-eqb}
 use Rattle.bits.specs.Bits.{pick, bitsAt, there}
 use Rattle.bits.specs.Fields.{Field, field, any, Parsed, short, bad, got, after, obeys, readFields, sameBytes, readHeader, total}
@@ -372,14 +372,6 @@ read-split (f ∷ fs) gs s i (v ∷ vs) ws l e =
 -- four bytes, one by one
 pub four : (s : List ℕ) → 4 ≤ length s → take 4 s ≡ getD s 0 0 ∷ getD s 1 0 ∷ getD s 2 0 ∷ getD s 3 0 ∷ []
 four s h = rw (take-suc s 3 0 (omega arith), take-suc s 2 0 (omega arith), take-suc s 1 0 (omega arith), take-suc s 0 0 (omega arith))
-
-pub same-four : (s c : List ℕ) → 4 ≤ length s → length c ≡ 4
-    → eqb (getD s 0 0) (getD c 0 0) && eqb (getD s 1 0) (getD c 1 0) && eqb (getD s 2 0) (getD c 2 0) && eqb (getD s 3 0) (getD c 3 0)
-    ≡ sameBytes (take 4 s) c
-unfolding sameBytes
-same-four s c h l =
-    let e : c ≡ getD c 0 0 ∷ getD c 1 0 ∷ getD c 2 0 ∷ getD c 3 0 ∷ [] = sym (take-all 4 c (omega arith)) ∙ four c (omega arith) in
-    sym (ap (sameBytes (take 4 s)) e ∙ rw (four s h) (simp (and-assoc, and-true)))
 
 -- the three ways that reading a header goes
 module _ (code : List ℕ) (fs : List Field) (s : List ℕ) where

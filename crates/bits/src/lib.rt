@@ -151,12 +151,21 @@ pub fn read_fields(s: &[u8], start: u32, table: &[u8]) -> Fields
     }
 }
 
-// Whether the bytes begin with a start code.
-fn starts_with(s: &[u8], code: [u8; 4]) -> bool
-    requires { ⌜ 4 ≤ length (now s) ⌝ }
-    ensures { λ r. ⌜ r ≡ sameBytes (take 4 (now (s .entry))) code ⌝ }
+// Whether s begins with these bytes.
+pub fn starts_with(s: &[u8], bytes: &[u8]) -> bool
+    ensures { λ r. ⌜ r ≡ sameBytes (take (length (now (bytes .entry))) (now (s .entry))) (now (bytes .entry)) ⌝ }
 {
-    (s[0] == code[0]) & (s[1] == code[1]) & (s[2] == code[2]) & (s[3] == code[3])
+    if s.len() < bytes.len() {
+        return false;
+    }
+    let mut k: usize = 0;
+    while k < bytes.len() {
+        if s[k] != bytes[k] {
+            return false;
+        }
+        k += 1;
+    }
+    true
 }
 
 // Reads a header: its start code, then its table.
@@ -166,7 +175,7 @@ pub fn read_header(s: &[u8], code: [u8; 4], table: &[u8]) -> Fields
     if s.len() < 4 {
         return refused(Outcome::Short);
     }
-    if starts_with(s, code) {
+    if starts_with(s, &code) {
         return read_fields(s, 32, table);
     }
     refused(Outcome::Bad)

@@ -1,10 +1,5 @@
 pub mod Answers
-pub mod CodingExtension
-pub mod Extent
-pub mod ExtraInformation
 pub mod MatrixLoop
-pub mod Picture
-pub mod PictureHeader
 pub mod QuantMatrix
 pub mod Sequence
 pub mod SequenceExtension
@@ -12,4 +7,3 @@ pub mod SequenceHeader
 pub mod SequenceRoundTrip
 pub mod StartCode
 pub mod StreamWriter
-pub mod OtherDelay

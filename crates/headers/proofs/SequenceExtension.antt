@@ -6,17 +6,17 @@ use mathlib.Core.Bool.{Bool, true}
 use Prim.Native.Nat.{ℕ, zero, suc, _^_, _≤_, _<_}
 use native.Mathlib.Omega.{arith}
 use lib.Dec.{eqb}
-use lib.ListN.{getD, take}
+use lib.ListN.{getD}
 use Rattle.bits.specs.Bits.{pick}
 use Rattle.bits.specs.Fields.{Field, Parsed, short, bad, got, readHeader, writeHeader, fitsAll, total}
 use Rattle.bits.specs.Answers.{places}
 use Rattle.bits.proofs.Reading.{places-at, header-got, read-range, read-length, header-append, header-short-cut, total-none, total-more}
 use Rattle.bits.proofs.Checking.{Fits, fits-none, fits-more, fits-all}
-use Rattle.bits.proofs.Appending.{Below}
 use Rattle.bits.proofs.Writing.{header-read-written, header-write-read}
 use Rattle.headers.specs.Answers.{flagOf}
 use Rattle.headers.specs.SequenceExtension.{extensionStartCode, sequenceExtensionFields, chromaFormat, chromaCode, extensionOf, extensionRead, sequenceExtension, extensionValues}
 use Rattle.headers.specs.StreamWriter.{plainExtension}
+use Rattle.headers.specs.RoundTrips.{ExtensionWrittenReads, ExtensionReadWrites}
 use Rattle.headers.proofs.Answers.{flag-bound, flag-same, flag-back, spread, spread-is}
 use Rattle.headers.specs.declared.Error.the-variants.{ShortHeader}
 use Rattle.headers.specs.declared.sequence_extension.ChromaFormat.{ChromaFormat}
@@ -101,8 +101,7 @@ unfolding extensionOf extensionValues
 values-whole e = rw (chroma-same (e .«chroma_format»), flag-same (e .«progressive_sequence»), flag-same (e .«low_delay»))
 
 -- what was written is read again, whatever stands behind
-pub extension-read-back : (e : Mpeg2SequenceExtension) (t : List ℕ) → fitsAll sequenceExtensionFields (extensionValues e) ≡ true
-    → sequenceExtension (writeHeader extensionStartCode sequenceExtensionFields (extensionValues e) ++ t) ≡ Accepted e
+pub extension-read-back : ExtensionWrittenReads
 unfolding sequenceExtension extensionRead
 extension-read-back e t f =
     ap extensionRead (header-read-written extensionStartCode sequenceExtensionFields (extensionValues e) t refl f) ∙ ap Accepted (values-whole e)
@@ -154,8 +153,7 @@ values-same s vs e =
     x ∙ spread-is 12 vs (read-length sequenceExtensionFields s 32 vs f)
 
 -- what was read is written again, byte for byte
-pub extension-write-back : (s : List ℕ) (e : Mpeg2SequenceExtension) → Below 256 s → sequenceExtension s ≡ Accepted e
-    → writeHeader extensionStartCode sequenceExtensionFields (extensionValues e) ≡ take 10 s
+pub extension-write-back : ExtensionReadWrites
 extension-write-back s e b q =
     let g = extension-got s e q in
     let n : total sequenceExtensionFields ≡ 48 = simp (total-more, total-none) in

@@ -6,41 +6,37 @@ use mathlib.Core.Bool.{Bool, true, false}
 use Prim.Native.Nat.{ℕ, _+_, _*_, _/_}
 use native.Mathlib.Omega.{arith}
 use lib.Dec.{eqb}
-use lib.ListN.{length, getD, take}
+use lib.ListN.{getD, take}
 use borrow.Author.Tests.{eqb-true, eqb-false}
 use Rattle.bits.specs.Bits.{pick}
-use Rattle.bits.specs.Fields.{got, writeHeader, fitsAll, total}
+use Rattle.bits.specs.Fields.{got, writeHeader, total}
 use Rattle.bits.proofs.Reading.{read-both, read-split, read-range, read-length, header-got, header-of}
 use Rattle.bits.proofs.Appending.{Below}
 use Rattle.bits.proofs.Putting.{total-append}
 use Rattle.bits.proofs.Writing.{header-read-written, header-write-read}
 use Rattle.headers.specs.Answers.{flagOf}
 use Rattle.headers.specs.QuantMatrix.{readMatrix, matrixOf, matrixFields, matrixValues}
-use Rattle.headers.specs.SequenceHeader.{sequenceHeaderCode, sequenceHeaderFields, aspectRatio, headerOf, sequenceHeader, sequenceHeaderBytes}
+use Rattle.headers.specs.SequenceHeader.{sequenceHeaderCode, sequenceHeaderFields, aspectRatio, headerOf, sequenceHeaderBytes}
 use Rattle.headers.specs.StreamWriter.{paramsFields, baseValues, paramsValues, headerOfParams, aspectCode, paramsOf}
+use Rattle.headers.specs.RoundTrips.{WrittenReads, ReadWrites}
 use Rattle.headers.specs.declared.sequence_header.AspectRatio.{AspectRatio}
 use Rattle.headers.specs.declared.sequence_header.AspectRatio.the-variants.{Reserved}
-use Rattle.headers.specs.declared.sequence_header.Mpeg2SequenceHeader.{Mpeg2SequenceHeader}
 use Rattle.headers.specs.declared.sequence_header.SequenceHeaderRead.{SequenceHeaderRead}
-use Rattle.headers.specs.declared.sequence_header.Answer.the-variants.{Parsed as Accepted}
-use Rattle.headers.specs.declared.stream_writer.SequenceHeaderParams.{SequenceHeaderParams}
 use Rattle.headers.proofs.Answers.{spread, spread-is}
 use Rattle.headers.proofs.QuantMatrix.{matrix-flag, matrix-fields-back, matrix-values-back, matrix-read-back, matrix-of-values, matrix-count, matrix-total}
 use Rattle.headers.proofs.SequenceHeader.{fixedFields, header-parsed, header-parts}
 use Rattle.headers.proofs.StreamWriter.{total-fixed}
 
 -- what was written is read again, whatever stands behind
-pub sequence-read-back : (p : SequenceHeaderParams) (t : List ℕ) → fitsAll (paramsFields p) (paramsValues p) ≡ true
-    → length (p .«intra_quantiser_matrix» .bytes) ≡ 64 → length (p .«non_intra_quantiser_matrix» .bytes) ≡ 64
-    → sequenceHeader (writeHeader sequenceHeaderCode (paramsFields p) (paramsValues p) ++ t) ≡ record { answer = Accepted; header = headerOfParams p }
+pub sequence-read-back : WrittenReads
 unfolding paramsFields paramsValues baseValues headerOf headerOfParams matrixValues
-sequence-read-back p t f li ln =
+sequence-read-back p t w =
     let i = p .«intra_quantiser_matrix» in
     let n = p .«non_intra_quantiser_matrix» in
     let s = writeHeader sequenceHeaderCode (paramsFields p) (paramsValues p) ++ t in
-    let r = header-got _ _ s _ (header-read-written sequenceHeaderCode (paramsFields p) (paramsValues p) t refl f) in
+    let r = header-got _ _ s _ (header-read-written sequenceHeaderCode (paramsFields p) (paramsValues p) t refl (w .fields-fit)) in
     let a = read-split sequenceHeaderFields (matrixFields i ++ matrixFields n) s 32 (baseValues p) (matrixValues i ++ matrixValues n) refl (r .fields-read) in
-    let b = read-split (matrixFields i) (matrixFields n) s (32 + total sequenceHeaderFields) (matrixValues i) (matrixValues n) (matrix-count i li) (a .1) in
+    let b = read-split (matrixFields i) (matrixFields n) s (32 + total sequenceHeaderFields) (matrixValues i) (matrixValues n) (matrix-count i (w .intra-places)) (a .1) in
     let x : 32 + total sequenceHeaderFields ≡ 94 = omega (arith, total-fixed) in
     let y : 32 + total sequenceHeaderFields + total (matrixFields i) ≡ 95 + 512 * flagOf (i .load) = omega (arith, total-fixed, matrix-total i) in
     header-parsed s (baseValues p) (header-of record { long = r .long; code-first = r .code-first; fields-read = a .0 })
@@ -102,9 +98,7 @@ module _ (s h i n : List ℕ) (b : Below 256 s) (e : fixedFields s ≡ got h) (f
       rw (fixed-back s h i n e c, matrix-values-back s 94 i f, matrix-values-back s _ n g)
       (header-write-read sequenceHeaderCode fs s (h ++ (i ++ n)) b q (λ k l u. absurd (omega arith)) ∙ ap (λ (k : ℕ). take k s) w)
 
-pub sequence-write-back : (s : List ℕ) (h : Mpeg2SequenceHeader) → Below 256 s → sequenceHeader s ≡ record { answer = Accepted; header = h }
-    → h .«constrained_parameters» ≡ false
-    → writeHeader sequenceHeaderCode (paramsFields (paramsOf h)) (paramsValues (paramsOf h)) ≡ take (sequenceHeaderBytes h) s
+pub sequence-write-back : ReadWrites
 unfolding headerOf
 sequence-write-back s h b e c =
     let p = header-parts s (ap (λ (r : SequenceHeaderRead). r .answer) e) in

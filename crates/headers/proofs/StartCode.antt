@@ -2,7 +2,7 @@
 -- Assumes nothing.
 use mathlib.Core.Path.{_≡_, refl, ap, _∙_}
 use mathlib.Core.List.{List, [], _∷_, _++_}
-use mathlib.Core.Bool.{Bool, true, false, _&&_, and-assoc, and-true}
+use mathlib.Core.Bool.{Bool, true, false}
 use Prim.Native.Nat.{ℕ, zero, suc, _+_, _-_, _≤_, _<_}
 use native.Mathlib.Numerals.{add-one}
 use native.Mathlib.Omega.{arith}
@@ -11,7 +11,8 @@ use lib.ListN.{length, getD, take, drop, length-drop, drop-of-length-le}
 use lib.Seq.{take-all, drop-cons, drop-append-le, take-append-le}
 use borrow.Author.Tests.{eqb-true, eqb-false}
 use Rattle.bits.specs.Bits.{pick}
-use Rattle.bits.proofs.Reading.{same-bytes, same-none, same-more, same-self}
+use Rattle.bits.specs.Fields.{sameBytes}
+use Rattle.bits.proofs.Reading.{same-bytes, same-self}
 use Rattle.headers.specs.StartCode.{zeros, prefixAt, nextStartCode}
 use Rattle.headers.specs.declared.NextStartCode.the-variants.{At, Missing}
 
@@ -46,17 +47,16 @@ zeros-append [] t h = omega arith
 zeros-append (zero ∷ s) t h = ap suc (zeros-append s t (omega arith))
 zeros-append (suc b ∷ s) t h = refl
 
--- the prefix, byte by byte
-three : (s : List ℕ) (p : ℕ) → p + 3 ≤ length s → take 3 (drop p s) ≡ getD s p 0 ∷ getD s (p + 1) 0 ∷ getD s (p + 2) 0 ∷ []
-three s p h =
-    let a : p + 1 ≡ suc p = omega arith in
-    let b : p + 2 ≡ suc (suc p) = omega arith in
-    rw (a, b, drop-cons s p 0 (omega arith), drop-cons s (suc p) 0 (omega arith), drop-cons s (suc (suc p)) 0 (omega arith))
-
-pub prefix-is : (s : List ℕ) (p : ℕ) → p + 3 ≤ length s
-    → (eqb (getD s p 0) 0 && eqb (getD s (p + 1) 0) 0) && eqb (getD s (p + 2) 0) 1 ≡ prefixAt s p
+-- the prefix, in the list and in the slice from its byte on
+pub prefix-is : (s : List ℕ) (p : ℕ) → prefixAt s p ≡ sameBytes (take 3 (drop p s)) (0x00 ∷ 0x00 ∷ 0x01 ∷ [])
 unfolding prefixAt
-prefix-is s p h = rw (three s p h, same-more, same-more, same-more, same-none) (simp (and-assoc, and-true))
+prefix-is s p = refl
+
+pub rest-is : (s : List ℕ) (p : ℕ) → take (length s - p) (drop p s) ≡ drop p s
+rest-is s p = take-all (length s - p) (drop p s) (omega (arith, length-drop p s))
+
+pub prefix-rest : (s : List ℕ) (p : ℕ) → sameBytes (take 3 (take (length s - p) (drop p s))) (0x00 ∷ 0x00 ∷ 0x01 ∷ []) ≡ prefixAt s p
+prefix-rest s p = rw (rest-is s p, prefix-is s p)
 
 pub record Prefix (s : List ℕ) (p : ℕ) : Type 0 where
   pub room : p + 3 ≤ length s
@@ -135,6 +135,15 @@ next-found s k p e = case (prefixAt s (k + zeros (drop k s) - 2)) refl e
         record { prefix = r; ends = late p x r }
     case false t q = let z : _≡_ {A = ℕ} 0 1 = cc in absurd (omega arith)
 
+-- it is the same in a list with the same bytes from k on and from it on
+pub next-same : (s t : List ℕ) (k p : ℕ) → drop k t ≡ drop k s → drop p t ≡ drop p s → nextStartCode s k ≡ At p → nextStartCode t k ≡ At p
+unfolding nextStartCode prefixAt
+next-same s t k p a b e =
+    let f = next-found s k p e in
+    let q : k + zeros (drop k s) - 2 ≡ p = omega (arith, f .ends) in
+    let g : drop (k + zeros (drop k s) - 2) t ≡ drop (k + zeros (drop k s) - 2) s = rw q b in
+    rw (a, g) e
+
 -- what stands behind does not move it
 pub next-append : (s t : List ℕ) (k p : ℕ) → nextStartCode s k ≡ At p → nextStartCode (s ++ t) k ≡ At p
 unfolding prefixAt
@@ -149,7 +158,3 @@ next-append s t k p e =
     let q : prefixAt (s ++ t) (k + zeros (drop k s) - 2) ≡ true =
     rw (w, drop-append-le p s t (omega arith), take-append-le 3 (drop p s) t m, f .prefix .is) (same-self (0 ∷ 0 ∷ 1 ∷ [])) in
     next-at (s ++ t) k (k + zeros (drop k s)) (rw z) q ∙ ap At w
-
--- the slice from a byte on
-pub rest-is : (s : List ℕ) (p : ℕ) → take (length s - p) (drop p s) ≡ drop p s
-rest-is s p = take-all (length s - p) (drop p s) (omega (arith, length-drop p s))

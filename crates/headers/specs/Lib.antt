@@ -4,7 +4,5 @@ pub mod QuantMatrix
 pub mod SequenceHeader
 pub mod SequenceExtension
 pub mod Sequence
-pub mod PictureHeader
-pub mod CodingExtension
-pub mod Picture
 pub mod StreamWriter
+pub mod RoundTrips

@@ -1,11 +1,11 @@
-// The headers of MPEG-1 and MPEG-2 video (ISO/IEC 13818-2 6.2, 11172-2 2.4.2), read from byte slices; the crate `writers` writes them.
+// The sequence headers of MPEG-1 and MPEG-2 video (ISO/IEC 13818-2 6.2.2, 11172-2 2.4.2.3), read from byte slices, and what all
+// headers share; the crate `picture_header` reads those of pictures, `writers` writes.
 ghost use mathlib.Core.Path.{_≡_};
 ghost use Prim.Native.Nat.{_+_, _*_, _≤_};
 ghost use lib.ListN.{drop};
 ghost use Rattle.headers.specs.Answers.{errorNumber, flagOf};
 ghost use Rattle.headers.specs.StartCode.{zeros, prefixAt, nextStartCode};
 
-pub mod picture_header; // picture_header(), picture_coding_extension()
 pub mod quant_matrix_extension; // the 64-byte matrices
 pub mod sequence_extension; // sequence_extension(), and both sequence headers together
 pub mod sequence_header; // sequence_header()
@@ -63,22 +63,22 @@ fn past_zeros(buf: &[u8], from: usize) -> usize
     at
 }
 
+// start_code_prefix (6.2.1).
+const PREFIX: [u8; 3] = *b"\x00\x00\x01";
+
 // Whether 00 00 01 stands at a byte.
-fn prefix_at(buf: &[u8], at: usize) -> bool
+pub fn prefix_at(buf: &[u8], at: usize) -> bool
     ensures { λ r. ⌜ r ≡ prefixAt (now (buf .entry)) at ⌝ }
 {
-    if buf.len() < 3 {
+    if buf.len() < at {
         return false;
     }
-    if buf.len() - 3 < at {
-        return false;
-    }
-    (buf[at] == 0) & (buf[at + 1] == 0) & (buf[at + 2] == 1)
+    bits::starts_with(&buf[at..], &PREFIX)
 }
 
 // next_start_code() (5.2.3): zero bytes are passed over; the byte after them must be 01, with two zero bytes before it,
 // which may lie before `from`.
-fn next_start_code(buf: &[u8], from: usize) -> NextStartCode
+pub fn next_start_code(buf: &[u8], from: usize) -> NextStartCode
     ensures { λ r. ⌜ r ≡ nextStartCode (now (buf .entry)) from ⌝ }
 {
     let end = past_zeros(buf, from);

@@ -1,4 +1,6 @@
 pub mod Patching
-pub mod Laying
-pub mod Places
+pub mod Checking
 pub mod Numbers
+pub mod Sending
+pub mod Refusals
+pub mod FromC

@@ -2,16 +2,13 @@
 -- Assumes nothing.
 use mathlib.Core.Path.{_≡_, sym, ap, _∙_}
 use Prim.Native.Nat.{ℕ}
-use Rattle.vbv.specs.Answers.{errorNumber}
+use Rattle.vbv.specs.Answers.{errorNumber, patchNumber}
 use Rattle.vbv.specs.declared.VbvError.{VbvError}
 use Rattle.vbv.specs.declared.VbvPatch.{VbvPatch}
 use Rattle.vbv.specs.declared.VbvPatch.the-variants.{Done, Refused}
-use Rattle.hipokuta.specs.Patch.{patchNumber}
 
 pub done : {a p : VbvPatch} → a ≡ p → a ≡ Done → 0 ≡ patchNumber p
-unfolding patchNumber
 done h d = ap patchNumber (sym d ∙ h)
 
 pub refused : {a p : VbvPatch} {e : VbvError} {n : ℕ} → a ≡ p → a ≡ Refused e → n ≡ errorNumber e → n ≡ patchNumber p
-unfolding patchNumber
 refused h d k = k ∙ ap patchNumber (sym d ∙ h)

@@ -1,4 +1,4 @@
--- `vbv_check` (paper 01, 'The buffer report' and 'Rust forms to replace'; docs/LAYOUT.md): places too short are 19, then a standard other than 1 (MPEG-1) and 2 (MPEG-2) is 12, then the check's own answer.
+-- `vbv_check` (paper 01, 'The buffer report' and 'Rust forms to replace'; docs/LAYOUT.md): a report or refusal place that is too short is 19, then a standard other than 1 (MPEG-1) and 2 (MPEG-2) is 12, then the check's own answer.
 -- Assumes nothing.
 use Prim.Native.Nat.{ℕ, _/_}
 use mathlib.Core.Bool.{_&&_}
@@ -16,7 +16,8 @@ use Rattle.verify.specs.declared.VbvVerified.the-variants.{Report, Refused}
 use Rattle.verify.specs.declared.VbvPictureRecord.{VbvPictureRecord}
 use Rattle.verify.specs.declared.VbvStreamReport.{VbvStreamReport}
 use Rattle.verify.specs.declared.VbvRefusal.{VbvRefusal}
-use Rattle.hipokuta.specs.Words.{reportBytes, refusalBytes}
+use Rattle.layout.specs.Words.{laid}
+use Rattle.layout.specs.Answers.{reportBytes, refusalBytes}
 
 -- a report with its records, or a refusal
 pub data Checked : Type 0 where
@@ -44,15 +45,15 @@ unfoldable pub numberOf : Checked → ℕ
 numberOf (refused r) = r .number
 numberOf (reported r rs) = 0
 
--- the places afterwards; bytes behind what is laid over them stay, and a refusal place too short for a refusal is left alone
+-- the places afterwards; a refusal place that is too short is left alone
 unfoldable pub reportAfter : Checked → List ℕ → List ℕ
 reportAfter (refused r) place = place
-reportAfter (reported r rs) place = over (reportBytes r) place
+reportAfter (reported r rs) place = laid (reportBytes r) place
 
 unfoldable pub recordsAfter : Checked → List ℕ → List ℕ
 recordsAfter (refused r) place = place
 recordsAfter (reported r rs) place = over (recordsBytes rs) place
 
 unfoldable pub refusalAfter : Checked → List ℕ → List ℕ
-refusalAfter (refused r) place = pick (leb 32 (length place)) (over (refusalBytes r) place) place
+refusalAfter (refused r) place = laid (refusalBytes r) place
 refusalAfter (reported r rs) place = place

@@ -1,3 +1,3 @@
-pub mod Words
 pub mod Check
-pub mod Patch
+pub mod Send
+pub mod Calls

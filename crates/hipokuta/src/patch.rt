@@ -1,7 +1,7 @@
 // The delay of a picture header.
 ghost use mathlib.Core.Path.{_≡_};
+ghost use Rattle.vbv.specs.Answers.{patchNumber};
 ghost use Rattle.vbv.specs.Patch.{patchAnswer, patched};
-ghost use Rattle.hipokuta.specs.Patch.{patchNumber};
 use vbv::VbvPatch;
 use vbv::patch_vbv_delay;
 

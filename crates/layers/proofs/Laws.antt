@@ -13,18 +13,18 @@ use lib.ListN.{length, take, drop}
 use lib.Seq.{take-take}
 use borrow.Author.Tests.{not-true, eqb-true, ne-eqb}
 use Rattle.bits.specs.Bits.{bitsAt}
-use Rattle.bits.proofs.Reading.{both-true, same-bytes}
+use Rattle.bits.proofs.Reading.{both-true, same-bytes, same-self}
 use Rattle.bits.proofs.Appending.{Below}
 use Rattle.headers.specs.StartCode.{zeros}
-use Rattle.headers.specs.Picture.{picture}
+use Rattle.picture_header.specs.Picture.{picture}
 use Rattle.headers.specs.Sequence.{sequence}
 use Rattle.headers.specs.declared.sequence_header.Answer.{Answer}
 use Rattle.headers.specs.declared.sequence_header.Answer.the-variants.{Parsed as SequenceParsed, Refused as SequenceRefused}
 use Rattle.headers.specs.declared.sequence_extension.Mpeg2Sequence.{Mpeg2Sequence}
-use Rattle.headers.specs.declared.picture_header.PictureRead.the-variants.{Parsed}
-use Rattle.headers.proofs.Picture.{picture-append}
+use Rattle.picture_header.specs.declared.PictureRead.the-variants.{Parsed}
+use Rattle.picture_header.proofs.Picture.{picture-append}
 use Rattle.headers.proofs.Sequence.{sequence-append}
-use Rattle.headers.proofs.OtherDelay.{OtherDelay, delayed, delayed-delay, picture-delayed}
+use Rattle.picture_header.proofs.OtherDelay.{OtherDelay, delayed, delayed-delay, picture-delayed}
 use Rattle.vbv.specs.Patch.{startsPicture, patched}
 use Rattle.vbv.specs.Answers.{frameRate}
 use Rattle.vbv.specs.declared.FrameRate.{FrameRate}
@@ -100,9 +100,7 @@ module _ (k : PictureKind) (i : RemovalInterval) (s : List ℕ) (fits : layerFit
   layer-long = omega (arith, layer-twelve f)
 
   pub layer-starts : startsPicture s ≡ true
-  layer-starts =
-      let o = opens-four s 0 0 1 0 (layer-header f .code-first) in
-      sym (starts-is s layer-long) ∙ rw o
+  layer-starts = sym (starts-is s layer-long) ∙ rw (layer-header f .code-first) (same-self (0x00 ∷ 0x00 ∷ 0x01 ∷ 0x00 ∷ []))
 
   pub layer-length : (d : ℕ) → length (patched s d) ≡ length s
   layer-length d = patched-length s d layer-starts

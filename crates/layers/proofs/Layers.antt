@@ -16,22 +16,22 @@ use Rattle.bits.proofs.Reading.{both-true}
 use Rattle.bits.proofs.Appending.{Below}
 use Rattle.bits.proofs.Patching.{byte-bits}
 use Rattle.headers.specs.StartCode.{zeros}
-use Rattle.headers.specs.PictureHeader.{pictureHeader, pictureHeaderBytes}
-use Rattle.headers.specs.Picture.{picture}
-use Rattle.headers.specs.declared.picture_header.PictureCodingType.{PictureCodingType}
-use Rattle.headers.specs.declared.picture_header.PictureCodingType.the-variants.{Intra, Predictive, Bidirectional, DcIntra}
-use Rattle.headers.specs.declared.picture_header.OptionCode.{OptionCode}
-use Rattle.headers.specs.declared.picture_header.OptionCode.the-variants.{Some as SomeCode, None as NoCode}
-use Rattle.headers.specs.declared.picture_header.Mpeg2PictureHeader.{Mpeg2PictureHeader}
-use Rattle.headers.specs.declared.picture_header.PictureHeaderRead.the-variants.{Parsed as HeaderParsed}
-use Rattle.headers.specs.declared.picture_header.PictureCodingExtension.{PictureCodingExtension}
-use Rattle.headers.specs.declared.picture_header.PictureRead.{PictureRead}
-use Rattle.headers.specs.declared.picture_header.PictureRead.the-variants.{Parsed, Refused}
+use Rattle.picture_header.specs.PictureHeader.{pictureHeader, pictureHeaderBytes}
+use Rattle.picture_header.specs.Picture.{picture}
+use Rattle.picture_header.specs.declared.PictureCodingType.{PictureCodingType}
+use Rattle.picture_header.specs.declared.PictureCodingType.the-variants.{Intra, Predictive, Bidirectional, DcIntra}
+use Rattle.picture_header.specs.declared.OptionCode.{OptionCode}
+use Rattle.picture_header.specs.declared.OptionCode.the-variants.{Some as SomeCode, None as NoCode}
+use Rattle.picture_header.specs.declared.Mpeg2PictureHeader.{Mpeg2PictureHeader}
+use Rattle.picture_header.specs.declared.PictureHeaderRead.the-variants.{Parsed as HeaderParsed}
+use Rattle.picture_header.specs.declared.PictureCodingExtension.{PictureCodingExtension}
+use Rattle.picture_header.specs.declared.PictureRead.{PictureRead}
+use Rattle.picture_header.specs.declared.PictureRead.the-variants.{Parsed, Refused}
 use Rattle.headers.proofs.StartCode.{zeros-zero}
-use Rattle.headers.proofs.PictureHeader.{PictureHeaderParsed, picture-header-parsed, header-least}
-use Rattle.headers.proofs.Picture.{picture-parsed, extension-placed}
+use Rattle.picture_header.proofs.PictureHeader.{PictureHeaderParsed, picture-header-parsed, header-least}
+use Rattle.picture_header.proofs.Picture.{picture-parsed, extension-placed}
 use Rattle.headers.proofs.StartCode.{next-found}
-use Rattle.headers.proofs.OtherDelay.{header-bytes, forward-code, extra-flag}
+use Rattle.picture_header.proofs.OtherDelay.{header-bytes, forward-code, extra-flag}
 use Rattle.vbv.specs.declared.RemovalInterval.{RemovalInterval}
 use Rattle.vbv.specs.declared.RemovalInterval.the-variants.{Frame, Field}
 use Rattle.verify.specs.Coded.{intervalOf}

@@ -1,76 +1,57 @@
 -- What the code's tests say: bytes at an index, the codes that a search finds, and the bits and bytes behind a picture header.
 -- Assumes nothing.
 use mathlib.Core.Path.{_≡_, refl, sym, _∙_}
-use Prim.Native.Nat.{ℕ, suc, _+_, _-_, _*_, _/_, _%_, _≤_, _<_}
+use Prim.Native.Nat.{ℕ, _+_, _-_, _*_, _/_, _%_, _≤_, _<_}
 use mathlib.Core.List.{List, [], _∷_}
-use mathlib.Core.Bool.{Bool, true, false, not, _&&_, and-true, and-assoc}
+use mathlib.Core.Bool.{Bool, true, false, not, _&&_, and-assoc}
 use native.Mathlib.Omega.{arith}
 use lib.Dec.{eqb, leb}
-use lib.ListN.{length, getD, take, drop, length-drop}
-use lib.Seq.{drop-cons}
+use lib.ListN.{length, getD, take, drop}
 use borrow.Author.Tests.{le-leb, lt-leb, leb-true, leb-false}
 use Rattle.bits.specs.Bits.{there}
-use Rattle.bits.specs.Fields.{sameBytes}
 use Rattle.bits.specs.Answers.{readBits}
 use Rattle.bits.specs.declared.Bits.{Bits}
 use Rattle.bits.specs.declared.Bits.the-variants.{Value, Short}
 use Rattle.bits.proofs.Laws.{bits-drop}
-use Rattle.bits.proofs.Reading.{same-bytes, same-more, same-none, there-is, there-drop, found as read-found, missed}
-use Rattle.headers.specs.StartCode.{zeros}
-use Rattle.headers.specs.Picture.{picture}
-use Rattle.headers.specs.PictureHeader.{pictureHeader, pictureHeaderBits, pictureHeaderBytes}
-use Rattle.headers.specs.declared.picture_header.Mpeg2PictureHeader.{Mpeg2PictureHeader}
-use Rattle.headers.specs.declared.picture_header.PictureCodingExtension.{PictureCodingExtension}
-use Rattle.headers.specs.declared.picture_header.PictureRead.the-variants.{Parsed}
-use Rattle.headers.specs.declared.picture_header.PictureHeaderRead.the-variants.{Parsed as HeaderParsed}
-use Rattle.headers.proofs.StartCode.{zeros-past, zeros-none, zeros-more, rest-is}
-use Rattle.headers.proofs.PictureHeader.{picture-header-parsed}
-use Rattle.headers.proofs.OtherDelay.{header-bytes}
-use Rattle.headers.proofs.Extent.{header-bits}
+use Rattle.bits.proofs.Reading.{there-is, there-drop, found as read-found, missed}
+use Rattle.headers.specs.StartCode.{zeros, prefixAt}
+use Rattle.picture_header.specs.Picture.{picture}
+use Rattle.picture_header.specs.PictureHeader.{pictureHeader, pictureHeaderBits, pictureHeaderBytes}
+use Rattle.picture_header.specs.declared.Mpeg2PictureHeader.{Mpeg2PictureHeader}
+use Rattle.picture_header.specs.declared.PictureCodingExtension.{PictureCodingExtension}
+use Rattle.picture_header.specs.declared.PictureRead.the-variants.{Parsed}
+use Rattle.picture_header.specs.declared.PictureHeaderRead.the-variants.{Parsed as HeaderParsed}
+use Rattle.headers.proofs.StartCode.{zeros-past, zeros-none, zeros-more, prefix-is, rest-is}
+use Rattle.picture_header.proofs.PictureHeader.{picture-header-parsed}
+use Rattle.picture_header.proofs.OtherDelay.{header-bytes}
+use Rattle.picture_header.proofs.Extent.{header-bits}
 use Rattle.vbv.specs.declared.RemovalInterval.{RemovalInterval}
 use Rattle.verify.specs.Coded.{intervalOf}
 use Rattle.scan.specs.declared.Found.the-variants.{At, Nothing}
-use Rattle.scan.specs.Codes.{codes, codesAt, nextCode}
+use Rattle.scan.specs.Codes.{codes, codesAt, nextCode, endsPrefix}
 use Rattle.scan.specs.Pictures.{isSlice, notSequence, skip}
 use Rattle.scan.specs.Walk.{found}
 use Rattle.scan.specs.Laid.{every}
 use Rattle.scan.proofs.Walk.{seen, unseen, sought, unsought}
-use Rattle.scan.proofs.Search.{codes-from-zero, every-more}
+use Rattle.scan.proofs.Search.{codes-from-zero, every-more, ends-last-three}
 use Rattle.layers.specs.Headers.{opensHeaders, sequenceFirst}
 use Rattle.layers.specs.declared.PictureKind.{PictureKind}
 use Rattle.layers.specs.Layer.{sameKind, sameInterval, flagClear, codeSeven, headerFits, padding, slices, isExtension, layerCodes}
 
 -- ---- 00 00 01
 
-pub prefix-test : (s : List ℕ) (p : ℕ) → p + 3 ≤ length s
-    → (eqb (getD s p 0) 0 && (eqb (getD s (p + 1) 0) 0 && eqb (getD s (p + 2) 0) 1)) ≡ sameBytes (take 3 (drop p s)) (0x00 ∷ 0x00 ∷ 0x01 ∷ [])
-prefix-test s p h =
-    let a : p + 1 ≡ suc p = omega arith in
-    let b : p + 2 ≡ suc (suc p) = omega arith in
-    rw (a, b, drop-cons s p 0 (omega arith), drop-cons s (suc p) 0 (omega arith), drop-cons s (suc (suc p)) 0 (omega arith), same-more, same-more, same-more, same-none, and-true)
-
-three-long : (l : List ℕ) → take 3 l ≡ 0x00 ∷ 0x00 ∷ 0x01 ∷ [] → 3 ≤ length l
-three-long [] q = let z : _≡_ {A = ℕ} 0 1 = cc in omega arith
-three-long (a ∷ []) q = let z : _≡_ {A = ℕ} 0 1 = cc in omega arith
-three-long (a ∷ b ∷ []) q = let z : _≡_ {A = ℕ} 0 1 = cc in omega arith
-three-long (a ∷ b ∷ c ∷ l) q = omega arith
-
-pub prefix-few : (s : List ℕ) (p : ℕ) → length s < p + 3 → false ≡ sameBytes (take 3 (drop p s)) (0x00 ∷ 0x00 ∷ 0x01 ∷ [])
-prefix-few s p h = case (sameBytes (take 3 (drop p s)) (0x00 ∷ 0x00 ∷ 0x01 ∷ [])) refl
-  where
-    case : (b : Bool) → sameBytes (take 3 (drop p s)) (0x00 ∷ 0x00 ∷ 0x01 ∷ []) ≡ b → false ≡ b
-    case true e = absurd (omega (arith, three-long (drop p s) (same-bytes _ _ e), length-drop p s))
-    case false e = refl
-
 pub opens-empty : (s : List ℕ) → length s ≡ 0 → true ≡ opensHeaders s
 unfolding opensHeaders
 opens-empty [] h = refl
 opens-empty (b ∷ s) h = absurd (omega arith)
 
-pub opens-by : (s : List ℕ) → (length s ≡ 0 → ⊥) → sameBytes (take 3 (drop 0 s)) (0x00 ∷ 0x00 ∷ 0x01 ∷ []) ≡ opensHeaders s
+pub opens-by : (s : List ℕ) → (length s ≡ 0 → ⊥) → prefixAt s 0 ≡ opensHeaders s
 unfolding opensHeaders
 opens-by [] h = absurd (h refl)
-opens-by (b ∷ s) h = refl
+opens-by (b ∷ s) h = prefix-is (b ∷ s) 0
+
+pub ends-by : (s : List ℕ) → 3 ≤ length s → prefixAt s (length s - 3) ≡ endsPrefix s
+ends-by s h = prefix-is s (length s - 3) ∙ ends-last-three s h
 
 -- ---- codes
 

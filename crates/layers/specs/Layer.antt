@@ -7,17 +7,17 @@ use lib.Dec.{eqb, leb}
 use lib.ListN.{drop}
 use Rattle.bits.specs.Bits.{bitsAt}
 use Rattle.headers.specs.StartCode.{zeros}
-use Rattle.headers.specs.PictureHeader.{pictureHeaderBits, pictureHeaderBytes}
-use Rattle.headers.specs.Picture.{picture}
-use Rattle.headers.specs.declared.picture_header.PictureCodingType.{PictureCodingType}
-use Rattle.headers.specs.declared.picture_header.PictureCodingType.the-variants.{Intra, Predictive, Bidirectional, DcIntra}
-use Rattle.headers.specs.declared.picture_header.OptionFlag.{OptionFlag}
-use Rattle.headers.specs.declared.picture_header.OptionFlag.the-variants.{Some as SomeFlag, None as NoFlag}
-use Rattle.headers.specs.declared.picture_header.OptionCode.{OptionCode}
-use Rattle.headers.specs.declared.picture_header.OptionCode.the-variants.{Some as SomeCode, None as NoCode}
-use Rattle.headers.specs.declared.picture_header.Mpeg2PictureHeader.{Mpeg2PictureHeader}
-use Rattle.headers.specs.declared.picture_header.PictureRead.{PictureRead}
-use Rattle.headers.specs.declared.picture_header.PictureRead.the-variants.{Parsed, Refused}
+use Rattle.picture_header.specs.PictureHeader.{pictureHeaderBits, pictureHeaderBytes}
+use Rattle.picture_header.specs.Picture.{picture}
+use Rattle.picture_header.specs.declared.PictureCodingType.{PictureCodingType}
+use Rattle.picture_header.specs.declared.PictureCodingType.the-variants.{Intra, Predictive, Bidirectional, DcIntra}
+use Rattle.picture_header.specs.declared.OptionFlag.{OptionFlag}
+use Rattle.picture_header.specs.declared.OptionFlag.the-variants.{Some as SomeFlag, None as NoFlag}
+use Rattle.picture_header.specs.declared.OptionCode.{OptionCode}
+use Rattle.picture_header.specs.declared.OptionCode.the-variants.{Some as SomeCode, None as NoCode}
+use Rattle.picture_header.specs.declared.Mpeg2PictureHeader.{Mpeg2PictureHeader}
+use Rattle.picture_header.specs.declared.PictureRead.{PictureRead}
+use Rattle.picture_header.specs.declared.PictureRead.the-variants.{Parsed, Refused}
 use Rattle.vbv.specs.declared.RemovalInterval.{RemovalInterval}
 use Rattle.vbv.specs.declared.RemovalInterval.the-variants.{Frame, Field}
 use Rattle.verify.specs.Coded.{intervalOf}

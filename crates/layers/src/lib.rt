@@ -1,15 +1,13 @@
 // Headers and picture layers that an encoder offers: whether they fit (paper 01, 'A placed picture').
 ghost use mathlib.Core.Path.{_≡_};
 ghost use mathlib.Core.Bool.{_&&_};
-ghost use mathlib.Core.List.{[], _∷_};
 ghost use lib.Dec.{eqb, leb};
-ghost use lib.ListN.{take, drop};
-ghost use Rattle.bits.specs.Fields.{sameBytes};
+ghost use lib.ListN.{drop};
 ghost use Rattle.headers.specs.StartCode.{zeros};
 ghost use Rattle.headers.specs.Sequence.{sequence as sequenceIn};
-ghost use Rattle.headers.specs.PictureHeader.{pictureHeader, pictureHeaderBytes};
-ghost use Rattle.headers.specs.Picture.{picture};
-ghost use Rattle.headers.specs.declared.picture_header.PictureHeaderRead.the-variants.{Parsed as HeaderParsed};
+ghost use Rattle.picture_header.specs.PictureHeader.{pictureHeader, pictureHeaderBytes};
+ghost use Rattle.picture_header.specs.Picture.{picture};
+ghost use Rattle.picture_header.specs.declared.PictureHeaderRead.the-variants.{Parsed as HeaderParsed};
 ghost use Rattle.vbv.specs.Answers.{frameRate};
 ghost use Rattle.scan.specs.Codes.{codes, codesAt, endsPrefix};
 ghost use Rattle.scan.specs.Pictures.{skip};
@@ -19,20 +17,17 @@ ghost use Rattle.layers.specs.Headers.{opensHeaders, sameRate, sameParam
 ghost use Rattle.layers.specs.Layer.{sameKind, sameInterval, flagClear, codeSeven, padding, headerFits, slices, isExtension, layerCodes, layerFits};
 ghost use Rattle.layers.specs.Steps.{within};
 use bits::Bits;
-use headers::picture_header::Mpeg2PictureHeader;
-use headers::picture_header::OptionCode;
-use headers::picture_header::OptionFlag;
-use headers::picture_header::PictureCodingType;
-use headers::picture_header::PictureRead;
 use headers::sequence_extension::Mpeg2Sequence;
 use headers::sequence_header::Answer;
+use picture_header::Mpeg2PictureHeader;
+use picture_header::OptionCode;
+use picture_header::OptionFlag;
+use picture_header::PictureCodingType;
+use picture_header::PictureRead;
 use scan::Found;
 use vbv::FrameRate;
 use vbv::RemovalInterval;
 use vbv::VbvParams;
-
-// start_code_prefix (ISO/IEC 13818-2 6.2.1).
-const PREFIX: [u8; 3] = *b"\x00\x00\x01";
 
 // Which kind of picture is offered.
 pub enum PictureKind {
@@ -94,19 +89,6 @@ fn all_within(s: &[u8], from: usize, set: CodeSet) -> bool
     }
 }
 
-// Whether 00 00 01 stands at a byte.
-fn prefix_at(s: &[u8], at: usize) -> bool
-    ensures { λ r. ⌜ r ≡ sameBytes (take 3 (drop at (now (s .entry)))) (0x00 ∷ 0x00 ∷ 0x01 ∷ []) ⌝ }
-{
-    if s.len() < 3 {
-        return false;
-    }
-    if s.len() - 3 < at {
-        return false;
-    }
-    (s[at] == PREFIX[0]) & ((s[at + 1] == PREFIX[1]) & (s[at + 2] == PREFIX[2]))
-}
-
 // Whether the bytes end 00 00 01.
 fn ends_prefix(s: &[u8]) -> bool
     ensures { λ r. ⌜ r ≡ endsPrefix (now (s .entry)) ⌝ }
@@ -114,7 +96,7 @@ fn ends_prefix(s: &[u8]) -> bool
     if s.len() < 3 {
         return false;
     }
-    prefix_at(s, s.len() - 3)
+    headers::prefix_at(s, s.len() - 3)
 }
 
 // Empty, or starting 00 00 01.
@@ -124,7 +106,7 @@ fn opens_headers(headers: &[u8]) -> bool
     if headers.len() == 0 {
         return true;
     }
-    prefix_at(headers, 0)
+    headers::prefix_at(headers, 0)
 }
 
 // B3 exactly once, at byte 0.

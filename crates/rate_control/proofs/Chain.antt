@@ -63,7 +63,8 @@ pub data Reason (w : CbrWriter) (o : Offer) : CbrError → Type 0 where
   over-full : w .finished ≡ false → overflows (w .model .params) (w .model .«prev_end_bits») (deliveredAt w o) ≡ true
       → Reason w o (Violation (Overflow (w .model .removed) 0 0))
   no-edge : underflows (w .model .params) (end w o) (deliveredAt w o) ≡ true → Reason w o Stuffing
-  no-room : length (o .out) < length (placedBytes w o) → Reason w o Output
+  no-room : writerFits w ≡ true → overflows (w .model .params) (w .model .«prev_end_bits») (deliveredAt w o) ≡ false
+      → underflows (w .model .params) (end w o) (deliveredAt w o) ≡ false → length (o .out) < length (placedBytes w o) → Reason w o Output
 
 pub data Outcome (w : CbrWriter) (o : Offer) : CbrOffered → Type 0 where
   stays : (e : CbrError) → Reason w o e → Outcome w o (refused w e)
@@ -88,7 +89,7 @@ outcome w o =
     pick-elim P _ (λ e. stays _ (over-full (or-left _ _ h17) e)) λ h9.
     pick-elim P _ (λ e. size-outcome w o) λ size.
     pick-elim P _ (λ e. stays _ (no-edge e)) λ h22.
-    pick-elim P _ (λ e. stays _ (no-room (ltb-true _ _ e))) λ h19.
+    pick-elim P _ (λ e. stays _ (no-room (not-false _ h12) h9 h22 (ltb-true _ _ e))) λ h19.
     places (record {
       fitted = not-false _ h12;
       unfinished = or-left _ _ h17;

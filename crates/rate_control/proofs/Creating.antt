@@ -1,11 +1,12 @@
 -- Creation: the targets in 64 bits, what the ranges say, and the ways through it.
 -- Assumes nothing.
-use mathlib.Core.Path.{_≡_}
+use mathlib.Core.Path.{_≡_, refl}
 use mathlib.Core.Bool.{Bool, true, false, _&&_}
 use mathlib.Core.List.{List, [], _∷_}
 use Prim.Native.Nat.{ℕ, _+_, _*_, _/_, _≤_}
 use native.Mathlib.Omega.{arith}
 use native.Mathlib.Nat.{mul-le-mul, div-le-self}
+use lib.Dec.{leb}
 use borrow.Author.Tests.{leb-true}
 use Rattle.bits.specs.Bits.{pick}
 use Rattle.vbv.specs.Answers.{frameRate}
@@ -45,6 +46,11 @@ module _ (p : VbvParams) (between anchors : ℕ) (h : Shares p between anchors) 
 
   pub between-most : anchors * between ≤ 3825
   between-most = mul-le-mul {n₂ = 255} {m₂ = 15} (omega arith) (omega arith)
+
+-- a range as two tests
+pub within-is : (low high v : ℕ) → within low high v ≡ (leb low v && leb v high)
+unfolding within
+within-is low high v = refl
 
 -- the ranges of a configuration
 and-r : (a b : Bool) → (a && b) ≡ true → b ≡ true

@@ -120,7 +120,7 @@ fresh c p m f r h =
       unstuffed = refl;
     }
 
-not-created : {e : VbvError} → Refused e ≡ Created → ⊥
+pub not-created : {e : VbvError} → Refused e ≡ Created → ⊥
 not-created h = let z : _≡_ {A = ℕ} 0 1 = cc in omega arith
 
 with-model : (c : CbrConfig) (p : VbvParams) → ConfigFits c → p .«bit_rate» ≡ 400 * c .«bit_rate_value» → (x : VbvModel) → newModel p ≡ x

@@ -17,12 +17,15 @@ use Rattle.rate_control.specs.Writer.{writerFits, asked}
 use Rattle.rate_control.specs.Offer.{Offer, position, deliveredAt, firstDelay, delay, placedBytes, withPending, refused, placed, offer, outOf, outAfter, withdraw}
 use Rattle.rate_control.specs.Calls.{Call, offering, withdrawing, stepOf, after, run}
 use Rattle.rate_control.specs.Sent.{Sent, sentBy, sent}
-use Rattle.rate_control.specs.Demand.{PartHolds, QuantiserTold, Each, none, offer-then, withdrawal-then, FirstDelay}
+use Rattle.rate_control.specs.Demand.{PartHolds, QuantiserTold, WriterKept, Each, none, offer-then, withdrawal-then, FirstDelay}
 use Rattle.rate_control.specs.declared.Pending.the-variants.{Nothing}
 use Rattle.rate_control.specs.declared.CbrWriter.{CbrWriter}
+use Rattle.rate_control.specs.declared.CbrAnswer.{CbrAnswer}
+use Rattle.rate_control.specs.declared.CbrAnswer.the-variants.{Placed, Again, Refused}
 use Rattle.rate_control.specs.declared.CbrOffered.{CbrOffered}
 use Rattle.rate_control.specs.declared.CbrWithdrawal.the-variants.{Withdrawn}
 use Rattle.rate_control.proofs.Chain.{Outcome, stays, closes, retries, places, outcome, q-of}
+use Rattle.rate_control.proofs.Lists.{refused-keeps, refused-closes}
 use Rattle.rate_control.proofs.Retries.{Quant}
 use Rattle.rate_control.proofs.Fitting.{writer-fits}
 use Rattle.rate_control.proofs.Invariant.{Inv, asked-quant, withdraw-is, call-inv}
@@ -46,14 +49,19 @@ outcome-quantiser h (closes x) = tt
 outcome-quantiser {o = o} h (retries x) = (below (asked-quant (o .kind) h .0) x, refl)
 outcome-quantiser h (places x) = refl
 
-withdraw-told : (w : CbrWriter) → writerFits w ≡ true → withdraw w .answer ≡ Withdrawn
+outcome-keeps : (w : CbrWriter) (o : Offer) → writerFits w ≡ true → (a : CbrAnswer) → offer w o .answer ≡ a → WriterKept w o a
+outcome-keeps w o f (Placed q d n z) h = tt
+outcome-keeps w o f (Again q) h = tt
+outcome-keeps w o f (Refused e) h = (refused-keeps w o e h, λ t. refused-closes w o f (h ∙ ap Refused t))
+
+pub withdraw-told : (w : CbrWriter) → writerFits w ≡ true → withdraw w .answer ≡ Withdrawn
 unfolding withdraw pick
 withdraw-told w e = rw e
 
 pub each : {n : ℕ} {w : CbrWriter} → Inv n w → (calls : List Call) → Each (run w calls)
 unfolding run stepOf outAfter
 each h [] = none
-each {w = w} h (offering o ∷ l) = offer-then (outcome-holds w o (outcome w o)) (outcome-quantiser h (outcome w o)) (each (call-inv (offering o) h) l)
+each {w = w} h (offering o ∷ l) = offer-then (outcome-holds w o (outcome w o)) (outcome-quantiser h (outcome w o)) (outcome-keeps w o (h .fits) _ refl) (each (call-inv (offering o) h) l)
 each {w = w} h (withdrawing ∷ l) = withdrawal-then (withdraw-told w (h .fits)) (each (call-inv withdrawing h) l)
 
 -- ---- the first delay

@@ -145,7 +145,7 @@ reason-retries n (too-far h) = refl
 reason-retries n (too-early h) = refl
 reason-retries n (over-full f h) = refl
 reason-retries n (no-edge h) = refl
-reason-retries n (no-room h) = refl
+reason-retries n (no-room f a b h) = refl
 
 pub outcome-inv : {n : ℕ} {w : CbrWriter} {o : Offer} {r : CbrOffered} → Inv n w → Outcome w o r → Inv (retriesBy n (r .answer)) (r .writer)
 unfolding refused placed retriesBy

@@ -19,4 +19,6 @@ pub mod Theorem
 pub mod Figures
 pub mod Lists
 pub mod Each
+pub mod Keeping
+pub mod Asking
 pub mod Demand

@@ -26,7 +26,7 @@ use Rattle.rate_control.proofs.Invariant.{Inv, pending-few, call-inv, w
 -- ---- retries
 
 -- 21 comes from the size alone
-reason-other : {w : CbrWriter} {o : Offer} {e : CbrError} → Reason w o e → Refused e ≡ Refused TooLarge → ⊥
+pub reason-other : {w : CbrWriter} {o : Offer} {e : CbrError} → Reason w o e → Refused e ≡ Refused TooLarge → ⊥
 reason-other (unfit g) h = let z : _≡_ {A = ℕ} 0 1 = cc in omega arith
 reason-other (out-of-turn g) h = let z : _≡_ {A = ℕ} 0 1 = cc in omega arith
 reason-other (bad-headers g) h = let z : _≡_ {A = ℕ} 0 1 = cc in omega arith
@@ -35,7 +35,7 @@ reason-other (too-far g) h = let z : _≡_ {A = ℕ} 0 1 = cc in omega arith
 reason-other (too-early g) h = let z : _≡_ {A = ℕ} 0 1 = cc in omega arith
 reason-other (over-full f g) h = let z : _≡_ {A = ℕ} 0 1 = cc in omega arith
 reason-other (no-edge g) h = let z : _≡_ {A = ℕ} 0 1 = cc in omega arith
-reason-other (no-room g) h = let z : _≡_ {A = ℕ} 0 1 = cc in omega arith
+reason-other (no-room f a b g) h = let z : _≡_ {A = ℕ} 0 1 = cc in omega arith
 
 outcome-coarsest : {w : CbrWriter} {o : Offer} {r : CbrOffered} → Outcome w o r → r .answer ≡ Refused TooLarge → q-of w o ≡ 31
 unfolding refused placed

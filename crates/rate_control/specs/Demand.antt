@@ -9,12 +9,15 @@ use Rattle.vbv.specs.Patch.{patched}
 use Rattle.vbv.specs.declared.VbvParams.{VbvParams}
 use Rattle.rate_control.specs.Writer.{asked, coarser}
 use Rattle.rate_control.specs.Create.{create}
-use Rattle.rate_control.specs.Offer.{Offer, tail, firstDelay}
+use Rattle.rate_control.specs.Offer.{Offer, offer, withdraw, tail, firstDelay}
 use Rattle.rate_control.specs.Calls.{Call, Step, offered, withdrawn, run}
+use Rattle.rate_control.specs.Targets.{targets}
+use Rattle.rate_control.specs.Told.{atFirst, Asks}
 use Rattle.rate_control.specs.Sent.{Sent, sent, AllBytes, Kept}
 use Rattle.rate_control.specs.declared.CbrConfig.{CbrConfig}
 use Rattle.rate_control.specs.declared.CbrWriter.{CbrWriter}
 use Rattle.rate_control.specs.declared.CbrCreation.the-variants.{Created}
+use Rattle.rate_control.specs.declared.CbrError.the-variants.{TooLarge}
 use Rattle.rate_control.specs.declared.CbrAnswer.{CbrAnswer}
 use Rattle.rate_control.specs.declared.CbrAnswer.the-variants.{Placed, Again, Refused}
 use Rattle.rate_control.specs.declared.CbrWithdrawal.{CbrWithdrawal}
@@ -38,9 +41,15 @@ QuantiserTold w o (Placed q d n z) = q ≡ asked w (o .kind)
 QuantiserTold w o (Again q) = (asked w (o .kind) < 31) × (q ≡ coarser (asked w (o .kind)))
 QuantiserTold w o (Refused e) = Unit {0}
 
+-- a refusal leaves the writer as it was, but that 21 closes the pending picture, as a withdrawal does
+abbrev pub WriterKept : CbrWriter → Offer → CbrAnswer → Type 0
+WriterKept w o (Placed q d n z) = Unit {0}
+WriterKept w o (Again q) = Unit {0}
+WriterKept w o (Refused e) = ((e ≡ TooLarge → ⊥) → offer w o .writer ≡ w) × (e ≡ TooLarge → offer w o .writer ≡ withdraw w .writer)
+
 pub data Each : List Step → Type 0 where
   none : Each []
-  offer-then : {w : CbrWriter} {o : Offer} {a : CbrAnswer} {out : List ℕ} {l : List Step} → PartHolds o a out → QuantiserTold w o a → Each l
+  offer-then : {w : CbrWriter} {o : Offer} {a : CbrAnswer} {out : List ℕ} {l : List Step} → PartHolds o a out → QuantiserTold w o a → WriterKept w o a → Each l
       → Each (offered w o a out ∷ l)
   withdrawal-then : {a : CbrWithdrawal} {l : List Step} → a ≡ Withdrawn → Each l → Each (withdrawn a ∷ l)
 
@@ -51,6 +60,7 @@ FirstDelay p (x ∷ xs) = x .delay ≡ firstDelay p
 
 pub record Demand (c : CbrConfig) (calls : List Call) : Type 0 where
   pub each : Each (run (create c .writer) calls)
+  pub quantisers : Asks (targets (create c .writer .model .params) (c .«b_between») (c .«anchors_per_gop»)) (atFirst c) (run (create c .writer) calls)
   pub first : FirstDelay (create c .writer .model .params) (sent 0 (run (create c .writer) calls))
   pub kept : Kept (create c .writer .model .params) (create c .writer) calls
 

@@ -6,5 +6,6 @@ pub mod Offer
 pub mod Steps
 pub mod Calls
 pub mod Sent
+pub mod Told
 pub mod Figures
 pub mod Demand

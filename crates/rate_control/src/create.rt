@@ -37,7 +37,7 @@ fn type_target_bits(params: VbvParams, b_between: u64, anchors_per_gop: u64) -> 
 }
 
 // Of no use: all zeros, so that every call refuses it.
-fn no_writer() -> CbrWriter
+pub fn no_writer() -> CbrWriter
     ensures { λ r. ⌜ r ≡ noWriter ⌝ }
 {
     CbrWriter {

@@ -1,6 +1,5 @@
 // The constant-rate writer: creation, offers of pictures and withdrawals (paper 01, 'A placed picture').
 ghost use mathlib.Core.Path.{_≡_};
-ghost use Rattle.verify.specs.Answers.{plain as plainOf};
 ghost use Rattle.rate_control.specs.Answers.{refusalOf};
 
 mod create; // creation, and the targets
@@ -11,12 +10,14 @@ mod answer; // the writer after an offer
 mod output; // the bytes placed
 mod offer; // an offer: its tests and its answer
 
+pub use crate::create::no_writer;
 use layers::PictureKind;
 use vbv::VbvCbrModel;
 use vbv::VbvError;
 use vbv::VbvViolation;
 use verify::VbvRefusal;
 use verify::VbvVerifyError;
+use verify::plain;
 
 // What a writer is created with: the sequence header's fields, the quantiser that every kind starts from, B pictures between
 // anchors and anchors in a group.
@@ -141,16 +142,5 @@ impl CbrError {
             CbrError::Stuffing => plain(22),
             CbrError::Output => plain(19),
         }
-    }
-}
-
-fn plain(number: u8) -> VbvRefusal
-    ensures { λ r. ⌜ r ≡ plainOf number ⌝ }
-{
-    VbvRefusal {
-        number,
-        picture: 0,
-        coded: 0,
-        expected: 0,
     }
 }

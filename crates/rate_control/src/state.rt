@@ -117,7 +117,7 @@ impl CbrWriter {
     }
 
     // Every field in its range. What was handed out is whole bytes, at least one for each picture and each byte of stuffing.
-    pub(crate) fn fits(self) -> bool
+    pub fn fits(self) -> bool
         ensures { λ r. ⌜ r ≡ writerFits self ⌝ }
     {
         let model = self.model;

@@ -1,13 +1,10 @@
-// Reads cases with the original's answers on standard input (oracle/FORMAT.md), works each answer out with the functions of
-// `headers`, `vbv` and `verify`, and prints for each kind how many cases there were and how many differ.
-mod checked; // kinds 17 and 18
-mod model; // kinds 14 to 16
+// Reads cases of headers with the original's answers on standard input (oracle/FORMAT.md), works each answer out with the
+// functions of `headers`, `picture_header` and `writers`, and prints for each kind how many cases there were and how many
+// differ.
 mod parsed; // kinds 1 to 7
 mod put; // an answer's bytes
 mod take; // an input's numbers
 mod written; // kinds 8 to 13
-
-use verify::VbvStandard;
 
 // What stands next on standard input: a case with the lengths of its input and its answer.
 enum Next {
@@ -38,11 +35,6 @@ fn answer(kind: u8, input: &[u8], out: &mut [u8]) -> usize {
         11 => written::time_code(input, out),
         12 => written::nominal_rate(input, out),
         13 => written::profile_and_level(input, out),
-        14 => model::frame_rate(input, out),
-        15 => model::calls(input, out),
-        16 => model::patch(input, out),
-        17 => checked::check(input, VbvStandard::Mpeg1, out),
-        18 => checked::check(input, VbvStandard::Mpeg2, out),
         _ => 0,
     }
 }
@@ -182,12 +174,7 @@ fn print_name(kind: usize) -> bool {
         10 => io::write_all(1, b"write_gop_header"),
         11 => io::write_all(1, b"TimeCode::from_display_index"),
         12 => io::write_all(1, b"nominal_pictures_per_second"),
-        13 => io::write_all(1, b"profile_and_level_indication"),
-        14 => io::write_all(1, b"frame_rate_value"),
-        15 => io::write_all(1, b"VbvCbrModel"),
-        16 => io::write_all(1, b"patch_vbv_delay"),
-        17 => io::write_all(1, b"verify_cbr_stream, MPEG-1"),
-        _ => io::write_all(1, b"verify_cbr_stream, MPEG-2"),
+        _ => io::write_all(1, b"profile_and_level_indication"),
     }
 }
 
@@ -200,7 +187,7 @@ fn report_kind(kind: usize, cases: &[u64], differ: &[u64]) {
 
 fn report_kinds(cases: &[u64], differ: &[u64]) {
     let mut kind: usize = 1;
-    while kind < 19 {
+    while kind < 14 {
         report_kind(kind, cases, differ);
         kind += 1;
     }
@@ -217,8 +204,8 @@ fn report(cases: &[u64], differ: &[u64]) {
 fn main() {
     let mut buf = io::large_buffer();
     let mut out = io::buffer();
-    let mut cases = [0u64; 19];
-    let mut differ = [0u64; 19];
+    let mut cases = [0u64; 14];
+    let mut differ = [0u64; 14];
     replay(&mut buf, &mut out, &mut cases, &mut differ);
     report(&cases, &differ);
 }

@@ -8,16 +8,6 @@ use crate::put::put_bytes;
 use crate::put::put_numbers;
 use crate::put::put32;
 use bits::Bits;
-use headers::picture_header::HeaderLength;
-use headers::picture_header::Mpeg2PictureHeader;
-use headers::picture_header::OptionCode;
-use headers::picture_header::OptionFlag;
-use headers::picture_header::PictureCodingExtension;
-use headers::picture_header::PictureCodingExtensionRead;
-use headers::picture_header::PictureCodingType;
-use headers::picture_header::PictureHeaderRead;
-use headers::picture_header::PictureRead;
-use headers::picture_header::PictureStructure;
 use headers::quant_matrix_extension::QuantiserMatrix;
 use headers::sequence_extension::ChromaFormat;
 use headers::sequence_extension::Mpeg2Sequence;
@@ -26,6 +16,16 @@ use headers::sequence_extension::SequenceExtensionRead;
 use headers::sequence_header::Answer;
 use headers::sequence_header::AspectRatio;
 use headers::sequence_header::Mpeg2SequenceHeader;
+use picture_header::HeaderLength;
+use picture_header::Mpeg2PictureHeader;
+use picture_header::OptionCode;
+use picture_header::OptionFlag;
+use picture_header::PictureCodingExtension;
+use picture_header::PictureCodingExtensionRead;
+use picture_header::PictureCodingType;
+use picture_header::PictureHeaderRead;
+use picture_header::PictureRead;
+use picture_header::PictureStructure;
 
 pub(crate) fn sequence_header(s: &[u8], out: &mut [u8]) -> usize {
     let read = Mpeg2SequenceHeader::parse(s);
@@ -97,7 +97,7 @@ pub(crate) fn picture(s: &[u8], out: &mut [u8]) -> usize {
 }
 
 pub(crate) fn picture_header_length(s: &[u8], out: &mut [u8]) -> usize {
-    let length = headers::picture_header::picture_header_byte_length(s);
+    let length = picture_header::picture_header_byte_length(s);
     match length {
         HeaderLength::Refused(e) => put(out, 0, e.number()),
         HeaderLength::Bytes(n) => {

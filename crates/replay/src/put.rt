@@ -18,11 +18,6 @@ pub(crate) fn put32(out: &mut [u8], at: usize, x: u32) -> usize {
     put16(out, next, (x / 65536) as u16)
 }
 
-pub(crate) fn put64(out: &mut [u8], at: usize, x: u64) -> usize {
-    let next = put32(out, at, (x % 0x1_0000_0000) as u32);
-    put32(out, next, (x / 0x1_0000_0000) as u32)
-}
-
 pub(crate) fn put_numbers(out: &mut [u8], at: usize, numbers: &[u32]) -> usize {
     let mut next = at;
     let mut i: usize = 0;

@@ -44,7 +44,7 @@ fn has_zero_one(s: &[u8], at: usize) -> bool
 }
 
 // The first start code at or after `from`, if it begins before `end`. Where no code is at a place, the next place is one
-// on if the third byte is 00, and otherwise three on.
+// on if the third byte is 00, and otherwise three on: so the prefix is compared byte by byte, its third byte first.
 fn next_before(s: &[u8], from: usize, end: usize) -> Found
     requires { ⌜ end + 3 ≤ length (now s) ⌝ }
     ensures { λ r. ⌜ r ≡ before end (nextCode (now (s .entry)) from) ⌝ }

@@ -1,11 +1,12 @@
 -- The figures hold.
-use mathlib.Core.Path.{_≡_, refl, sym}
+use mathlib.Core.Path.{_≡_, refl, sym, _∙_}
 use mathlib.Core.Bool.{true}
 use mathlib.Core.List.{List, [], _∷_}
 use Prim.Native.Nat.{ℕ, zero, suc, _<_}
 use lib.Dec.{lit<, lit≤}
 use lib.ListN.{getD}
 use Rattle.bits.specs.Bits.{pick}
+use Rattle.bits.proofs.Reading.{same-self}
 use Rattle.vbv.specs.Annex.{unit, firstDelivered, gain, overflows, underflows, early, expectedDelay}
 use Rattle.vbv.specs.Model.{paramsFit, delivered, modelFits, atDelivered, afterRemoval, nextDelivered, newModel, startModel, delayForPicture, endFits, removePicture}
 use Rattle.vbv.specs.Patch.{startsPicture}
@@ -28,7 +29,7 @@ header-bytes (suc (suc (suc (suc (suc (suc (suc zero))))))) = lit< tt
 header-bytes (suc (suc (suc (suc (suc (suc (suc (suc k)))))))) = lit< tt
 
 header-starts : startsPicture header ≡ true
-header-starts = sym (starts-is header (lit≤ tt))
+header-starts = sym (starts-is header (lit≤ tt)) ∙ same-self (0x00 ∷ 0x00 ∷ 0x01 ∷ 0x00 ∷ [])
 
 pub figures : Figures
 unfolding pick unit firstDelivered gain overflows underflows early expectedDelay paramsFit delivered modelFits atDelivered afterRemoval nextDelivered newModel startModel delayForPicture endFits removePicture

@@ -1,18 +1,17 @@
 -- The patch of a picture header: the three bytes that it changes, and the bits before, in and behind the delay.
 -- Assumes nothing.
 use mathlib.Core.Path.{_≡_, refl, sym, _∙_}
-use mathlib.Core.Bool.{true, false, _&&_}
+use mathlib.Core.Bool.{true, false}
 use mathlib.Core.List.{List, [], _∷_}
 use Prim.Native.Nat.{ℕ, _+_, _*_, _/_, _%_, _≤_, _<_}
 use native.Mathlib.Omega.{arith}
 use native.Mathlib.Nat.{mod-eq-of-lt}
-use lib.Dec.{eqb}
 use lib.ListN.{length, getD, set, take, drop}
 use lib.Seq.{getD-set-other, take-set-le, drop-set-lt}
 use borrow.Author.Tests.{leb-true, le-leb, lt-leb}
 use Rattle.bits.specs.Bits.{bitsAt, digits, setBits}
+use Rattle.bits.specs.Fields.{sameBytes}
 use Rattle.bits.proofs.Laws.{bits-bound, bits-split, length-digits}
-use Rattle.bits.proofs.Reading.{same-four}
 use Rattle.bits.proofs.Appending.{Below, below-take, below-drop, digit-bound}
 use Rattle.bits.proofs.Patching.{byte-bits, set-length, set-below, set-before, set-behind, set-digits, set-within}
 use Rattle.vbv.specs.Patch.{startsPicture, patchAnswer, patched}
@@ -26,10 +25,9 @@ pub starts-short : (s : List ℕ) → length s < 8 → false ≡ startsPicture s
 unfolding startsPicture
 starts-short s h = rw (lt-leb _ _ h)
 
-pub starts-is : (s : List ℕ) → 8 ≤ length s
-    → (eqb (getD s 0 0) 0 && eqb (getD s 1 0) 0 && eqb (getD s 2 0) 1 && eqb (getD s 3 0) 0) ≡ startsPicture s
+pub starts-is : (s : List ℕ) → 8 ≤ length s → sameBytes (take 4 s) (0x00 ∷ 0x00 ∷ 0x01 ∷ 0x00 ∷ []) ≡ startsPicture s
 unfolding startsPicture
-starts-is s h = rw (le-leb _ _ h) (same-four s (0x00 ∷ 0x00 ∷ 0x01 ∷ 0x00 ∷ []) (omega arith) refl)
+starts-is s h = rw (le-leb _ _ h)
 
 pub starts-long : (s : List ℕ) → startsPicture s ≡ true → 8 ≤ length s
 unfolding startsPicture

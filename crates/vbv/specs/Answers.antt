@@ -9,6 +9,16 @@ use Rattle.vbv.specs.declared.VbvViolation.{VbvViolation}
 use Rattle.vbv.specs.declared.VbvViolation.the-variants.{Overflow, Underflow, DelayMismatch}
 use Rattle.vbv.specs.declared.FrameRate.{FrameRate}
 use Rattle.vbv.specs.declared.FrameRate.the-variants.{Rate, Refused}
+use Rattle.vbv.specs.declared.VbvModel.{VbvModel}
+use Rattle.vbv.specs.declared.VbvModel.the-variants as md
+use Rattle.vbv.specs.declared.VbvRemoval.{VbvRemoval}
+use Rattle.vbv.specs.declared.VbvRemoval.the-variants as rm
+use Rattle.vbv.specs.declared.VbvDelay.{VbvDelay}
+use Rattle.vbv.specs.declared.VbvDelay.the-variants as dl
+use Rattle.vbv.specs.declared.VbvBits.{VbvBits}
+use Rattle.vbv.specs.declared.VbvBits.the-variants as bt
+use Rattle.vbv.specs.declared.VbvPatch.{VbvPatch}
+use Rattle.vbv.specs.declared.VbvPatch.the-variants as pt
 
 abbrev pub errorNumber : VbvError → ℕ
 errorNumber FrameRateCode = 6
@@ -39,6 +49,32 @@ abbrev pub violationExpected : VbvViolation → ℕ
 violationExpected (Overflow n c e) = e
 violationExpected (Underflow n c e) = e
 violationExpected (DelayMismatch n c e) = e
+
+-- the number of each answer: 0 for a result
+abbrev pub startNumber : VbvModel → ℕ
+startNumber (md.Model m) = 0
+startNumber (md.Refused e) = errorNumber e
+
+abbrev pub removalNumber : VbvRemoval → ℕ
+removalNumber (rm.Model m) = 0
+removalNumber (rm.Refused e) = errorNumber e
+removalNumber (rm.Violation v) = violationNumber v
+
+abbrev pub delayNumber : VbvDelay → ℕ
+delayNumber (dl.Delay t) = 0
+delayNumber (dl.Refused e) = errorNumber e
+
+abbrev pub bitsNumber : VbvBits → ℕ
+bitsNumber (bt.Bits b) = 0
+bitsNumber (bt.Refused e) = errorNumber e
+
+abbrev pub patchNumber : VbvPatch → ℕ
+patchNumber pt.Done = 0
+patchNumber (pt.Refused e) = errorNumber e
+
+abbrev pub frameRateNumber : FrameRate → ℕ
+frameRateNumber (Rate n d) = 0
+frameRateNumber (Refused e) = errorNumber e
 
 -- Table 6-4; 11172-2 2.4.3.2
 unfoldable pub frameRate : ℕ → FrameRate

@@ -1,18 +1,14 @@
 -- The figures of paper 01 that are marked P and speak of the model and the patch: one joint statement about the definitions.
 -- R = 1,000,000, B = 327,680, 25/1 unless said. Assumes nothing.
 use mathlib.Core.Path.{_≡_}
-use mathlib.Core.List.{List, [], _∷_}
+use mathlib.Core.List.{[], _∷_}
 use Prim.Native.Nat.{ℕ, _*_}
-use mathlib.Core.Bool.{Bool, true, false}
 use Rattle.vbv.specs.Annex.{unit}
+use Rattle.vbv.specs.Answers.{errorNumber, violationNumber, startNumber, removalNumber}
 use Rattle.vbv.specs.Model.{delivered, newModel, startModel, delayForPicture, removePicture}
 use Rattle.vbv.specs.Patch.{patched}
 use Rattle.vbv.specs.declared.RemovalInterval.the-variants.{Frame}
 use Rattle.vbv.specs.declared.VbvParams.{VbvParams}
-use Rattle.vbv.specs.declared.VbvCbrModel.{VbvCbrModel}
-use Rattle.vbv.specs.declared.VbvError.{VbvError}
-use Rattle.vbv.specs.declared.VbvError.the-variants.{Params}
-use Rattle.vbv.specs.declared.VbvViolation.the-variants.{Overflow, Underflow}
 use Rattle.vbv.specs.declared.VbvModel.{VbvModel}
 use Rattle.vbv.specs.declared.VbvModel.the-variants.{Model, Refused}
 use Rattle.vbv.specs.declared.VbvRemoval.{VbvRemoval}
@@ -38,24 +34,23 @@ abbrev pub andRemove : ℕ → VbvModel → VbvRemoval
 andRemove end (Model m) = removePicture m end Frame
 andRemove end (Refused e) = rm.Refused e
 
-abbrev pub andDelay : ℕ → VbvRemoval → VbvDelay
-andDelay position (rm.Model m) = delayForPicture m position
-andDelay position (rm.Refused e) = dl.Refused e
-andDelay position (rm.Violation v) = dl.Refused Params
+-- a delay asked for behind these: the delay, or the number of the first refusal
+pub data Told : Type 0 where
+  delay : ℕ → Told
+  refused : ℕ → Told
 
-abbrev pub delayAt : ℕ → VbvModel → VbvDelay
-delayAt position (Model m) = delayForPicture m position
-delayAt position (Refused e) = dl.Refused e
+abbrev pub told : VbvDelay → Told
+told (dl.Delay t) = delay t
+told (dl.Refused e) = refused (errorNumber e)
 
--- accepted
-abbrev pub made : VbvModel → Bool
-made (Model m) = true
-made (Refused e) = false
+abbrev pub delayBegun : ℕ → VbvModel → Told
+delayBegun position (Model m) = told (delayForPicture m position)
+delayBegun position (Refused e) = refused (errorNumber e)
 
-abbrev pub removed : VbvRemoval → Bool
-removed (rm.Model m) = true
-removed (rm.Refused e) = false
-removed (rm.Violation v) = false
+abbrev pub delayAfter : ℕ → VbvRemoval → Told
+delayAfter position (rm.Model m) = told (delayForPicture m position)
+delayAfter position (rm.Refused e) = refused (errorNumber e)
+delayAfter position (rm.Violation v) = refused (violationNumber v)
 
 -- one more frame of no bits
 abbrev pub again : VbvRemoval → VbvRemoval
@@ -69,14 +64,15 @@ deliveredAfter (rm.Model m) = delivered m
 deliveredAfter (rm.Refused e) = 0
 deliveredAfter (rm.Violation v) = 0
 
+-- by the numbers of the answers: 0 is acceptance
 pub record Figures : Type 0 where
-  pub end-246755 : removed (andRemove 246755 (begun 1000000 327680 22118 1000)) ≡ true
-  pub end-246756 : andRemove 246756 (begun 1000000 327680 22118 1000) ≡ rm.Violation (Underflow 0 0 0)
-  pub delay-at-100032 : andDelay 100032 (andRemove 100000 (begun 1000000 327680 22118 1000)) ≡ dl.Delay 16805
-  pub delay-29491 : removed (andRemove 0 (begun 1000000 327680 29491 0)) ≡ true
-  pub delay-29492 : andRemove 0 (begun 1000000 327680 29492 0) ≡ rm.Violation (Overflow 0 0 0)
-  pub rate-22400 : newModel (at25 22400 16384) ≡ Refused Params
-  pub rate-22800 : made (newModel (at25 22800 16384)) ≡ true
-  pub half-up : delayAt 7 (begun 180000 16384 0 8) ≡ dl.Delay 1
+  pub end-246755 : removalNumber (andRemove 246755 (begun 1000000 327680 22118 1000)) ≡ 0
+  pub end-246756 : removalNumber (andRemove 246756 (begun 1000000 327680 22118 1000)) ≡ 10
+  pub delay-at-100032 : delayAfter 100032 (andRemove 100000 (begun 1000000 327680 22118 1000)) ≡ delay 16805
+  pub delay-29491 : removalNumber (andRemove 0 (begun 1000000 327680 29491 0)) ≡ 0
+  pub delay-29492 : removalNumber (andRemove 0 (begun 1000000 327680 29492 0)) ≡ 9
+  pub rate-22400 : startNumber (newModel (at25 22400 16384)) ≡ 12
+  pub rate-22800 : startNumber (newModel (at25 22800 16384)) ≡ 0
+  pub half-up : delayBegun 7 (begun 180000 16384 0 8) ≡ delay 1
   pub three-frames : deliveredAfter (again (again (andRemove 0 (andStart 0 0 (newModel ntsc))))) ≡ 100100 * unit ntsc
   pub delay-patched : patched (0x00 ∷ 0x00 ∷ 0x01 ∷ 0x00 ∷ 0x00 ∷ 0x0F ∷ 0xFF ∷ 0xF8 ∷ []) 22118 ≡ 0x00 ∷ 0x00 ∷ 0x01 ∷ 0x00 ∷ 0x00 ∷ 0x0A ∷ 0xB3 ∷ 0x30 ∷ []

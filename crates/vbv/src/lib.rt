@@ -28,7 +28,8 @@ pub enum VbvError {
     NoPicture,
 }
 
-// A removal that Annex C forbids, or a coded delay unlike the expected one: the picture, counted from 0, and the delays.
+// A removal that Annex C forbids, or a coded delay unlike the expected one: the picture, counted from 0, and the delays,
+// 0 where they are not known.
 pub enum VbvViolation {
     Overflow {
         picture: u64,
@@ -426,6 +427,9 @@ fn less(a: u64, b: u64) -> u64
     if b < a { a - b } else { 0 }
 }
 
+// picture_start_code (ISO/IEC 13818-2 6.2.3).
+const PICTURE_START_CODE: [u8; 4] = *b"\x00\x00\x01\x00";
+
 // Eight bytes at least, from 00 00 01 00 on.
 fn starts_picture(s: &[u8]) -> bool
     ensures { λ r. ⌜ r ≡ startsPicture (now (s .entry)) ⌝ }
@@ -433,7 +437,7 @@ fn starts_picture(s: &[u8]) -> bool
     if s.len() < 8 {
         return false;
     }
-    (s[0] == 0) & (s[1] == 0) & (s[2] == 1) & (s[3] == 0)
+    bits::starts_with(s, &PICTURE_START_CODE)
 }
 
 // Bits 45 to 60 become the delay: the low 3 bits of byte 5, byte 6 and the high 5 bits of byte 7.

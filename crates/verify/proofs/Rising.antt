@@ -5,14 +5,14 @@ use Prim.Native.Nat.{ℕ, _+_, _*_, _^_, _≤_, _<_}
 use mathlib.Core.List.{List, [], _∷_}
 use native.Mathlib.Omega.{arith}
 use lib.ListN.{length, drop}
-use Rattle.headers.specs.PictureHeader.{pictureHeader}
-use Rattle.headers.specs.Picture.{picture}
-use Rattle.headers.specs.declared.picture_header.PictureHeaderRead.{PictureHeaderRead}
-use Rattle.headers.specs.declared.picture_header.PictureHeaderRead.the-variants.{Parsed as HeaderParsed, Refused as HeaderRefused}
-use Rattle.headers.specs.declared.picture_header.PictureRead.{PictureRead}
-use Rattle.headers.specs.declared.picture_header.PictureRead.the-variants.{Parsed as PictureParsed, Refused as PictureRefused}
-use Rattle.headers.proofs.PictureHeader.{picture-header-parsed, delay-high}
-use Rattle.headers.proofs.Picture.{picture-parsed}
+use Rattle.picture_header.specs.PictureHeader.{pictureHeader}
+use Rattle.picture_header.specs.Picture.{picture}
+use Rattle.picture_header.specs.declared.PictureHeaderRead.{PictureHeaderRead}
+use Rattle.picture_header.specs.declared.PictureHeaderRead.the-variants.{Parsed as HeaderParsed, Refused as HeaderRefused}
+use Rattle.picture_header.specs.declared.PictureRead.{PictureRead}
+use Rattle.picture_header.specs.declared.PictureRead.the-variants.{Parsed as PictureParsed, Refused as PictureRefused}
+use Rattle.picture_header.proofs.PictureHeader.{picture-header-parsed, delay-high}
+use Rattle.picture_header.proofs.Picture.{picture-parsed}
 use Rattle.vbv.specs.declared.RemovalInterval.{RemovalInterval}
 use Rattle.scan.specs.declared.Next.{Next}
 use Rattle.scan.specs.declared.Next.the-variants.{Picture, Done}

@@ -3,11 +3,11 @@
 use mathlib.Core.Path.{_≡_}
 use Prim.Native.Nat.{ℕ, _*_}
 use mathlib.Core.List.{List, _∷_}
-use Rattle.headers.specs.Picture.{picture}
+use Rattle.picture_header.specs.Picture.{picture}
 use Rattle.headers.specs.Sequence.{sequence}
-use Rattle.headers.specs.declared.picture_header.Mpeg2PictureHeader.{Mpeg2PictureHeader}
-use Rattle.headers.specs.declared.picture_header.PictureCodingExtension.{PictureCodingExtension}
-use Rattle.headers.specs.declared.picture_header.PictureRead.the-variants.{Parsed as PictureParsed}
+use Rattle.picture_header.specs.declared.Mpeg2PictureHeader.{Mpeg2PictureHeader}
+use Rattle.picture_header.specs.declared.PictureCodingExtension.{PictureCodingExtension}
+use Rattle.picture_header.specs.declared.PictureRead.the-variants.{Parsed as PictureParsed}
 use Rattle.headers.specs.declared.sequence_header.Answer.the-variants.{Parsed}
 use Rattle.vbv.specs.Answers.{frameRate}
 use Rattle.vbv.specs.declared.FrameRate.the-variants.{Rate}

@@ -3,15 +3,15 @@
 use Prim.Native.Nat.{ℕ, _+_, _*_}
 use mathlib.Core.List.{List, [], _∷_}
 use lib.ListN.{drop}
-use Rattle.headers.specs.PictureHeader.{pictureHeader}
-use Rattle.headers.specs.Picture.{picture}
+use Rattle.picture_header.specs.PictureHeader.{pictureHeader}
+use Rattle.picture_header.specs.Picture.{picture}
 use Rattle.headers.specs.declared.Error.{Error}
-use Rattle.headers.specs.declared.picture_header.PictureStructure.{PictureStructure}
-use Rattle.headers.specs.declared.picture_header.PictureStructure.the-variants.{TopField, BottomField, Frame as FramePicture}
-use Rattle.headers.specs.declared.picture_header.PictureHeaderRead.{PictureHeaderRead}
-use Rattle.headers.specs.declared.picture_header.PictureHeaderRead.the-variants.{Parsed as HeaderParsed, Refused as HeaderRefused}
-use Rattle.headers.specs.declared.picture_header.PictureRead.{PictureRead}
-use Rattle.headers.specs.declared.picture_header.PictureRead.the-variants.{Parsed as PictureParsed, Refused as PictureRefused}
+use Rattle.picture_header.specs.declared.PictureStructure.{PictureStructure}
+use Rattle.picture_header.specs.declared.PictureStructure.the-variants.{TopField, BottomField, Frame as FramePicture}
+use Rattle.picture_header.specs.declared.PictureHeaderRead.{PictureHeaderRead}
+use Rattle.picture_header.specs.declared.PictureHeaderRead.the-variants.{Parsed as HeaderParsed, Refused as HeaderRefused}
+use Rattle.picture_header.specs.declared.PictureRead.{PictureRead}
+use Rattle.picture_header.specs.declared.PictureRead.the-variants.{Parsed as PictureParsed, Refused as PictureRefused}
 use Rattle.vbv.specs.declared.RemovalInterval.{RemovalInterval}
 use Rattle.vbv.specs.declared.RemovalInterval.the-variants.{Frame, Field}
 use Rattle.scan.specs.Pictures.{Pic, pictures}

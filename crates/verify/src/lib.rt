@@ -145,7 +145,8 @@ impl VbvVerifyError {
     }
 }
 
-fn plain(number: u8) -> VbvRefusal
+// A refusal that carries its number alone.
+pub fn plain(number: u8) -> VbvRefusal
     ensures { λ r. ⌜ r ≡ plainOf number ⌝ }
 {
     VbvRefusal {

@@ -3,6 +3,7 @@ use mathlib.Core.Path.{sym, ap, _∙_}
 use native.Mathlib.Omega.{arith}
 use Rattle.bits.specs.Answers.{fieldsAnswer}
 use Rattle.bits.proofs.Reading.{header-short, header-more, header-bad}
+use Rattle.bits.proofs.Starting.{code-told}
 use Rattle.bits.proofs.read_header.Statement.{statement}
 use Rattle.bits.proofs.read_header.Tie as tie
 
@@ -13,6 +14,9 @@ returns : tie.Need-returns
 unfolding fieldsAnswer
 returns c = c .refused .ensures ∙ ap fieldsAnswer (sym (header-short _ _ _ (omega arith)))
 
+slice-aggregate-starts-with : tie.Need-slice-aggregate-starts-with
+slice-aggregate-starts-with c = search needs
+
 starts-with-requires : tie.Need-starts-with-requires
 starts-with-requires c κs = search needs
 
@@ -20,14 +24,20 @@ read-fields-requires : tie.Need-read-fields-requires
 read-fields-requires c κs = search needs
 
 returns-2 : tie.Need-returns-2
-returns-2 c = c .read-fields .ensures ∙ ap fieldsAnswer (sym (header-more _ _ _ (omega arith) (sym (c .before .before .starts-with .ensures) ∙ c .before .if2 .taken)))
+returns-2 c =
+    let code = c .before .before .before .before .before .before .before .args .t2 in
+    let told = code-told _ code (search needs) (c .before .before .starts-with .ensures) (c .before .if2 .taken) in
+    c .read-fields .ensures ∙ ap fieldsAnswer (sym (header-more _ _ _ (omega arith) told))
 
 refused-requires-2 : tie.Need-refused-requires-2
 refused-requires-2 c κs = search needs
 
 returns-3 : tie.Need-returns-3
 unfolding fieldsAnswer
-returns-3 c = c .refused2 .ensures ∙ ap fieldsAnswer (sym (header-bad _ _ _ (omega arith) (sym (c .before .before .starts-with .ensures) ∙ c .before .if2 .left)))
+returns-3 c =
+    let code = c .before .before .before .before .before .before .before .args .t2 in
+    let told = code-told _ code (search needs) (c .before .before .starts-with .ensures) (c .before .if2 .left) in
+    c .refused2 .ensures ∙ ap fieldsAnswer (sym (header-bad _ _ _ (omega arith) told))
 
 pub read-header-spec : {M : Type 1} → statement M
 read-header-spec =
@@ -35,6 +45,7 @@ read-header-spec =
     (tie.spec
     refused-requires
     returns
+    slice-aggregate-starts-with
     starts-with-requires
     read-fields-requires
     returns-2

@@ -1,4 +1,5 @@
-use Rattle.scan.proofs.Search.{ends-few, ends-last-three}
+use Rattle.scan.proofs.Search.{ends-few}
+use Rattle.layers.proofs.Ways.{ends-by}
 use mathlib.Core.Path.{_∙_}
 use native.Mathlib.Omega.{arith}
 use borrow.Author.Needs.{needs}
@@ -15,7 +16,7 @@ prefix-at-requires : tie.Need-prefix-at-requires
 prefix-at-requires c κs = search needs
 
 returns-2 : tie.Need-returns-2
-returns-2 c = c .prefix-at .ensures ∙ ends-last-three _ (omega arith)
+returns-2 c = c .prefix-at .ensures ∙ ends-by _ (omega arith)
 
 pub ends-prefix-spec : {M : Type 1} → statement M
 ends-prefix-spec = tie.close (tie.spec returns sub-prefix-at prefix-at-requires returns-2)

@@ -1,5 +1,5 @@
 use Rattle.layers.proofs.Ways.{tests-are}
-use Rattle.headers.proofs.Picture.{picture-parsed}
+use Rattle.picture_header.proofs.Picture.{picture-parsed}
 use Rattle.layers.specs.Layer.{headerFits}
 use mathlib.Core.Path.{sym, _∙_}
 use borrow.Author.Needs.{needs}

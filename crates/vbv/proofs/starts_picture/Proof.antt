@@ -1,34 +1,22 @@
-use Rattle.vbv.proofs.Patching.{starts-short, starts-is}
-use borrow.Author.Needs.{needs}
+use mathlib.Core.Path.{_∙_}
 use native.Mathlib.Omega.{arith}
+use borrow.Author.Needs.{needs}
+use Rattle.vbv.proofs.Patching.{starts-short, starts-is}
 use Rattle.vbv.proofs.starts_picture.Statement.{statement}
 use Rattle.vbv.proofs.starts_picture.Tie as tie
 
 returns : tie.Need-returns
 returns c = starts-short _ (omega arith)
 
-shared-slice-read-result : tie.Need-shared-slice-read-result
-shared-slice-read-result c = search needs
+slice-aggregate-starts-with : tie.Need-slice-aggregate-starts-with
+slice-aggregate-starts-with c = search needs
 
-shared-slice-read-result-2 : tie.Need-shared-slice-read-result-2
-shared-slice-read-result-2 c = search needs
-
-shared-slice-read-result-3 : tie.Need-shared-slice-read-result-3
-shared-slice-read-result-3 c = search needs
-
-shared-slice-read-result-4 : tie.Need-shared-slice-read-result-4
-shared-slice-read-result-4 c = search needs
+starts-with-requires : tie.Need-starts-with-requires
+starts-with-requires c κs = search needs
 
 returns-2 : tie.Need-returns-2
-returns-2 c = starts-is _ (omega arith)
+returns-2 c = c .starts-with .ensures ∙ starts-is _ (omega arith)
 
 pub starts-picture-spec : {M : Type 1} → statement M
 starts-picture-spec =
-    tie.close
-    (tie.spec
-    returns
-    shared-slice-read-result
-    shared-slice-read-result-2
-    shared-slice-read-result-3
-    shared-slice-read-result-4
-    returns-2)
+    tie.close (tie.spec returns slice-aggregate-starts-with starts-with-requires returns-2)

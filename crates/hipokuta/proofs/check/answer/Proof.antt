@@ -1,6 +1,5 @@
-use native.Mathlib.Omega.{arith}
 use borrow.Author.Needs.{needs}
-use Rattle.hipokuta.proofs.Places.{refuses, reports}
+use Rattle.hipokuta.proofs.Checking.{refuses, reports}
 use Rattle.hipokuta.proofs.check.answer.Statement.{statement}
 use Rattle.hipokuta.proofs.check.answer.Tie as tie
 
@@ -25,7 +24,7 @@ same-length c = search needs
 returns : tie.Need-returns
 returns c =
     let k = c .before .before in
-    refuses _ _ (k .before .before .before .before .verified .given .1) (k .before .refusal .ensures) (k .refuse .ensures .0) (k .refuse .ensures .1) (omega arith)
+    refuses _ _ (k .before .before .before .before .verified .given .1) (k .before .refusal .ensures) (k .refuse .ensures .0) (k .refuse .ensures .1)
 
 same-length-2 : tie.Need-same-length-2
 same-length-2 c = search needs

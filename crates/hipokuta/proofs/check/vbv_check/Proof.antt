@@ -1,22 +1,22 @@
 use native.Mathlib.Omega.{arith}
 use borrow.Author.Needs.{needs}
-use Rattle.hipokuta.proofs.Places.{no-refusal-place, no-report-place, no-standard, mpeg1, mpeg2}
+use Rattle.hipokuta.proofs.Checking.{no-place, no-standard, mpeg1, mpeg2}
 use Rattle.hipokuta.proofs.check.vbv_check.Statement.{statement}
 use Rattle.hipokuta.proofs.check.vbv_check.Tie as tie
 
-returns : tie.Need-returns
-returns c = no-refusal-place _ _ _ _ _ (omega arith)
+plain-requires : tie.Need-plain-requires
+plain-requires c κs = search needs
 
-refuse-plain-requires : tie.Need-refuse-plain-requires
-refuse-plain-requires c κs = search needs
+refuse-requires : tie.Need-refuse-requires
+refuse-requires c κs = search needs
 
 same-length : tie.Need-same-length
 same-length c = search needs
 
-returns-2 : tie.Need-returns-2
-returns-2 c =
+returns : tie.Need-returns
+returns c =
     let k = c .before .before in
-    no-report-place _ _ _ _ _ (omega arith) (omega arith) (k .refuse-plain .ensures .0) (k .refuse-plain .ensures .1)
+    no-place _ _ _ _ _ (search) (k .before .plain .ensures) (k .refuse .ensures .0) (k .refuse .ensures .1)
 
 verify-cbr-stream-requires : tie.Need-verify-cbr-stream-requires
 verify-cbr-stream-requires c κs = search needs
@@ -30,8 +30,11 @@ verify-cbr-stream-requires-2 c κs = search needs
 answer-requires-2 : tie.Need-answer-requires-2
 answer-requires-2 c κs = search needs
 
-refuse-plain-requires-2 : tie.Need-refuse-plain-requires-2
-refuse-plain-requires-2 c κs = search needs
+plain-requires-2 : tie.Need-plain-requires-2
+plain-requires-2 c κs = search needs
+
+refuse-requires-2 : tie.Need-refuse-requires-2
+refuse-requires-2 c κs = search needs
 
 same-length-2 : tie.Need-same-length-2
 same-length-2 c = search needs
@@ -42,8 +45,8 @@ same-length-3 c = search needs
 same-length-4 : tie.Need-same-length-4
 same-length-4 c = search needs
 
-returns-3 : tie.Need-returns-3
-returns-3 c = mpeg1 _ _ _ _ _ (omega arith) (omega arith) (c .before .before .before .before .answer .ensures) (omega arith) (search) (search)
+returns-2 : tie.Need-returns-2
+returns-2 c = mpeg1 _ _ _ _ _ (search) (c .before .before .before .before .answer .ensures) (omega arith) (search) (search)
 
 same-length-5 : tie.Need-same-length-5
 same-length-5 c = search needs
@@ -54,37 +57,38 @@ same-length-6 c = search needs
 same-length-7 : tie.Need-same-length-7
 same-length-7 c = search needs
 
-returns-4 : tie.Need-returns-4
-returns-4 c = mpeg2 _ _ _ _ _ (omega arith) (omega arith) (c .before .before .before .before .answer2 .ensures) (omega arith) (search) (search)
+returns-3 : tie.Need-returns-3
+returns-3 c = mpeg2 _ _ _ _ _ (search) (c .before .before .before .before .answer2 .ensures) (omega arith) (search) (search)
 
 same-length-8 : tie.Need-same-length-8
 same-length-8 c = search needs
 
-returns-5 : tie.Need-returns-5
-returns-5 c =
+returns-4 : tie.Need-returns-4
+returns-4 c =
     let k = c .before .before in
-    no-standard _ _ _ _ _ (omega arith) (omega arith) (λ e. omega arith) (λ e. omega arith) (k .refuse-plain2 .ensures .0) (k .refuse-plain2 .ensures .1)
+    no-standard _ _ _ _ _ (search) (λ e. omega arith) (λ e. omega arith) (k .before .plain2 .ensures) (k .refuse2 .ensures .0) (k .refuse2 .ensures .1)
 
 pub vbv-check-spec : {M : Type 1} → statement M
 vbv-check-spec =
     tie.close
     (tie.spec
-    returns
-    refuse-plain-requires
+    plain-requires
+    refuse-requires
     same-length
-    returns-2
+    returns
     verify-cbr-stream-requires
     answer-requires
     verify-cbr-stream-requires-2
     answer-requires-2
-    refuse-plain-requires-2
+    plain-requires-2
+    refuse-requires-2
     same-length-2
     same-length-3
     same-length-4
-    returns-3
+    returns-2
     same-length-5
     same-length-6
     same-length-7
-    returns-4
+    returns-3
     same-length-8
-    returns-5)
+    returns-4)

@@ -1,8 +1,8 @@
 use borrow.Author.Needs.{needs}
-use mathlib.Core.Path.{_≡_, refl, _∙_}
+use mathlib.Core.Path.{_≡_, _∙_}
 use native.Mathlib.Omega.{arith}
 use Prim.Native.Nat.{_-_, _≤_}
-use Rattle.bits.proofs.Laying.{laid, laid-length, laid-more, laid-all}
+use Rattle.bits.proofs.Laying.{laid, laid-none, laid-length, laid-more, laid-all}
 use Rattle.writers.proofs.stream_writer.append_bytes.Statement.{statement}
 use Rattle.writers.proofs.stream_writer.append_bytes.Tie as tie
 
@@ -13,8 +13,7 @@ abbrev μ-loop : tie.MeasureT-loop
 μ-loop out₀ at bytes k₀ out k = 64 - k
 
 loop-holds : tie.Need-loop-holds Inv-loop μ-loop
-unfolding laid
-loop-holds c = (omega arith, refl)
+loop-holds c = (omega arith, laid-none _ _ _)
 
 array-read-b : tie.Need-array-read-b Inv-loop μ-loop
 array-read-b c = omega arith

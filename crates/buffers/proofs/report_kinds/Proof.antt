@@ -1,0 +1,43 @@
+-- `report_kinds` is safe and ends: the measure is the kinds that are left, and nothing has to hold from turn to turn.
+-- Assumes nothing.
+use borrow.Author.Needs.{needs}
+use Prim.Native.Nat.{_-_}
+use Rattle.buffers.proofs.report_kinds.Statement.{statement}
+use Rattle.buffers.proofs.report_kinds.Tie as tie
+
+abbrev Inv-loop : tie.InvT-loop
+Inv-loop cases differ kind₀ kind = Unit {0}
+
+abbrev μ-loop : tie.MeasureT-loop
+μ-loop cases differ kind₀ kind = 19 - kind
+
+loop-holds : tie.Need-loop-holds Inv-loop μ-loop
+loop-holds c = tt
+
+report-kind-requires : tie.Need-report-kind-requires Inv-loop μ-loop
+report-kind-requires c κs = search needs
+
+add-kind : tie.Need-add-kind Inv-loop μ-loop
+add-kind c = search needs
+
+loop-less : tie.Need-loop-less Inv-loop μ-loop
+loop-less c = search needs
+
+loop-again : tie.Need-loop-again Inv-loop μ-loop
+loop-again c = tt
+
+returns : tie.Need-returns Inv-loop μ-loop
+returns c = tt
+
+pub report-kinds-spec : {M : Type 1} → statement M
+report-kinds-spec =
+    tie.close
+    (tie.spec
+    Inv-loop
+    μ-loop
+    loop-holds
+    report-kind-requires
+    add-kind
+    loop-less
+    loop-again
+    returns)

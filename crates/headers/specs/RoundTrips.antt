@@ -1,0 +1,52 @@
+-- The round trips of paper 01 ('Headers read and written'), as statements: what is owed of the sequence header and of its extension.
+-- Assumes nothing.
+use Prim.Native.Nat.{ℕ, _<_}
+use mathlib.Core.Path.{_≡_}
+use mathlib.Core.List.{List, _++_}
+use mathlib.Core.Bool.{true, false}
+use lib.ListN.{length, getD, take}
+use Rattle.bits.specs.Fields.{fitsAll, writeHeader}
+use Rattle.headers.specs.SequenceHeader.{sequenceHeaderCode, sequenceHeader, sequenceHeaderBytes}
+use Rattle.headers.specs.SequenceExtension.{extensionStartCode, sequenceExtensionFields, extensionValues, sequenceExtension}
+use Rattle.headers.specs.StreamWriter.{paramsFields, paramsValues, headerOfParams, paramsOf}
+use Rattle.headers.specs.declared.sequence_header.Mpeg2SequenceHeader.{Mpeg2SequenceHeader}
+use Rattle.headers.specs.declared.sequence_header.Answer.the-variants.{Parsed}
+use Rattle.headers.specs.declared.sequence_extension.Mpeg2SequenceExtension.{Mpeg2SequenceExtension}
+use Rattle.headers.specs.declared.sequence_extension.SequenceExtensionRead.the-variants.{Parsed as ExtensionParsed}
+use Rattle.headers.specs.declared.stream_writer.SequenceHeaderParams.{SequenceHeaderParams}
+
+-- a list of bytes
+abbrev pub Bytes : List ℕ → Type 0
+Bytes s = (k : ℕ) → getD s k 0 < 256
+
+-- the bytes that `write_sequence_header` writes, and those of any extension; `write_sequence_extension` writes those of `plainExtension`
+abbrev pub sequenceWritten : SequenceHeaderParams → List ℕ
+sequenceWritten p = writeHeader sequenceHeaderCode (paramsFields p) (paramsValues p)
+
+abbrev pub extensionWritten : Mpeg2SequenceExtension → List ℕ
+extensionWritten e = writeHeader extensionStartCode sequenceExtensionFields (extensionValues e)
+
+-- what is not refused with 16: every field fits; a matrix always has its 64 places
+pub record Writable (p : SequenceHeaderParams) : Type 0 where
+  pub fields-fit : fitsAll (paramsFields p) (paramsValues p) ≡ true
+  pub intra-places : length (p .«intra_quantiser_matrix» .bytes) ≡ 64
+  pub non-intra-places : length (p .«non_intra_quantiser_matrix» .bytes) ≡ 64
+
+-- a written sequence header parses to the fields given, whatever stands behind it
+abbrev pub WrittenReads : Type 0
+WrittenReads = (p : SequenceHeaderParams) (behind : List ℕ) → Writable p
+    → sequenceHeader (sequenceWritten p ++ behind) ≡ record { answer = Parsed; header = headerOfParams p }
+
+-- a parsed one with constrained_parameters_flag 0 writes back to its own bytes
+abbrev pub ReadWrites : Type 0
+ReadWrites = (s : List ℕ) (h : Mpeg2SequenceHeader) → Bytes s → sequenceHeader s ≡ record { answer = Parsed; header = h }
+    → h .«constrained_parameters» ≡ false → sequenceWritten (paramsOf h) ≡ take (sequenceHeaderBytes h) s
+
+-- both of the extension, which has 10 bytes
+abbrev pub ExtensionWrittenReads : Type 0
+ExtensionWrittenReads = (e : Mpeg2SequenceExtension) (behind : List ℕ) → fitsAll sequenceExtensionFields (extensionValues e) ≡ true
+    → sequenceExtension (extensionWritten e ++ behind) ≡ ExtensionParsed e
+
+abbrev pub ExtensionReadWrites : Type 0
+ExtensionReadWrites = (s : List ℕ) (e : Mpeg2SequenceExtension) → Bytes s → sequenceExtension s ≡ ExtensionParsed e
+    → extensionWritten e ≡ take 10 s

@@ -1,0 +1,44 @@
+use Rattle.hipokuta.specs.Send.{answerNumber}
+use borrow.Author.Needs.{needs}
+use Rattle.hipokuta.proofs.send.answer_number.Statement.{statement}
+use Rattle.hipokuta.proofs.send.answer_number.Tie as tie
+
+enum-told : tie.Need-enum-told
+enum-told c = search needs
+
+enum-told-2 : tie.Need-enum-told-2
+enum-told-2 c = search needs
+
+enum-known-answer : tie.Need-enum-known-answer
+enum-known-answer c = search needs
+
+refusal-requires : tie.Need-refusal-requires
+refusal-requires c κs = search needs
+
+cast-result : tie.Need-cast-result
+cast-result c = search needs
+
+returns : tie.Need-returns
+unfolding answerNumber
+returns c = search needs
+
+returns-2 : tie.Need-returns-2
+unfolding answerNumber
+returns-2 c = search needs
+
+returns-3 : tie.Need-returns-3
+unfolding answerNumber
+returns-3 c = search needs
+
+pub answer-number-spec : {M : Type 1} → statement M
+answer-number-spec =
+    tie.close
+    (tie.spec
+    enum-told
+    enum-told-2
+    enum-known-answer
+    refusal-requires
+    cast-result
+    returns
+    returns-2
+    returns-3)

@@ -1,0 +1,129 @@
+-- Lists of calls from C on the state that `cbr_create` left (paper 01, 'Rust forms to replace'): demand 3 covers them, since those that reach the writer are answered as the same
+-- calls on the writer itself; a refusal leaves the state's bytes alone, but for 21; and what output part is large enough.
+-- Assumes nothing.
+use Prim.Native.Nat.{ℕ, _*_, _≤_, _<_}
+use mathlib.Core.Path.{_≡_}
+use mathlib.Core.List.{List, [], _∷_, _++_}
+use mathlib.Core.Bool.{true, _&&_}
+use lib.Dec.{leb}
+use lib.ListN.{length, getD}
+use Rattle.bits.specs.Bits.{pick}
+use Rattle.rate_control.specs.Create.{create}
+use Rattle.rate_control.specs.Offer.{Offer, offer, withdraw}
+use Rattle.rate_control.specs.Calls.{Call, offering, withdrawing, Step, stepOf, run, final}
+use Rattle.rate_control.specs.Sent.{AllBytes}
+use Rattle.rate_control.specs.Demand.{Demand}
+use Rattle.rate_control.specs.declared.CbrConfig.{CbrConfig}
+use Rattle.rate_control.specs.declared.CbrWriter.{CbrWriter}
+use Rattle.rate_control.specs.declared.CbrAnswer.{CbrAnswer}
+use Rattle.rate_control.specs.declared.CbrAnswer.the-variants.{Placed, Again, Refused}
+use Rattle.rate_control.specs.declared.Pending.the-variants.{Nothing}
+use Rattle.layout.specs.State.{stateBytes, stateFits, writerAt}
+use Rattle.layout.specs.Words.{laid}
+use Rattle.hipokuta.specs.Send.{createNumber, createState, COffer, codesFit, offerOf, Reached, stopped, reached, asking, reach, offerNumber, offerState, offerOut, offerAnswer, withdrawalNumber, withdrawNumber, withdrawState}
+
+pub data CCall : Type 0 where
+  offers : COffer → CCall
+  withdraws : CCall
+
+-- the state's bytes after a call
+unfoldable pub after : List ℕ → CCall → List ℕ
+after s (offers o) = offerState (reach s o) s
+after s withdraws = withdrawState s
+
+-- what the writer was asked and answered in a call; nothing, where the call stopped ahead of it
+unfoldable pub offerSteps : Reached → List Step
+offerSteps (stopped n) = []
+offerSteps (reached w o) = stepOf w (offering o) ∷ []
+
+unfoldable pub steps : List ℕ → CCall → List Step
+steps s (offers o) = offerSteps (reach s o)
+steps s withdraws = pick (stateFits s) (stepOf (writerAt s) withdrawing ∷ []) []
+
+unfoldable pub runC : List ℕ → List CCall → List Step
+runC s [] = []
+runC s (c ∷ cs) = steps s c ++ runC (after s c) cs
+
+unfoldable pub finalC : List ℕ → List CCall → List ℕ
+finalC s [] = s
+finalC s (c ∷ cs) = finalC (after s c) cs
+
+-- the calls of the list that are for the writer: an offer with an answer place, and with a kind, interval and flag
+unfoldable pub callsOf : CCall → List Call
+callsOf (offers o) = pick (leb 72 (length (o .answer)) && codesFit o) (offering (offerOf o) ∷ []) []
+callsOf withdraws = withdrawing ∷ []
+
+unfoldable pub calls : List CCall → List Call
+calls [] = []
+calls (c ∷ cs) = callsOf c ++ calls cs
+
+-- what C sees of a call: the value returned, and its output part and answer place afterwards
+pub record Seen : Type 0 where
+  pub number : ℕ
+  pub out : List ℕ
+  pub answer : List ℕ
+
+unfoldable pub seenOffer : Reached → COffer → Seen
+seenOffer r o = record { number = offerNumber r; out = offerOut r (o .out); answer = offerAnswer r (o .answer) }
+
+unfoldable pub seenWithdrawal : ℕ → Seen
+seenWithdrawal n = record { number = n; out = []; answer = [] }
+
+-- of calls on a state's bytes
+unfoldable pub seen : List ℕ → CCall → Seen
+seen s (offers o) = seenOffer (reach s o) o
+seen s withdraws = seenWithdrawal (withdrawNumber s)
+
+unfoldable pub seenC : List ℕ → List CCall → List Seen
+seenC s [] = []
+seenC s (c ∷ cs) = seen s c ∷ seenC (after s c) cs
+
+-- of the same calls on a writer
+unfoldable pub shown : CbrWriter → CCall → Seen
+shown w (offers o) = seenOffer (asking true w o) o
+shown w withdraws = seenWithdrawal (withdrawalNumber (withdraw w .answer))
+
+unfoldable pub shownAll : CbrWriter → List CCall → List Seen
+shownAll w [] = []
+shownAll w (c ∷ cs) = shown w c ∷ shownAll (final w (callsOf c)) cs
+
+pub record FromC (c : CbrConfig) (place : List ℕ) (cs : List CCall) : Type 0 where
+  -- the writer is asked these calls, in order, each on what the one before left, and these are its answers
+  pub same : runC (createState c place) cs ≡ run (create c .writer) (calls cs)
+  -- C sees of every call what the writer shows of it; no call finds the state unfit
+  pub sees : seenC (createState c place) cs ≡ shownAll (create c .writer) cs
+  -- the bytes that are left are those of the writer that is left
+  pub left : finalC (createState c place) cs ≡ laid (stateBytes (final (create c .writer) (calls cs))) place
+  pub demand : Demand c (calls cs)
+
+-- of every creation that is accepted, and every list of calls
+abbrev pub OwedFromC : Type 0
+OwedFromC = (c : CbrConfig) (place : List ℕ) (cs : List CCall) → createNumber c place ≡ 0 → AllBytes (calls cs) → FromC c place cs
+
+-- ---- one call
+
+-- neither placed nor wanted again
+abbrev pub IsRefused : CbrAnswer → Type 0
+IsRefused (Placed q d n z) = ⊥
+IsRefused (Again q) = ⊥
+IsRefused (Refused e) = Unit {0}
+
+-- of the state's bytes and an offer
+pub record Keeps (s : List ℕ) (o : COffer) : Type 0 where
+  -- a refusal is numbered
+  pub numbered : (w : CbrWriter) (p : Offer) → reach s o ≡ reached w p → IsRefused (offer w p .answer) → 1 ≤ offerNumber (reach s o)
+  -- it changes neither state nor output part, but that 21 does what a withdrawal does
+  pub state : 1 ≤ offerNumber (reach s o) → (offerNumber (reach s o) ≡ 21 → ⊥) → offerState (reach s o) s ≡ s
+  pub closes : offerNumber (reach s o) ≡ 21 → offerState (reach s o) s ≡ withdrawState s
+  pub out : 1 ≤ offerNumber (reach s o) → offerOut (reach s o) (o .out) ≡ o .out
+  -- with nothing pending, a 21 has nothing to close, nor has a withdrawal
+  pub not-pending : writerAt s .pending ≡ Nothing
+      → (offerNumber (reach s o) ≡ 21 → offerState (reach s o) s ≡ s) × (withdrawState s ≡ s)
+  -- an output part as large as the buffer always has room
+  pub room : 72 ≤ length (o .answer) → writerAt s .model .params .«buffer_size_bits» ≤ 8 * length (o .out) → offerNumber (reach s o) ≡ 19 → ⊥
+  -- a refused withdrawal, and a refused creation in the same place
+  pub withdrawal : 1 ≤ withdrawNumber s → withdrawState s ≡ s
+  pub creation : (c : CbrConfig) → 1 ≤ createNumber c s → createState c s ≡ s
+
+abbrev pub OwedOfRefusals : Type 0
+OwedOfRefusals = (s : List ℕ) (o : COffer) → ((k : ℕ) → getD s k 0 < 256) → Keeps s o

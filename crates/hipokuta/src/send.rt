@@ -1,0 +1,152 @@
+// The constant-rate writer, its state as bytes.
+ghost use mathlib.Core.Path.{_≡_};
+ghost use Rattle.hipokuta.specs.Send.{createNumber, createState, kindOf, intervalOf, reach, answerNumber, offerNumber, offerState, offerOut, offerAnswer, withdrawNumber, withdrawState};
+use layers::PictureKind;
+use layout::put_answer;
+use layout::put_refused;
+use layout::put_state;
+use layout::read_state;
+use rate_control::CbrAnswer;
+use rate_control::CbrConfig;
+use rate_control::CbrCreation;
+use rate_control::CbrWithdrawal;
+use rate_control::CbrWriter;
+use vbv::RemovalInterval;
+use verify::plain;
+
+const STATE_BYTES: usize = 152;
+
+const ANSWER_BYTES: usize = 72;
+
+// A new writer in the place for its state: 0, or the refusal's number.
+#[no_mangle]
+pub extern "C" fn cbr_create(
+    bit_rate_value: u32,
+    vbv_buffer_size_value: u16,
+    frame_rate_code: u8,
+    quantiser: u8,
+    b_between: u8,
+    anchors_per_gop: u8,
+    state: &mut [u8],
+) -> u64
+    ensures { λ r. ⌜ r ≡ createNumber (record { «bit_rate_value» = «bit_rate_value»; «vbv_buffer_size_value» = «vbv_buffer_size_value»; «frame_rate_code» = «frame_rate_code»; «initial_quantiser_scale_code» = quantiser; «b_between» = «b_between»; «anchors_per_gop» = «anchors_per_gop» }) (now (state .entry)) ⌝ }
+    ensures { λ r. ⌜ now (state .exit) ≡ createState (record { «bit_rate_value» = «bit_rate_value»; «vbv_buffer_size_value» = «vbv_buffer_size_value»; «frame_rate_code» = «frame_rate_code»; «initial_quantiser_scale_code» = quantiser; «b_between» = «b_between»; «anchors_per_gop» = «anchors_per_gop» }) (now (state .entry)) ⌝ }
+{
+    if state.len() < STATE_BYTES {
+        return 19;
+    }
+    let config = CbrConfig {
+        bit_rate_value,
+        vbv_buffer_size_value,
+        frame_rate_code,
+        initial_quantiser_scale_code: quantiser,
+        b_between,
+        anchors_per_gop,
+    };
+    let made = CbrWriter::create(config);
+    let answer = made.answer;
+    match answer {
+        CbrCreation::Created => {
+            put_state(state, made.writer);
+            0
+        }
+        CbrCreation::Refused(error) => error.number() as u64,
+    }
+}
+
+// Kinds 0 I, 1 P, 2 B.
+fn kind_of(kind: u8) -> PictureKind
+    ensures { λ r. ⌜ r ≡ kindOf kind ⌝ }
+{
+    match kind {
+        0 => PictureKind::I,
+        1 => PictureKind::P,
+        _ => PictureKind::B,
+    }
+}
+
+// Intervals 1 a field, 2 a frame.
+fn interval_of(interval: u8) -> RemovalInterval
+    ensures { λ r. ⌜ r ≡ intervalOf interval ⌝ }
+{
+    if interval == 1 {
+        return RemovalInterval::Field;
+    }
+    RemovalInterval::Frame
+}
+
+fn answer_number(answer: CbrAnswer) -> u64
+    ensures { λ r. ⌜ r ≡ answerNumber answer ⌝ }
+{
+    match answer {
+        CbrAnswer::Placed {
+            q: _,
+            vbv_delay: _,
+            bytes: _,
+            stuffing_bytes: _,
+        } => 0,
+        CbrAnswer::Again(_) => 0,
+        CbrAnswer::Refused(error) => error.refusal().number as u64,
+    }
+}
+
+// Offers a picture: 0 where it is placed or wanted again, as the answer place says, or the refusal's number.
+#[no_mangle]
+pub extern "C" fn cbr_offer(
+    state: &mut [u8],
+    headers: &[u8],
+    kind: u8,
+    interval: u8,
+    last: u8,
+    layer: &[u8],
+    out: &mut [u8],
+    answer: &mut [u8],
+) -> u64
+    ensures { λ r. ⌜ r ≡ offerNumber (reach (now (state .entry)) (record { headers = now (headers .entry); kind = kind; interval = interval; last = last; layer = now (layer .entry); out = now (out .entry); answer = now (answer .entry) })) ⌝ }
+    ensures { λ r. ⌜ now (state .exit) ≡ offerState (reach (now (state .entry)) (record { headers = now (headers .entry); kind = kind; interval = interval; last = last; layer = now (layer .entry); out = now (out .entry); answer = now (answer .entry) })) (now (state .entry)) ⌝ }
+    ensures { λ r. ⌜ now (out .exit) ≡ offerOut (reach (now (state .entry)) (record { headers = now (headers .entry); kind = kind; interval = interval; last = last; layer = now (layer .entry); out = now (out .entry); answer = now (answer .entry) })) (now (out .entry)) ⌝ }
+    ensures { λ r. ⌜ now (answer .exit) ≡ offerAnswer (reach (now (state .entry)) (record { headers = now (headers .entry); kind = kind; interval = interval; last = last; layer = now (layer .entry); out = now (out .entry); answer = now (answer .entry) })) (now (answer .entry)) ⌝ }
+{
+    let held = read_state(state);
+    if held.fits {
+        if answer.len() < ANSWER_BYTES {
+            return 19;
+        }
+        if (kind <= 2) & (((1 <= interval) & (interval <= 2)) & (last <= 1)) {
+            let writer = held.writer;
+            let offered = writer.offer(
+                headers,
+                kind_of(kind),
+                interval_of(interval),
+                last == 1,
+                layer,
+                out,
+            );
+            put_state(state, offered.writer);
+            let said = offered.answer;
+            put_answer(answer, said);
+            return answer_number(said);
+        }
+    }
+    put_refused(answer, plain(12));
+    12
+}
+
+// Closes the pending picture, if there is one: 0, or 12 where the state holds no writer.
+#[no_mangle]
+pub extern "C" fn cbr_withdraw(state: &mut [u8]) -> u64
+    ensures { λ r. ⌜ r ≡ withdrawNumber (now (state .entry)) ⌝ }
+    ensures { λ r. ⌜ now (state .exit) ≡ withdrawState (now (state .entry)) ⌝ }
+{
+    let held = read_state(state);
+    if held.fits {
+        let withdrawn = held.writer.withdraw();
+        put_state(state, withdrawn.writer);
+        let answer = withdrawn.answer;
+        return match answer {
+            CbrWithdrawal::Withdrawn => 0,
+            CbrWithdrawal::Refused(error) => error.number() as u64,
+        };
+    }
+    12
+}

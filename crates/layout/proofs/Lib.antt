@@ -1,0 +1,7 @@
+pub mod Laying
+pub mod Reading
+pub mod Bytes
+pub mod Ranges
+pub mod RoundTrip
+pub mod Held
+pub mod Answering

@@ -1,0 +1,205 @@
+-- A writer's state put over a place and read from it, and the other way; and what laying bytes over a place leaves.
+-- Assumes nothing.
+use mathlib.Core.Path.{_≡_, refl, sym}
+use mathlib.Core.Bool.{Bool, true, false}
+use mathlib.Core.List.{List, [], _∷_, _++_}
+use Prim.Native.Nat.{ℕ, zero, suc, _≤_, _<_}
+use native.Mathlib.Omega.{arith}
+use native.Mathlib.Decide.{decLe}
+use lib.Dec.{T, leb, ltb, eqb, lit<}
+use lib.ListN.{length, getD, take, drop, length-append, take-append-drop}
+use lib.Seq.{length-take-le}
+use borrow.Author.Tests.{leb-true, eqb-true, le-leb, lt-leb}
+use Rattle.bits.specs.Bits.{pick}
+use Rattle.bits.specs.Answers.{over}
+use Rattle.bits.proofs.Over.{over-is, over-drop, over-length}
+use Rattle.bits.proofs.Reading.{both-true}
+use Rattle.headers.specs.Answers.{flagOf}
+use Rattle.headers.proofs.Answers.{flag-same, flag-back, flag-bound}
+use Rattle.layers.specs.declared.PictureKind.the-variants.{I, P, B}
+use Rattle.vbv.specs.declared.VbvCbrModel.{VbvCbrModel}
+use Rattle.rate_control.specs.Writer.{writerFits}
+use Rattle.rate_control.specs.declared.Pending.{Pending}
+use Rattle.rate_control.specs.declared.Pending.the-variants.{Nothing, Waits}
+use Rattle.rate_control.specs.declared.CbrWriter.{CbrWriter}
+use Rattle.layout.specs.Words.{wordsBytes, laid, wordAt}
+use Rattle.layout.specs.State.{pendingCode, pendingQuantiser, stateWords, stateBytes, pendingOf, codesFit, writerAt, stateFits, held}
+use Rattle.layout.proofs.Bytes.{length-words, word-put, wordsFrom, words-back}
+use Rattle.layout.proofs.Ranges.{code-low, state-small}
+
+-- ---- bytes laid over a place
+
+pub laid-over : (bytes place : List ℕ) → length bytes ≤ length place → laid bytes place ≡ over bytes place
+unfolding laid pick
+laid-over bytes place h = rw (le-leb _ _ h)
+
+pub laid-short : (bytes place : List ℕ) → length place < length bytes → laid bytes place ≡ place
+unfolding laid pick
+laid-short bytes place h = rw (lt-leb _ _ h)
+
+pub length-laid : (bytes place : List ℕ) → length (laid bytes place) ≡ length place
+length-laid bytes place = go (decLe (length bytes) (length place))
+  where
+    go : Dec (length bytes ≤ length place) → length (laid bytes place) ≡ length place
+    go (yes h) = rw (laid-over bytes place h) (over-length bytes place h)
+    go (no h) = rw (laid-short bytes place (omega arith))
+
+-- what is laid last stays
+pub laid-laid : (new old place : List ℕ) → length new ≡ length old → laid new (laid old place) ≡ laid new place
+laid-laid new old place e = go (decLe (length old) (length place))
+  where
+    go : Dec (length old ≤ length place) → laid new (laid old place) ≡ laid new place
+    go (yes h) =
+        let l : length new ≤ length (over old place) = omega (arith, over-length old place h) in
+        let d : drop (length new) (over old place) ≡ drop (length new) place = rw e (over-drop old place) in
+        rw (laid-over old place h, laid-over new (over old place) l, laid-over new place (omega arith), over-is new (over old place), over-is new place, d)
+    go (no h) = rw (laid-short old place (omega arith))
+
+-- ---- a writer's lists
+
+-- three numbers
+data Three : List ℕ → Type 0 where
+  three : (a b c : ℕ) → Three (a ∷ b ∷ c ∷ [])
+
+is-three : (vs : List ℕ) → length vs ≡ 3 → Three vs
+is-three [] h = absurd (omega arith)
+is-three (a ∷ []) h = absurd (omega arith)
+is-three (a ∷ b ∷ []) h = absurd (omega arith)
+is-three (a ∷ b ∷ c ∷ []) h = three a b c
+is-three (a ∷ b ∷ c ∷ d ∷ vs) h = absurd (omega arith)
+
+length-state-words : (w : CbrWriter) → length (w .«target_bits») ≡ 3 → length (w .q) ≡ 3 → length (stateWords w) ≡ 19
+unfolding stateWords
+length-state-words w t q =
+    let rest = pendingCode (w .pending) ∷ pendingQuantiser (w .pending) ∷ w .«stuffing_bytes» ∷ flagOf (w .finished) ∷ [] in
+    omega (arith, length-append (w .«target_bits») (w .q ++ rest), length-append (w .q) rest)
+
+pub length-state : (w : CbrWriter) → length (w .«target_bits») ≡ 3 → length (w .q) ≡ 3 → length (stateBytes w) ≡ 152
+unfolding stateBytes
+length-state w t q = omega (arith, length-words (stateWords w), length-state-words w t q)
+
+-- ---- read what was put
+
+pending-read : (p : Pending) → pendingOf (pendingCode p) (pendingQuantiser p) ≡ p
+unfolding pendingOf pendingCode pendingQuantiser pick
+pending-read Nothing = refl
+pending-read (Waits I q) = refl
+pending-read (Waits P q) = refl
+pending-read (Waits B q) = refl
+
+-- no quantiser where none is pending
+pending-told : (p : Pending) → pick (eqb (pendingCode p) 0) (eqb (pendingQuantiser p) 0) true ≡ true
+unfolding pendingCode pendingQuantiser pick
+pending-told Nothing = refl
+pending-told (Waits I q) = refl
+pending-told (Waits P q) = refl
+pending-told (Waits B q) = refl
+
+-- the words of a writer stand in a place
+abbrev Stand : CbrWriter → List ℕ → Type 0
+Stand w s = (k : ℕ) → T (ltb k 19) → wordAt s k ≡ getD (stateWords w) k 0
+
+stand-put : (w : CbrWriter) (place : List ℕ) → writerFits w ≡ true → length (w .«target_bits») ≡ 3 → length (w .q) ≡ 3 → 152 ≤ length place
+    → Stand w (laid (stateBytes w) place)
+unfolding stateBytes
+stand-put w place h t q l k g =
+    let b = wordsBytes (stateWords w) in
+    rw (laid-over b place (omega (arith, length-state w t q)), over-is b place)
+    (word-put (state-small w h) (drop (length b) place) k (omega (arith, lit< {m = k} {n = 19} g, length-state-words w t q)))
+
+-- so they are read: the codes fit, and the writer is that one
+stand-read : (m : VbvCbrModel) {t q : List ℕ} → Three t → Three q → (p : Pending) (n : ℕ) (f : Bool) (s : List ℕ)
+    → Stand (record { model = m; «target_bits» = t; q = q; pending = p; «stuffing_bytes» = n; finished = f }) s
+    → (codesFit s ≡ true)
+    × (writerAt s ≡ record { model = m; «target_bits» = t; q = q; pending = p; «stuffing_bytes» = n; finished = f })
+unfolding stateWords codesFit writerAt
+stand-read m (three a b c) (three d e g) p n f s at = (
+  rw (at 8 tt, at 15 tt, at 16 tt, at 18 tt, pending-told p) (simp (le-leb _ _ (flag-bound (m .started)), le-leb _ _ (code-low p), le-leb _ _ (flag-bound f))),
+  rw (
+    at 0 tt,
+    at 1 tt,
+    at 2 tt,
+    at 3 tt,
+    at 4 tt,
+    at 5 tt,
+    at 6 tt,
+    at 7 tt,
+    at 8 tt,
+    flag-same (m .started),
+    at 9 tt,
+    at 10 tt,
+    at 11 tt,
+    at 12 tt,
+    at 13 tt,
+    at 14 tt,
+    at 15 tt,
+    at 16 tt,
+    pending-read p,
+    at 17 tt,
+    at 18 tt,
+    flag-same f,
+  ),
+)
+
+module _ (w : CbrWriter) (place : List ℕ) (h : writerFits w ≡ true) (t : length (w .«target_bits») ≡ 3) (q : length (w .q) ≡ 3) (l : 152 ≤ length place) where
+  pub read-put : (stateFits (laid (stateBytes w) place) ≡ true) × (writerAt (laid (stateBytes w) place) ≡ w)
+  unfolding stateFits
+  read-put =
+      let s = laid (stateBytes w) place in
+      let r = stand-read (w .model) (is-three _ t) (is-three _ q) (w .pending) (w .«stuffing_bytes») (w .finished) s (stand-put w place h t q l) in
+      (rw (length-laid (stateBytes w) place, le-leb _ _ l, r .0, r .1, h), r .1)
+
+  -- so the place holds the writer
+  pub held-put : held (laid (stateBytes w) place) ≡ record { fits = true; writer = w }
+  unfolding held pick
+  held-put = rw (read-put .0, read-put .1)
+
+-- ---- put back what was read
+
+-- what the test of a place says
+pub state-fits : (s : List ℕ) → stateFits s ≡ true → (152 ≤ length s) × (codesFit s ≡ true) × (writerFits (writerAt s) ≡ true)
+unfolding stateFits
+state-fits s h =
+    let a = both-true (leb 152 (length s)) _ h in
+    let b = both-true (codesFit s) _ (a .1) in
+    (leb-true _ _ (a .0), b .0, b .1)
+
+pub lists-read : (s : List ℕ) → (length (writerAt s .«target_bits») ≡ 3) × (length (writerAt s .q) ≡ 3)
+unfolding writerAt
+lists-read s = (refl, refl)
+
+code-back : (v q : ℕ) → v ≤ 3 → pendingCode (pendingOf v q) ≡ v
+unfolding pendingCode pendingOf pick
+code-back zero q h = refl
+code-back (suc zero) q h = refl
+code-back (suc (suc zero)) q h = refl
+code-back (suc (suc (suc zero))) q h = refl
+code-back (suc (suc (suc (suc v)))) q h = absurd (omega arith)
+
+quantiser-back : (v q : ℕ) → v ≤ 3 → pick (eqb v 0) (eqb q 0) true ≡ true → pendingQuantiser (pendingOf v q) ≡ q
+unfolding pendingQuantiser pendingOf pick
+quantiser-back zero q h t = sym (eqb-true q 0 t)
+quantiser-back (suc zero) q h t = refl
+quantiser-back (suc (suc zero)) q h t = refl
+quantiser-back (suc (suc (suc zero))) q h t = refl
+quantiser-back (suc (suc (suc (suc v)))) q h t = absurd (omega arith)
+
+words-read : (s : List ℕ) → codesFit s ≡ true → stateWords (writerAt s) ≡ wordsFrom 0 19 s
+unfolding codesFit stateWords writerAt wordsFrom
+words-read s h =
+    let a = both-true (leb (wordAt s 8) 1) _ h in
+    let b = both-true (leb (wordAt s 15) 3) _ (a .1) in
+    let c = both-true (pick (eqb (wordAt s 15) 0) (eqb (wordAt s 16) 0) true) _ (b .1) in
+    rw (
+      flag-back (wordAt s 8) (leb-true _ _ (a .0)),
+      code-back (wordAt s 15) (wordAt s 16) (leb-true _ _ (b .0)),
+      quantiser-back (wordAt s 15) (wordAt s 16) (leb-true _ _ (b .0)) (c .0),
+      flag-back (wordAt s 18) (leb-true _ _ (c .1)),
+    )
+
+pub read-back : (s : List ℕ) → stateFits s ≡ true → ((k : ℕ) → getD s k 0 < 256) → laid (stateBytes (writerAt s)) s ≡ s
+unfolding stateBytes
+read-back s h b =
+    let f = state-fits s h in
+    let l = length-take-le 152 s (f .0) in
+    rw (words-read s (f .1), words-back s 19 0 b (f .0), laid-over (take 152 s) s (omega arith), over-is (take 152 s) s, l) (take-append-drop 152 s)

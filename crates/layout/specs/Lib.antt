@@ -1,0 +1,4 @@
+pub mod Words
+pub mod State
+pub mod Answers
+pub mod Steps

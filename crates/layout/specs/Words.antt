@@ -1,0 +1,26 @@
+-- Numbers as bytes (docs/LAYOUT.md): words of 64 bits, low byte first, and the places that they are laid over.
+-- Assumes nothing.
+use Prim.Native.Nat.{ℕ, _+_, _*_}
+use mathlib.Core.List.{List, [], _∷_, _++_}
+use lib.Dec.{leb}
+use lib.ListN.{length, take, drop}
+use Rattle.bits.specs.Bits.{pick}
+use Rattle.bits.specs.Answers.{over}
+use Rattle.verify.specs.Layout.{lowFirst}
+
+unfoldable pub wordsBytes : List ℕ → List ℕ
+wordsBytes [] = []
+wordsBytes (w ∷ ws) = lowFirst 8 w ++ wordsBytes ws
+
+-- over the first bytes of a place, the others staying; a place that is too short is left alone
+unfoldable pub laid : List ℕ → List ℕ → List ℕ
+laid bytes place = pick (leb (length bytes) (length place)) (over bytes place) place
+
+-- the number that bytes are, the lowest first
+unfoldable pub fromLow : List ℕ → ℕ
+fromLow [] = 0
+fromLow (b ∷ bs) = b + 256 * fromLow bs
+
+-- word k, from 0, of a place
+unfoldable pub wordAt : List ℕ → ℕ → ℕ
+wordAt place k = fromLow (take 8 (drop (8 * k) place))

@@ -1,0 +1,18 @@
+// Report, refusal, answer and a writer's state as bytes, laid out as docs/LAYOUT.md says.
+mod words; // words as bytes, and words read
+mod state; // a writer's state
+mod answers; // report, refusal and answer
+
+pub use crate::answers::put_answer;
+pub use crate::answers::put_refusal;
+pub use crate::answers::put_refused;
+pub use crate::answers::put_report;
+pub use crate::state::put_state;
+pub use crate::state::read_state;
+use rate_control::CbrWriter;
+
+// Whether a place holds a writer, and the writer.
+pub struct CbrState {
+    pub fits: bool,
+    pub writer: CbrWriter,
+}

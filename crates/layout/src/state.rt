@@ -1,0 +1,174 @@
+// A writer's state as bytes, and the writer that a place holds.
+ghost use mathlib.Core.Path.{_≡_};
+ghost use mathlib.Core.Bool.{false};
+ghost use Prim.Native.Nat.{_≤_};
+ghost use lib.ListN.{length};
+ghost use Rattle.headers.specs.Answers.{flagOf};
+ghost use Rattle.rate_control.specs.Create.{noWriter};
+ghost use Rattle.layout.specs.Words.{laid};
+ghost use Rattle.layout.specs.State.{pendingCode, pendingQuantiser, pendingOf, writerAt, stateBytes, held};
+ghost use Rattle.layout.specs.Steps.{Narrow, narrow as narrowOf};
+use crate::CbrState;
+use crate::words::put_words;
+use crate::words::word_at;
+use layers::PictureKind;
+use rate_control::CbrWriter;
+use rate_control::Pending;
+use rate_control::no_writer;
+use vbv::VbvCbrModel;
+use vbv::VbvParams;
+
+const STATE_BYTES: usize = 152;
+
+fn flag(value: bool) -> u64
+    ensures { λ r. ⌜ r ≡ flagOf value ⌝ }
+{
+    if value { 1 } else { 0 }
+}
+
+// 0 where no picture is pending, 1 I, 2 P, 3 B.
+fn pending_code(pending: Pending) -> u64
+    ensures { λ r. ⌜ r ≡ pendingCode pending ⌝ }
+{
+    match pending {
+        Pending::Nothing => 0,
+        Pending::Waits(kind, _) => match kind {
+            PictureKind::I => 1,
+            PictureKind::P => 2,
+            PictureKind::B => 3,
+        },
+    }
+}
+
+fn pending_quantiser(pending: Pending) -> u64
+    ensures { λ r. ⌜ r ≡ pendingQuantiser pending ⌝ }
+{
+    match pending {
+        Pending::Nothing => 0,
+        Pending::Waits(_, q) => q as u64,
+    }
+}
+
+// A writer's state over the first bytes of a place; a place that is too short is left alone.
+pub fn put_state(place: &mut [u8], writer: CbrWriter)
+    ensures { λ r. ⌜ now (place .exit) ≡ laid (stateBytes writer) (now (place .entry)) ⌝ }
+{
+    let model = writer.model;
+    let params = model.params;
+    let target_bits = writer.target_bits;
+    let q = writer.q;
+    let pending = writer.pending;
+    let words = [
+        params.bit_rate,
+        params.buffer_size_bits,
+        params.frn,
+        params.frd,
+        model.whole,
+        model.rest,
+        model.prev_end_bits,
+        model.removed,
+        flag(model.started),
+        target_bits[0],
+        target_bits[1],
+        target_bits[2],
+        q[0] as u64,
+        q[1] as u64,
+        q[2] as u64,
+        pending_code(pending),
+        pending_quantiser(pending),
+        writer.stuffing_bytes,
+        flag(writer.finished),
+    ];
+    put_words(place, &words);
+}
+
+fn model_at(place: &[u8]) -> VbvCbrModel
+    requires { ⌜ 152 ≤ length (now place) ⌝ }
+    ensures { λ r. ⌜ r ≡ writerAt (now (place .entry)) .model ⌝ }
+{
+    let params = VbvParams {
+        bit_rate: word_at(place, 0),
+        buffer_size_bits: word_at(place, 1),
+        frn: word_at(place, 2),
+        frd: word_at(place, 3),
+    };
+    VbvCbrModel {
+        params,
+        whole: word_at(place, 4),
+        rest: word_at(place, 5),
+        prev_end_bits: word_at(place, 6),
+        removed: word_at(place, 7),
+        started: word_at(place, 8) == 1,
+    }
+}
+
+// The words that a writer has in fewer bits: flags, the pending picture, quantisers up to 31.
+fn narrow(place: &[u8]) -> bool
+    requires { ⌜ 152 ≤ length (now place) ⌝ }
+    ensures { λ r. ⌜ r ≡ narrowOf (now (place .entry)) ⌝ }
+{
+    let code = word_at(place, 15);
+    let q = word_at(place, 16);
+    let told = (code != 0) | (q == 0);
+    let codes = (word_at(place, 8) <= 1) & ((code <= 3) & (told & (word_at(place, 18) <= 1)));
+    let kinds = (word_at(place, 12) <= 31)
+        & ((word_at(place, 13) <= 31) & (word_at(place, 14) <= 31));
+    codes & (kinds & (q <= 31))
+}
+
+fn pending_at(code: u64, q: u8) -> Pending
+    ensures { λ r. ⌜ r ≡ pendingOf code q ⌝ }
+{
+    match code {
+        0 => Pending::Nothing,
+        1 => Pending::Waits(PictureKind::I, q),
+        2 => Pending::Waits(PictureKind::P, q),
+        _ => Pending::Waits(PictureKind::B, q),
+    }
+}
+
+fn writer_at(place: &[u8]) -> CbrWriter
+    requires { ⌜ 152 ≤ length (now place) ⌝ }
+    requires { ⌜ Narrow (now place) ⌝ }
+    ensures { λ r. ⌜ r ≡ writerAt (now (place .entry)) ⌝ }
+{
+    let model = model_at(place);
+    let target_bits = [word_at(place, 9), word_at(place, 10), word_at(place, 11)];
+    let i = word_at(place, 12) as u8;
+    let p = word_at(place, 13) as u8;
+    let b = word_at(place, 14) as u8;
+    let waits = word_at(place, 16) as u8;
+    CbrWriter {
+        model,
+        target_bits,
+        q: [i, p, b],
+        pending: pending_at(word_at(place, 15), waits),
+        stuffing_bytes: word_at(place, 17),
+        finished: word_at(place, 18) == 1,
+    }
+}
+
+fn unfit() -> CbrState
+    ensures { λ r. ⌜ r ≡ (record { fits = false; writer = noWriter }) ⌝ }
+{
+    CbrState {
+        fits: false,
+        writer: no_writer(),
+    }
+}
+
+// The writer that a place holds: none where it is too short or has a value out of its range.
+pub fn read_state(place: &[u8]) -> CbrState
+    ensures { λ r. ⌜ r ≡ held (now (place .entry)) ⌝ }
+{
+    if place.len() < STATE_BYTES {
+        return unfit();
+    }
+    if narrow(place) {
+        let writer = writer_at(place);
+        if writer.fits() {
+            return CbrState { fits: true, writer };
+        }
+    }
+    unfit()
+}

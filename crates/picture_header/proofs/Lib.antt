@@ -1,0 +1,6 @@
+pub mod CodingExtension
+pub mod Extent
+pub mod ExtraInformation
+pub mod Picture
+pub mod PictureHeader
+pub mod OtherDelay

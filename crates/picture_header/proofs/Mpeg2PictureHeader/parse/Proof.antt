@@ -1,0 +1,54 @@
+use borrow.Author.Needs.{needs}
+use mathlib.Core.Path.{_∙_}
+use Rattle.bits.proofs.Reading.{header-done}
+use Rattle.picture_header.specs.PictureHeader.{pictureStartCode, pictureFields, pictureHeader}
+use Rattle.picture_header.proofs.PictureHeader.{then-short, then-bad, header-behind}
+use Rattle.picture_header.proofs.Mpeg2PictureHeader.parse.Statement.{statement}
+use Rattle.picture_header.proofs.Mpeg2PictureHeader.parse.Tie as tie
+
+slice-aggregate-read-header : tie.Need-slice-aggregate-read-header
+slice-aggregate-read-header c = search needs
+
+read-header-requires : tie.Need-read-header-requires
+read-header-requires c κs = search needs
+
+enum-told : tie.Need-enum-told
+enum-told c = search needs
+
+enum-told-2 : tie.Need-enum-told-2
+enum-told-2 c = search needs
+
+enum-told-3 : tie.Need-enum-told-3
+enum-told-3 c = search needs
+
+behind-delay-requires : tie.Need-behind-delay-requires
+behind-delay-requires c κs =
+    let d = header-done _ pictureStartCode pictureFields _ (c .before .before .before .read-header .ensures) (c .before .enum-told3 .given .1) in
+    (d .high 0, d .high 2)
+
+returns : tie.Need-returns
+unfolding pictureHeader
+returns c = then-short _ _ _ (c .before .before .read-header .ensures) (c .enum-told .given .1)
+
+returns-2 : tie.Need-returns-2
+unfolding pictureHeader
+returns-2 c = then-bad _ _ _ (c .before .before .read-header .ensures) (c .enum-told2 .given .1)
+
+returns-3 : tie.Need-returns-3
+returns-3 c =
+    c .behind-delay .ensures
+    ∙ header-behind _ _ (c .before .before .before .before .read-header .ensures) (c .before .before .enum-told3 .given .1)
+
+pub parse-spec : {M : Type 1} → statement M
+parse-spec =
+    tie.close
+    (tie.spec
+    slice-aggregate-read-header
+    read-header-requires
+    enum-told
+    enum-told-2
+    enum-told-3
+    behind-delay-requires
+    returns
+    returns-2
+    returns-3)

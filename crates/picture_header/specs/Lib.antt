@@ -1,0 +1,3 @@
+pub mod PictureHeader
+pub mod CodingExtension
+pub mod Picture

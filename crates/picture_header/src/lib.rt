@@ -1,0 +1,404 @@
+// picture_header() (ISO/IEC 13818-2 6.2.3, 11172-2 2.4.2.5) and picture_coding_extension() (6.2.3.1).
+ghost use mathlib.Core.Path.{_≡_};
+ghost use Prim.Native.Nat.{_^_, _≤_, _<_};
+ghost use lib.ListN.{getD};
+ghost use Rattle.bits.specs.Fields.{readFields};
+ghost use Rattle.bits.specs.Answers.{fieldsAnswer};
+ghost use Rattle.picture_header.specs.PictureHeader.{codingType, motionFields, extraBit, extraAt, extraAnswer, flagIf, codeIf, pictureOf, behindDelay, pictureHeader, pictureHeaderBytes, lengthOf};
+ghost use Rattle.picture_header.specs.CodingExtension.{pictureStructure, behindCodes, pictureCodingExtension};
+ghost use Rattle.picture_header.specs.Picture.{withCoding, behindHeader, picture};
+use bits::Bits;
+use bits::Fields;
+use bits::Outcome;
+use headers::Error;
+use headers::NextStartCode;
+use headers::next_start_code;
+use headers::sequence_extension::EXTENSION_START_CODE;
+
+pub const PICTURE_START_CODE: [u8; 4] = *b"\x00\x00\x01\x00";
+
+// temporal_reference, picture_coding_type, vbv_delay
+const PICTURE_TABLE: [u8; 9] = *b"\x0A\x00\x00\x03\x01\x04\x10\x00\x00";
+
+// full_pel_forward_vector, forward_f_code
+const FORWARD_TABLE: [u8; 6] = *b"\x01\x00\x00\x03\x00\x00";
+
+// full_pel_forward_vector, forward_f_code, full_pel_backward_vector, backward_f_code
+const BOTH_TABLE: [u8; 12] = *b"\x01\x00\x00\x03\x00\x00\x01\x00\x00\x03\x00\x00";
+
+// extension_start_code_identifier, f_code[0][0], f_code[0][1], f_code[1][0], f_code[1][1]
+const MOTION_CODE_TABLE: [u8; 15] =
+    *b"\x04\x08\x08\x04\x00\x00\x04\x00\x00\x04\x00\x00\x04\x00\x00";
+
+// intra_dc_precision, picture_structure, top_field_first, frame_pred_frame_dct, concealment_motion_vectors,
+// q_scale_type, intra_vlc_format, alternate_scan, repeat_first_field, chroma_420_type, progressive_frame,
+// composite_display_flag
+const CODING_TABLE: [u8; 36] =
+    *b"\x02\x00\x00\x02\x01\x00\x01\x00\x00\x01\x00\x00\x01\x00\x00\x01\x00\x00\x01\x00\x00\x01\x00\x00\x01\x00\x00\x01\x00\x00\x01\x00\x00\x01\x00\x00";
+
+// picture_coding_type (Table 6-12; D pictures are of 11172-2).
+pub enum PictureCodingType {
+    Intra,
+    Predictive,
+    Bidirectional,
+    DcIntra,
+}
+
+// A flag, or a code, that only some picture types have.
+pub enum OptionFlag {
+    Some(bool),
+    None,
+}
+
+pub enum OptionCode {
+    Some(u8),
+    None,
+}
+
+pub struct Mpeg2PictureHeader {
+    pub temporal_reference: u16,
+    pub picture_coding_type: PictureCodingType,
+    pub vbv_delay: u16,
+    pub full_pel_forward_vector: OptionFlag,
+    pub fwd_f_code: OptionCode,
+    pub full_pel_backward_vector: OptionFlag,
+    pub bwd_f_code: OptionCode,
+    // extra_information_picture: how many bytes, and the bit at which the first flag stands, which closes the header where
+    // there are none.
+    pub extra_information_bytes: usize,
+    pub extra_information_bit: u8,
+}
+
+pub enum PictureHeaderRead {
+    Parsed(Mpeg2PictureHeader),
+    Refused(Error),
+}
+
+// picture_structure (Table 6-14).
+pub enum PictureStructure {
+    TopField,
+    BottomField,
+    Frame,
+}
+
+pub struct PictureCodingExtension {
+    pub f_code_fwd_horiz: u8,
+    pub f_code_fwd_vert: u8,
+    pub f_code_bwd_horiz: u8,
+    pub f_code_bwd_vert: u8,
+    pub intra_dc_precision: u8,
+    pub picture_structure: PictureStructure,
+    pub top_field_first: bool,
+    pub frame_pred_frame_dct: bool,
+    pub concealment_motion_vectors: bool,
+    pub q_scale_type: bool,
+    pub intra_vlc_format: bool,
+    pub alternate_scan: bool,
+    pub repeat_first_field: bool,
+    pub chroma_420_type: bool,
+    pub progressive_frame: bool,
+    pub composite_display_flag: bool,
+}
+
+pub enum PictureCodingExtensionRead {
+    Parsed(PictureCodingExtension),
+    Refused(Error),
+}
+
+// A picture header with its extension.
+pub enum PictureRead {
+    Parsed(Mpeg2PictureHeader, PictureCodingExtension),
+    Refused(Error),
+}
+
+pub enum HeaderLength {
+    Bytes(usize),
+    Refused(Error),
+}
+
+fn coding_type_of(code: u32) -> PictureCodingType
+    ensures { λ r. ⌜ r ≡ codingType code ⌝ }
+{
+    if code == 1 {
+        return PictureCodingType::Intra;
+    }
+    if code == 2 {
+        return PictureCodingType::Predictive;
+    }
+    if code == 3 {
+        return PictureCodingType::Bidirectional;
+    }
+    PictureCodingType::DcIntra
+}
+
+// The fields that a picture type has of its motion vectors, at bit 61.
+fn read_motion(buf: &[u8], code: u32) -> Fields
+    ensures { λ r. ⌜ r ≡ fieldsAnswer (readFields (motionFields code) (now (buf .entry)) 61) ⌝ }
+{
+    if code == 2 {
+        return bits::read_fields(buf, 61, &FORWARD_TABLE);
+    }
+    if code == 3 {
+        return bits::read_fields(buf, 61, &BOTH_TABLE);
+    }
+    bits::read_fields(buf, 61, b"")
+}
+
+fn extra_bit(code: u32) -> u8
+    ensures { λ r. ⌜ r ≡ extraBit code ⌝ }
+{
+    if code == 2 {
+        return 65;
+    }
+    if code == 3 {
+        return 69;
+    }
+    61
+}
+
+// How many bytes of extra information follow, or that the bits end first.
+enum ExtraRead {
+    Bytes(usize),
+    Cut,
+}
+
+// Flag n stands at bit first + 9 * n, which is bit first + n of the slice from byte n on.
+fn read_extra(buf: &[u8], first: u8) -> ExtraRead
+    ensures { λ r. ⌜ r ≡ extraAnswer (extraAt (now (buf .entry)) first) ⌝ }
+{
+    let offset = first as usize;
+    let mut n: usize = 0;
+    loop {
+        if buf.len() <= n {
+            return ExtraRead::Cut;
+        }
+        let flag = bits::read_bits(&buf[n..], offset + n, 1);
+        let Bits::Value(v) = flag else {
+            return ExtraRead::Cut;
+        };
+        if v == 0 {
+            return ExtraRead::Bytes(n);
+        }
+        n += 1;
+    }
+}
+
+fn flag_if(present: bool, v: u32) -> OptionFlag
+    ensures { λ r. ⌜ r ≡ flagIf present v ⌝ }
+{
+    if present {
+        OptionFlag::Some(v == 1)
+    } else {
+        OptionFlag::None
+    }
+}
+
+fn code_if(present: bool, v: u32) -> OptionCode
+    requires { ⌜ v ≤ 7 ⌝ }
+    ensures { λ r. ⌜ r ≡ codeIf present v ⌝ }
+{
+    let code = v as u8;
+    if present {
+        OptionCode::Some(code)
+    } else {
+        OptionCode::None
+    }
+}
+
+// The header of the fields h and m, with n bytes of extra information.
+fn header_of(h: [u32; 24], m: [u32; 24], n: usize) -> Mpeg2PictureHeader
+    requires { ⌜ (getD h 0 0 ≤ 1023) × (getD h 2 0 ≤ 65535) × (getD m 1 0 ≤ 7) × (getD m 3 0 ≤ 7) ⌝ }
+    ensures { λ r. ⌜ r ≡ pictureOf h m n ⌝ }
+{
+    let temporal_reference = h[0] as u16;
+    let code = h[1];
+    let vbv_delay = h[2] as u16;
+    let forward = (code == 2) | (code == 3);
+    let backward = code == 3;
+    Mpeg2PictureHeader {
+        temporal_reference,
+        picture_coding_type: coding_type_of(code),
+        vbv_delay,
+        full_pel_forward_vector: flag_if(forward, m[0]),
+        fwd_f_code: code_if(forward, m[1]),
+        full_pel_backward_vector: flag_if(backward, m[2]),
+        bwd_f_code: code_if(backward, m[3]),
+        extra_information_bytes: n,
+        extra_information_bit: extra_bit(code),
+    }
+}
+
+impl Mpeg2PictureHeader {
+    // From a slice that begins at the picture's start code; D pictures pass.
+    pub fn parse(buf: &[u8]) -> PictureHeaderRead
+        ensures { λ r. ⌜ r ≡ pictureHeader (now (buf .entry)) ⌝ }
+    {
+        let read = bits::read_header(buf, PICTURE_START_CODE, &PICTURE_TABLE);
+        let outcome = read.outcome;
+        match outcome {
+            Outcome::Short => PictureHeaderRead::Refused(Error::ShortHeader),
+            Outcome::Bad => PictureHeaderRead::Refused(Error::InvalidBitstream),
+            Outcome::Done => {
+                let h = read.values;
+                behind_delay(buf, h)
+            }
+        }
+    }
+
+    // With the picture coding extension, which must follow; D pictures are refused (Table 6-12).
+    pub fn parse_with_extension(buf: &[u8]) -> PictureRead
+        ensures { λ r. ⌜ r ≡ picture (now (buf .entry)) ⌝ }
+    {
+        let read = Mpeg2PictureHeader::parse(buf);
+        match read {
+            PictureHeaderRead::Refused(error) => PictureRead::Refused(error),
+            PictureHeaderRead::Parsed(header) => {
+                let kind = header.picture_coding_type;
+                if let PictureCodingType::DcIntra = kind {
+                    return PictureRead::Refused(Error::InvalidBitstream);
+                }
+                behind_header(buf, header)
+            }
+        }
+    }
+}
+
+// What stands behind vbv_delay, where the fields before are h.
+fn behind_delay(buf: &[u8], h: [u32; 24]) -> PictureHeaderRead
+    requires { ⌜ (getD h 0 0 ≤ 1023) × (getD h 2 0 ≤ 65535) ⌝ }
+    ensures { λ r. ⌜ r ≡ behindDelay (now (buf .entry)) h ⌝ }
+{
+    let code = h[1];
+    let motion = read_motion(buf, code);
+    let outcome = motion.outcome;
+    match outcome {
+        Outcome::Short => PictureHeaderRead::Refused(Error::ShortHeader),
+        Outcome::Bad => PictureHeaderRead::Refused(Error::InvalidBitstream),
+        Outcome::Done => {
+            let extra = read_extra(buf, extra_bit(code));
+            match extra {
+                ExtraRead::Cut => PictureHeaderRead::Refused(Error::ShortHeader),
+                ExtraRead::Bytes(n) => {
+                    let m = motion.values;
+                    PictureHeaderRead::Parsed(header_of(h, m, n))
+                }
+            }
+        }
+    }
+}
+
+// The bytes that a parsed header occupies: 9 bits for each byte of extra information are that byte and one bit more.
+fn byte_length(header: Mpeg2PictureHeader) -> usize
+    requires { ⌜ pictureHeaderBytes header < 2 ^ 64 ⌝ }
+    ensures { λ r. ⌜ r ≡ pictureHeaderBytes header ⌝ }
+{
+    let bit = header.extra_information_bit as usize;
+    let n = header.extra_information_bytes;
+    n + (bit + n + 8) / 8
+}
+
+// The bytes that the picture header occupies.
+pub fn picture_header_byte_length(buf: &[u8]) -> HeaderLength
+    ensures { λ r. ⌜ r ≡ lengthOf (pictureHeader (now (buf .entry))) ⌝ }
+{
+    let read = Mpeg2PictureHeader::parse(buf);
+    match read {
+        PictureHeaderRead::Refused(error) => HeaderLength::Refused(error),
+        PictureHeaderRead::Parsed(header) => HeaderLength::Bytes(byte_length(header)),
+    }
+}
+
+// What stands behind a header: the next start code must be the extension's.
+fn behind_header(buf: &[u8], header: Mpeg2PictureHeader) -> PictureRead
+    requires { ⌜ pictureHeaderBytes header < 2 ^ 64 ⌝ }
+    ensures { λ r. ⌜ r ≡ behindHeader (now (buf .entry)) header ⌝ }
+{
+    let next = next_start_code(buf, byte_length(header));
+    match next {
+        NextStartCode::Missing => PictureRead::Refused(Error::InvalidBitstream),
+        NextStartCode::At(at) => with_coding(header, PictureCodingExtension::parse(&buf[at..])),
+    }
+}
+
+fn with_coding(header: Mpeg2PictureHeader, read: PictureCodingExtensionRead) -> PictureRead
+    ensures { λ r. ⌜ r ≡ withCoding header read ⌝ }
+{
+    match read {
+        PictureCodingExtensionRead::Refused(error) => PictureRead::Refused(error),
+        PictureCodingExtensionRead::Parsed(extension) => PictureRead::Parsed(header, extension),
+    }
+}
+
+fn picture_structure_of(code: u32) -> PictureStructure
+    ensures { λ r. ⌜ r ≡ pictureStructure code ⌝ }
+{
+    if code == 1 {
+        return PictureStructure::TopField;
+    }
+    if code == 2 {
+        return PictureStructure::BottomField;
+    }
+    PictureStructure::Frame
+}
+
+impl PictureCodingExtension {
+    // From a slice that begins at the extension's start code. No f_code may be 0.
+    pub fn parse(buf: &[u8]) -> PictureCodingExtensionRead
+        ensures { λ r. ⌜ r ≡ pictureCodingExtension (now (buf .entry)) ⌝ }
+    {
+        let read = bits::read_header(buf, EXTENSION_START_CODE, &MOTION_CODE_TABLE);
+        let outcome = read.outcome;
+        match outcome {
+            Outcome::Short => PictureCodingExtensionRead::Refused(Error::ShortHeader),
+            Outcome::Bad => PictureCodingExtensionRead::Refused(Error::InvalidBitstream),
+            Outcome::Done => {
+                let h = read.values;
+                let fit = (1 <= h[1]) & ((1 <= h[2]) & ((1 <= h[3]) & (1 <= h[4])));
+                if fit {
+                    return behind_codes(buf, h);
+                }
+                PictureCodingExtensionRead::Refused(Error::InvalidBitstream)
+            }
+        }
+    }
+}
+
+// What stands behind the f_codes h.
+fn behind_codes(buf: &[u8], h: [u32; 24]) -> PictureCodingExtensionRead
+    requires { ⌜ (getD h 1 0 ≤ 15) × (getD h 2 0 ≤ 15) × (getD h 3 0 ≤ 15) × (getD h 4 0 ≤ 15) ⌝ }
+    ensures { λ r. ⌜ r ≡ behindCodes (now (buf .entry)) h ⌝ }
+{
+    let read = bits::read_fields(buf, 52, &CODING_TABLE);
+    let outcome = read.outcome;
+    match outcome {
+        Outcome::Short => PictureCodingExtensionRead::Refused(Error::ShortHeader),
+        Outcome::Bad => PictureCodingExtensionRead::Refused(Error::InvalidBitstream),
+        Outcome::Done => {
+            let v = read.values;
+            let f_code_fwd_horiz = h[1] as u8;
+            let f_code_fwd_vert = h[2] as u8;
+            let f_code_bwd_horiz = h[3] as u8;
+            let f_code_bwd_vert = h[4] as u8;
+            let intra_dc_precision = v[0] as u8;
+            let picture_structure = picture_structure_of(v[1]);
+            PictureCodingExtensionRead::Parsed(PictureCodingExtension {
+                f_code_fwd_horiz,
+                f_code_fwd_vert,
+                f_code_bwd_horiz,
+                f_code_bwd_vert,
+                intra_dc_precision,
+                picture_structure,
+                top_field_first: v[2] == 1,
+                frame_pred_frame_dct: v[3] == 1,
+                concealment_motion_vectors: v[4] == 1,
+                q_scale_type: v[5] == 1,
+                intra_vlc_format: v[6] == 1,
+                alternate_scan: v[7] == 1,
+                repeat_first_field: v[8] == 1,
+                chroma_420_type: v[9] == 1,
+                progressive_frame: v[10] == 1,
+                composite_display_flag: v[11] == 1,
+            })
+        }
+    }
+}
