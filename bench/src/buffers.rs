@@ -83,12 +83,17 @@ pub fn tiny(size: usize) -> Vec<u8> {
     stream
 }
 
+/// The data of a stream's slices, one after another.
+pub fn slice_data(from: &[u8]) -> Vec<u8> {
+    let codes = oracle_scan_start_codes(from);
+    let slices = codes.windows(2).filter(|w| (0x01..=0xAF).contains(&w[0].1));
+    slices.flat_map(|w| from[w[0].0 + 4..w[1].0].iter().copied()).collect()
+}
+
 /// Pictures as a broadcast at 3.6 Mbit/s has them: 36 slices of 504 bytes, whose data are those of the slices of a small
 /// stream, one after another; accepted.
 pub fn broadcast(from: &[u8], size: usize) -> Vec<u8> {
-    let codes = oracle_scan_start_codes(from);
-    let slices = codes.windows(2).filter(|w| (0x01..=0xAF).contains(&w[0].1));
-    let data: Vec<u8> = slices.flat_map(|w| from[w[0].0 + 4..w[1].0].iter().copied()).collect();
+    let data = slice_data(from);
     let mut data = data.chunks_exact(499).cycle();
     let rate: u32 = 9_081; // in 400 bits a second, which is two bytes a frame: 18,162 bytes
     let mut stream = vec![0, 0, 1, 0xB3, 0x2D, 2, 0x40, 0x13];

@@ -3,6 +3,10 @@
 //!     bench FOLDER_OF_STREAMS
 
 mod buffers;
+#[path = "../../oracle/src/entries/entry.rs"]
+#[allow(dead_code)] // no patch here
+mod entry;
+mod offers;
 #[path = "../../oracle/src/spans.rs"]
 mod spans;
 
@@ -33,19 +37,28 @@ unsafe impl GlobalAlloc for Counting {
 static COUNTING: Counting = Counting;
 
 unsafe extern "C" {
-    fn vbv_check(
-        stream: *const u8,
-        stream_len: usize,
-        standard: u8,
-        report: *mut u8,
-        report_len: usize,
-        records: *mut u8,
-        records_len: usize,
-        refusal: *mut u8,
-        refusal_len: usize,
-    ) -> u64;
     safe fn thread_seconds() -> f64;
     fn stack_used(run: extern "C" fn(*mut c_void), with: *mut c_void) -> usize;
+}
+
+/// Our check: the answer's number, and the report's words.
+fn check(standard: VbvStandard, stream: &[u8], records: &mut [u8]) -> (u64, [u64; 5]) {
+    let (mut report, mut refusal) = ([0u64; 5], [0u64; 4]);
+    let number = if standard == VbvStandard::Mpeg1 { 1 } else { 2 };
+    let answer = unsafe {
+        entry::vbv_check(
+            stream.as_ptr(),
+            stream.len(),
+            number,
+            report.as_mut_ptr().cast(),
+            40,
+            records.as_mut_ptr(),
+            records.len(),
+            refusal.as_mut_ptr().cast(),
+            32,
+        )
+    };
+    (answer, report)
 }
 
 /// A stream to check, with places for its records.
@@ -61,25 +74,8 @@ impl Work {
         Self { stream, standard, records: vec![1; 32 * pictures] }
     }
 
-    /// Ours: the answer's number, and the report's words.
     fn ours(&mut self, places: usize) -> (u64, [u64; 5]) {
-        let (mut report, mut refusal) = ([0u64; 5], [0u64; 4]);
-        let number = if self.standard == VbvStandard::Mpeg1 { 1 } else { 2 };
-        let (s, r) = (&self.stream, &mut self.records);
-        let answer = unsafe {
-            vbv_check(
-                s.as_ptr(),
-                s.len(),
-                number,
-                report.as_mut_ptr().cast(),
-                40,
-                r.as_mut_ptr(),
-                32 * places,
-                refusal.as_mut_ptr().cast(),
-                32,
-            )
-        };
-        (answer, report)
+        check(self.standard, &self.stream, &mut self.records[..32 * places])
     }
 
     fn places(&self) -> usize {
@@ -186,4 +182,5 @@ fn main() {
     for size in [1, 64, 256] {
         line("random bytes", Work::new(VbvStandard::Mpeg2, buffers::random(size * MB)));
     }
+    offers::table(&two);
 }

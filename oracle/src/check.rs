@@ -109,7 +109,7 @@ fn report(report: &VbvStreamReport, part: &mut [u8]) -> [u64; 5] {
 }
 
 /// What the original makes of a stream: its number and five words, the records stored in the part.
-fn judged(standard: VbvStandard, stream: &[u8], part: &mut [u8]) -> (Refusal, [u64; 5]) {
+pub fn judged(standard: VbvStandard, stream: &[u8], part: &mut [u8]) -> (Refusal, [u64; 5]) {
     let result = verify_cbr_stream(stream, standard);
     let run = match &result {
         Err(VbvVerifyError::Parse(e)) => matches!(refusal(*e).0, 7 | 8),

@@ -40,6 +40,16 @@ impl OracleWriter {
         self.0.emit(headers, kind, interval, last, encode).is_ok()
     }
 
+    /// The same, but with memory for what it puts out.
+    pub fn with_room(self, mut out: Vec<u8>) -> Self {
+        out.clear();
+        Self(CbrWriter { out, ..self.0 })
+    }
+
+    pub fn into_out(self) -> Vec<u8> {
+        self.0.out
+    }
+
     pub fn out(&self) -> &[u8] {
         &self.0.out
     }

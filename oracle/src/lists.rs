@@ -73,14 +73,14 @@ pub fn add_offer(input: &mut Vec<u8>, o: &Offer, part: usize) {
     input.extend(&o.layer);
 }
 
-enum Call {
+pub enum Call {
     Withdrawal,
     Offer(Offer),
     State(u64, u64),
 }
 
 /// A call, the length of its output part, and the bytes behind it.
-fn call(s: &[u8]) -> (Call, usize, &[u8]) {
+pub fn call(s: &[u8]) -> (Call, usize, &[u8]) {
     let length = |at: usize| number(&s[at..at + 2]) as usize;
     let (middle, end) = (10 + length(4), 10 + length(4) + length(6));
     let call = match s[0] {
@@ -98,7 +98,7 @@ fn call(s: &[u8]) -> (Call, usize, &[u8]) {
 }
 
 /// What an output part holds before its offer.
-fn pattern(n: usize) -> Vec<u8> {
+pub fn pattern(n: usize) -> Vec<u8> {
     (0..n).map(|i| (i % 251) as u8).collect()
 }
 
@@ -213,15 +213,20 @@ fn in_words(told: Told) -> (u8, [u64; 4]) {
     }
 }
 
-pub fn answer(input: &[u8]) -> Answer {
-    let c = Config {
+/// What the writer of an input is created with.
+pub fn configured(input: &[u8]) -> Config {
+    Config {
         rate: number(&input[..4]) as u32,
         buffer: number(&input[4..6]) as u16,
         rate_code: input[6],
         q: input[7],
         between: input[8],
         anchors: input[9],
-    };
+    }
+}
+
+pub fn answer(input: &[u8]) -> Answer {
+    let c = configured(input);
     let mut w = match Writer::create(c) {
         Ok(w) => w,
         Err(n) => return Answer { bytes: vec![n], met: vec![met(n)] },

@@ -1,6 +1,6 @@
 //! Writes cases with the original's answers to standard output, and counts them on standard error.
 //!
-//!     cases [known] [short] [edges] SEED COUNT KIND..|all|19|small
+//!     cases [known] [short] [edges] SEED COUNT KIND..|19|small
 //!
 //! known: first the streams that have a name; short: then all inputs of at most two bytes; edges: then those around each
 //! boundary; then COUNT drawn ones. Kind 19, lists of calls of the writer, goes to another program and stands alone;
@@ -10,23 +10,9 @@
 //!
 //! The original's answer for an MPEG-1 or MPEG-2 stream, as `vbvcheck` would print it.
 
-mod answers;
-mod calls;
-mod check;
-mod checks;
-mod draw;
-mod headers;
-mod known;
-mod lists;
-mod model;
-mod sends;
-mod spans;
-mod streams;
-mod writer;
-mod writers;
-
-use answers::{KINDS, answer};
-use draw::Draw;
+use oracle::answers::{KINDS, answer};
+use oracle::draw::Draw;
+use oracle::{calls, check, checks, headers, sends, writers};
 use original::vbv::VbvStandard;
 use std::collections::BTreeMap;
 use std::io::{BufWriter, Stdout, Write, stdout};
@@ -133,12 +119,9 @@ fn main() {
         at.map(|i| words.remove(i)).is_some()
     };
     let (known, short, edges) = (flag("known"), flag("short"), flag("edges"));
-    let (all, small) = (flag("all"), flag("small"));
+    let small = flag("small");
     let numbers: Vec<u64> = words.iter().filter_map(|w| w.parse().ok()).collect();
     let mut kinds: Vec<u8> = numbers.iter().skip(2).map(|&k| k as u8).collect();
-    if all {
-        kinds = (1..=18).collect();
-    }
     if small {
         kinds.push(19);
     }
@@ -148,7 +131,7 @@ fn main() {
         || kinds.iter().any(|k| !(1..=19).contains(k))
         || kinds.contains(&19) && 1 < kinds.len()
     {
-        eprintln!("usage: cases [known] [short] [edges] SEED COUNT KIND..|all|19|small   (all: 1 to 18)");
+        eprintln!("usage: cases [known] [short] [edges] SEED COUNT KIND..|19|small");
         eprintln!("       cases stream 1|2 FILE");
         exit(2);
     }

@@ -37,15 +37,15 @@ pub enum Told {
 /// Bits delivered are counted in units of 1 / (180,000 × frn) bit.
 #[derive(Clone)]
 pub struct Writer {
-    config: Config,
-    rate: u128,
-    buffer: u128,
-    frn: u128,
-    frd: u128,
+    pub rate: u128,
+    pub buffer: u128,
+    pub frn: u128,
+    pub frd: u128,
     pub targets: [u64; 3],
     pub q: [u8; 3],
     pub pending: Option<(usize, u8)>,
-    delivered: u128,
+    pub started: bool,
+    pub delivered: u128,
     pub end: u128,
     pub placed: u64,
     pub stuffing: u64,
@@ -134,12 +134,11 @@ impl Writer {
         let weights = 40 + 16 * anchors + 9 * anchors * between;
         let targets = [40, 16, 9].map(|w| (group * w / weights) as u64);
         let (q, pending) = ([c.q; 3], None);
-        let (delivered, end, placed, stuffing, finished) = (0, 0, 0, 0, false);
-        let config = c;
-        Ok(Self { config, rate, buffer, frn, frd, targets, q, pending, delivered, end, placed, stuffing, finished })
+        let (started, delivered, end, placed, stuffing, finished) = (false, 0, 0, 0, 0, false);
+        Ok(Self { rate, buffer, frn, frd, targets, q, pending, started, delivered, end, placed, stuffing, finished })
     }
 
-    fn units(&self) -> u128 {
+    pub fn units(&self) -> u128 {
         180_000 * self.frn
     }
 
@@ -155,7 +154,7 @@ impl Writer {
         let shape = (h.is_empty() || h.starts_with(&[0, 0, 1]))
             && codes.iter().all(|c| [0xB2, 0xB3, 0xB5, 0xB8].contains(&c.1))
             && !h.ends_with(&[0, 0, 1]);
-        if self.placed != 0 {
+        if self.started {
             return shape && sequences == 0;
         }
         shape && sequences == 1 && codes[0] == (0, 0xB3) && self.declared(h)
@@ -166,7 +165,7 @@ impl Writer {
         Mpeg2Sequence::from_buf(h).is_ok_and(|s| {
             400 * u128::from(s.bit_rate) == self.rate
                 && 16_384 * u128::from(s.vbv_buffer_size) == self.buffer
-                && s.header.frame_rate_code == self.config.rate_code
+                && FRAME_RATES.get(usize::from(s.header.frame_rate_code) - 1) == Some(&(self.frn, self.frd))
                 && (s.extension.frame_rate_extension_n, s.extension.frame_rate_extension_d) == (0, 0)
         })
     }
@@ -178,7 +177,7 @@ impl Writer {
 
     /// Units delivered at the removal of an offered picture.
     pub fn delivered(&self, headers: usize) -> u128 {
-        if self.placed != 0 {
+        if self.started {
             return self.delivered;
         }
         let delay = 90_000 * self.buffer * 3 / (4 * self.rate);
@@ -196,7 +195,8 @@ impl Writer {
 
     /// A state that no list of calls comes to: one picture placed, an end, and whole bits delivered.
     pub fn set(&mut self, end: u64, whole: u64) {
-        (self.placed, self.end, self.delivered) = (1, end.into(), u128::from(whole) * self.units());
+        (self.started, self.placed) = (true, 1);
+        (self.end, self.delivered) = (end.into(), u128::from(whole) * self.units());
     }
 
     pub fn withdraw(&mut self) {
@@ -251,6 +251,7 @@ impl Writer {
         self.put(o, delay, stuffing as usize, &mut part[..bytes]);
         self.steer(o, q);
         self.pending = None;
+        self.started = true;
         self.delivered = delivered + period;
         self.end = end;
         self.placed += 1;

@@ -1,0 +1,299 @@
+//! The writer: lists of calls drawn like those of kind 19, its state kept as bytes, and what the model of paper 01 (writer.rs)
+//! comes to.
+//!
+//! Before some of a list's calls stands another one, on a copy of the state: damaged or cut short, with a kind, an interval or a
+//! flag out of range, or with a place for the answer that is too short. What a damaged state holds is decoded here once more
+//! (state.rs).
+
+use crate::entry;
+use crate::place::{Left, Place, lay};
+use crate::run::{Owed, Run};
+use oracle::draw::Draw;
+use oracle::lists::{Call, call, configured, pattern};
+use oracle::state::{BYTES, WORDS, held, limits, words, words_of};
+use oracle::writer::{Config, Offer, Told, Writer};
+
+const ANSWER: usize = 72;
+
+const CREATIONS: &str = "creations";
+const OFFERS: &str = "offers";
+const STOPPED: &str = "offers stopped before the writer";
+const DAMAGED: &str = "offers on a damaged state that fits";
+const WITHDRAWALS: &str = "withdrawals";
+
+/// The writer's answers to offers.
+const ANSWERS: [&str; 11] = [
+    "placed",
+    "again",
+    "refused 7",
+    "refused 9",
+    "refused 14",
+    "refused 17",
+    "refused 18",
+    "refused 19",
+    "refused 20",
+    "refused 21",
+    "refused 22",
+];
+/// What stops an offer before the writer, in the order in which it is tested.
+const STOPS: [&str; 7] = [
+    "12: a state, with a short answer place",
+    "12: a state too short",
+    "12: a damaged state",
+    "19: a short answer place",
+    "12: a kind",
+    "12: an interval",
+    "12: a flag",
+];
+
+/// What has to be met.
+pub const OWED: [Owed; 5] = [
+    (CREATIONS, &["accepted", "refused 6", "refused 12", "refused 19"]),
+    (OFFERS, &ANSWERS),
+    (STOPPED, &STOPS),
+    (DAMAGED, &ANSWERS),
+    (WITHDRAWALS, &["accepted", "nothing pending", "on a damaged state that fits", "refused 12"]),
+];
+
+/// An offer as C makes it.
+struct Offering<'a> {
+    headers: &'a [u8],
+    kind: u8,
+    interval: u8,
+    last: u8,
+    layer: &'a [u8],
+    out: Vec<u8>,
+    answer: Vec<u8>,
+}
+
+/// A value returned by a call that has a state and nothing else, and what it leaves there.
+fn alone(number: u64, state: &[u8]) -> Left {
+    let mut left = Left::before(&[("state", state)]);
+    left.number = number;
+    left
+}
+
+fn refused(n: u8, picture: u64) -> [u64; 9] {
+    [2, n.into(), picture, 0, 0, 0, 0, 0, 0]
+}
+
+/// The words of an answer; a 9 names the picture, of which so many were placed before.
+fn answer_words(told: Told, placed: u64) -> [u64; 9] {
+    match told {
+        Told::Placed { q, delay, bytes, stuffing } => [0, 0, 0, 0, 0, q.into(), delay.into(), bytes, stuffing],
+        Told::Again(q) => [1, 0, 0, 0, 0, q.into(), 0, 0, 0],
+        Told::Refused(9) => refused(9, placed),
+        Told::Refused(n) => refused(n, 0),
+    }
+}
+
+/// What stops an offer on a state that holds a writer, or none, before the writer looks at it.
+fn stop(holds: bool, state: &[u8], c: &Offering) -> Option<(u8, &'static str)> {
+    let short = c.answer.len() < ANSWER;
+    let no_state = [!holds && short, !holds && state.len() < BYTES, !holds];
+    let codes = [2 < c.kind, !(1..=2).contains(&c.interval), 1 < c.last];
+    let at = no_state.into_iter().chain([short]).chain(codes).position(|stops| stops)?;
+    Some((if at == no_state.len() { 19 } else { 12 }, STOPS[at]))
+}
+
+/// What is expected of an offer on a state that holds a writer, or none; and what it is counted as.
+fn expected(writer: Option<&mut Writer>, state: &[u8], c: &Offering) -> (Left, String) {
+    let mut left = Left::before(&[("state", state), ("out", &c.out), ("answer", &c.answer)]);
+    if let Some((number, why)) = stop(writer.is_some(), state, c) {
+        left.number = number.into();
+        return (left.with("answer", &refused(number, 0)), why.into());
+    }
+    let w = writer.unwrap();
+    let offer = Offer {
+        headers: c.headers.to_vec(),
+        kind: c.kind.into(),
+        field: c.interval == 1,
+        last: c.last == 1,
+        layer: c.layer.to_vec(),
+    };
+    let placed = w.placed;
+    let told = w.offer(&offer, left.at("out"));
+    let why = match told {
+        Told::Placed { .. } => "placed".into(),
+        Told::Again(_) => "again".into(),
+        Told::Refused(n) => {
+            left.number = n.into();
+            format!("refused {n}")
+        }
+    };
+    (left.with("state", &words(w)).with("answer", &answer_words(told, placed)), why)
+}
+
+/// The entry's own.
+fn offered(state: &[u8], c: &Offering, d: &mut Draw) -> Left {
+    let (mut headers, mut layer) = (Place::new(c.headers, d), Place::new(c.layer, d));
+    let (mut state, mut out, mut answer) = (Place::new(state, d), Place::new(&c.out, d), Place::new(&c.answer, d));
+    let number = unsafe {
+        entry::cbr_offer(
+            state.at(),
+            state.len,
+            headers.at(),
+            headers.len,
+            c.kind,
+            c.interval,
+            c.last,
+            layer.at(),
+            layer.len,
+            out.at(),
+            out.len,
+            answer.at(),
+            answer.len,
+        )
+    };
+    let written = [("state", &state), ("out", &out), ("answer", &answer)];
+    Left::after(number, &written, &[(&headers, c.headers), (&layer, c.layer)])
+}
+
+fn withdrawn(state: &[u8], d: &mut Draw) -> Left {
+    let mut state = Place::new(state, d);
+    let number = unsafe { entry::cbr_withdraw(state.at(), state.len) };
+    Left::after(number, &[("state", &state)], &[])
+}
+
+fn created(c: Config, state: &[u8], d: &mut Draw) -> Left {
+    let mut state = Place::new(state, d);
+    let number =
+        unsafe { entry::cbr_create(c.rate, c.buffer, c.rate_code, c.q, c.between, c.anchors, state.at(), state.len) };
+    Left::after(number, &[("state", &state)], &[])
+}
+
+/// A word's other value: around its limit, around bits delivered that matter, or any.
+fn another(s: &[u64; WORDS], k: usize, d: &mut Draw) -> u64 {
+    let (buffer, end) = (s[1] % (1 << 33), s[6] % (1 << 49));
+    match d.below(6) {
+        0 => d.value(64),
+        1 => s[k] ^ 1 << d.below(64),
+        2 if k == 4 => end + d.next() % (buffer + 1),
+        3 if k == 4 => (end + buffer + d.below(3) as u64).saturating_sub(1),
+        4 if k == 6 => (s[4] % (1 << 49)).saturating_sub(d.next() % (buffer + 1)) & !7,
+        _ => (limits(s)[k].saturating_add(d.below(3) as u64)).saturating_sub(1),
+    }
+}
+
+/// A state with some words or bytes changed, or cut short.
+fn damaged(state: &[u8], d: &mut Draw) -> Vec<u8> {
+    let mut bytes = state.to_vec();
+    if d.one_in(12) {
+        bytes.truncate(d.below(BYTES));
+        return bytes;
+    }
+    while bytes == state || d.one_in(3) {
+        if d.one_in(4) {
+            bytes[d.below(BYTES)] = d.byte();
+        } else {
+            let (mut s, k) = (words_of(&bytes).unwrap(), d.below(WORDS));
+            s[k] = another(&s, k, d);
+            lay(&mut bytes, &s);
+        }
+    }
+    bytes
+}
+
+impl Run {
+    /// A writer and its state, in a place that may be longer.
+    fn create(&mut self, c: Config) -> Option<(Writer, Vec<u8>)> {
+        if self.d.one_in(16) {
+            let n = self.d.below(BYTES);
+            let place = self.d.bytes(n);
+            let found = created(c, &place, &mut self.d);
+            self.met(CREATIONS, "refused 19", &found, &alone(19, &place));
+        }
+        let n = BYTES + self.d.below(3) * self.d.below(16);
+        let mut state = self.d.bytes(n);
+        let found = created(c, &state, &mut self.d);
+        let made = Writer::create(c);
+        if let Ok(w) = &made {
+            lay(&mut state, &words(w));
+        }
+        let number = made.as_ref().err().map_or(0, |&n| n.into());
+        let why = if number == 0 { "accepted".into() } else { format!("refused {number}") };
+        self.met(CREATIONS, &why, &found, &alone(number, &state));
+        made.ok().map(|w| (w, state))
+    }
+
+    /// Compares an offer, and leaves the state that is expected.
+    fn offer(&mut self, what: &'static str, writer: Option<&mut Writer>, state: &mut Vec<u8>, c: &Offering) {
+        let (mut expected, why) = expected(writer, state, c);
+        let found = offered(state, c, &mut self.d);
+        let what = if STOPS.contains(&why.as_str()) { STOPPED } else { what };
+        self.met(what, &why, &found, &expected);
+        *state = std::mem::take(expected.at("state"));
+    }
+
+    fn withdraw(&mut self, why: &'static str, writer: Option<&mut Writer>, state: &mut Vec<u8>) {
+        let found = withdrawn(state, &mut self.d);
+        let number = if writer.is_some() { 0 } else { 12 };
+        let why = if writer.is_some() { why } else { "refused 12" };
+        if let Some(w) = writer {
+            w.withdraw();
+            lay(state, &words(w));
+        }
+        self.met(WITHDRAWALS, why, &found, &alone(number, state));
+    }
+
+    /// The offer with something about it that is out of range, on a copy of the state.
+    fn odd_offer(&mut self, state: &[u8], c: &Offering) {
+        let d = &mut self.d;
+        let out = if d.one_in(2) { pattern(9_000) } else { c.out.clone() };
+        let mut c = Offering { out, answer: c.answer.clone(), ..*c };
+        let damage = !d.one_in(4);
+        let mut copy = if damage { damaged(state, d) } else { state.to_vec() };
+        match d.below(if damage { 16 } else { 4 }) {
+            0 => c.answer.truncate(d.below(ANSWER)),
+            1 => c.kind = 3 + d.below(253) as u8,
+            2 => c.interval = [0, 3 + d.below(253) as u8][d.below(2)],
+            3 => c.last = 2 + d.below(254) as u8,
+            _ => {}
+        }
+        let mut writer = held(&copy);
+        self.offer(DAMAGED, writer.as_mut(), &mut copy, &c);
+    }
+
+    fn odd_withdrawal(&mut self, state: &[u8]) {
+        let mut copy = damaged(state, &mut self.d);
+        let mut writer = held(&copy);
+        self.withdraw("on a damaged state that fits", writer.as_mut(), &mut copy);
+    }
+
+    /// One list: creation, and each call on what the one before left.
+    pub fn list(&mut self, input: &[u8]) {
+        let Some((mut w, mut state)) = self.create(configured(input)) else { return };
+        let mut rest = &input[11..];
+        while !rest.is_empty() {
+            let (call, part, behind) = call(rest);
+            rest = behind;
+            match call {
+                Call::State(end, whole) => {
+                    w.set(end, whole);
+                    lay(&mut state, &words(&w));
+                }
+                Call::Withdrawal => {
+                    self.odd_withdrawal(&state);
+                    let why = if w.pending.is_some() { "accepted" } else { "nothing pending" };
+                    self.withdraw(why, Some(&mut w), &mut state);
+                }
+                Call::Offer(o) => {
+                    let n = ANSWER + self.d.below(3) * self.d.below(16);
+                    let c = Offering {
+                        headers: &o.headers,
+                        kind: o.kind as u8,
+                        interval: if o.field { 1 } else { 2 },
+                        last: o.last.into(),
+                        layer: &o.layer,
+                        out: pattern(part),
+                        answer: self.d.bytes(n),
+                    };
+                    if self.d.one_in(2) {
+                        self.odd_offer(&state, &c);
+                    }
+                    self.offer(OFFERS, Some(&mut w), &mut state, &c);
+                }
+            }
+        }
+    }
+}

@@ -1,0 +1,38 @@
+//! Runs drawn cases through the entries that C calls, and holds every value returned and every byte of every lent place to
+//! what is expected: of the check and of the delay patch what the original answers (vbv.rs), of the writer what the model of
+//! paper 01 comes to (cbr.rs).
+//!
+//!     entries COUNT SEED
+//!
+//! COUNT lists of calls, as many streams, and as many headers to patch.
+
+mod cbr;
+mod entry;
+mod place;
+mod run;
+mod vbv;
+
+use oracle::draw::Draw;
+use oracle::{calls, checks, sends};
+use run::Run;
+use std::process::exit;
+
+fn main() {
+    let numbers: Vec<u64> = std::env::args().skip(1).filter_map(|w| w.parse().ok()).collect();
+    let [count, seed] = numbers[..] else {
+        eprintln!("usage: entries COUNT SEED");
+        exit(2);
+    };
+    let mut d = Draw(seed);
+    let mut run = Run::new(!seed);
+    for _ in 0..count {
+        run.case += 1;
+        run.list(&sends::drawn(&mut d));
+        let standard = 1 + d.below(2) as u8;
+        run.stream(standard, &checks::drawn(16 + standard, &mut d));
+        run.header(&calls::drawn(16, &mut d));
+    }
+    if !run.report(&[&vbv::OWED[..], &cbr::OWED[..]].concat()) {
+        exit(1);
+    }
+}

@@ -1,0 +1,175 @@
+//! The check and the delay patch: streams and headers drawn like those of kinds 16 to 18, and the original's answers to them.
+//! Before some of the checks stands another one, of the same stream: with a place that is too short for a report or a refusal,
+//! or for a standard that there is none of.
+
+use crate::entry;
+use crate::place::{Left, Place};
+use crate::run::{Owed, Run};
+use oracle::answers::number;
+use oracle::check::judged;
+use oracle::draw::Draw;
+use oracle::model::patched;
+use original::vbv::VbvStandard;
+
+const REPORT: usize = 40;
+const RECORD: usize = 32;
+const REFUSAL: usize = 32;
+
+const CHECKS: [&str; 2] = ["checks of MPEG-1 streams", "checks of MPEG-2 streams"];
+const STOPPED: &str = "checks stopped before the stream";
+const PATCHES: &str = "patches";
+
+const ANSWERS: [&str; 15] = [
+    "accepted",
+    "accepted, with bytes behind the records",
+    "refused 1",
+    "refused 2",
+    "refused 3",
+    "refused 4",
+    "refused 5",
+    "refused 6",
+    "refused 7",
+    "refused 8",
+    "refused 9",
+    "refused 10",
+    "refused 11",
+    "refused 12",
+    "refused 15",
+];
+/// What stops a check, in the order in which it is tested.
+const STOPS: [&str; 7] = [
+    "19: a short place, with no such standard",
+    "19: both places short",
+    "19: a short report place",
+    "19: a short refusal place",
+    "12: standard 0",
+    "12: standard 3",
+    "12: another standard",
+];
+
+/// What has to be met.
+pub const OWED: [Owed; 4] = [
+    (CHECKS[0], &ANSWERS),
+    (CHECKS[1], &ANSWERS),
+    (STOPPED, &STOPS),
+    (PATCHES, &["patched", "20: fewer than 8 bytes", "20: no picture start code"]),
+];
+
+/// A check as C asks for it.
+#[derive(Clone)]
+struct Check<'a> {
+    stream: &'a [u8],
+    standard: u8,
+    report: Vec<u8>,
+    records: Vec<u8>,
+    refusal: Vec<u8>,
+}
+
+/// What stops a check before it looks at the stream.
+fn stop(c: &Check) -> Option<(u64, &'static str)> {
+    let (report, refusal) = (c.report.len() < REPORT, c.refusal.len() < REFUSAL);
+    let no_standard = !(1..=2).contains(&c.standard);
+    let short = [no_standard && (report || refusal), report && refusal, report, refusal];
+    let none = [c.standard == 0, c.standard == 3, no_standard];
+    let at = short.into_iter().chain(none).position(|stops| stops)?;
+    Some((if at < short.len() { 19 } else { 12 }, STOPS[at]))
+}
+
+/// What is expected of a check, and what it is counted as.
+fn expected(c: &Check) -> (Left, &'static str, String) {
+    let mut left = Left::before(&[("report", &c.report), ("records", &c.records), ("refusal", &c.refusal)]);
+    if let Some((number, why)) = stop(c) {
+        left.number = number;
+        return (left.with("refusal", &[number, 0, 0, 0]), STOPPED, why.into());
+    }
+    let standard = if c.standard == 1 { VbvStandard::Mpeg1 } else { VbvStandard::Mpeg2 };
+    let what = CHECKS[usize::from(c.standard) - 1];
+    let ((number, _), words) = judged(standard, c.stream, left.at("records"));
+    if number == 0 {
+        let more = RECORD * (words[2] as usize) < c.records.len();
+        return (left.with("report", &words), what, ANSWERS[usize::from(more)].into());
+    }
+    left.number = number.into();
+    let refusal = [number.into(), words[0], words[1], words[2]];
+    (left.with("refusal", &refusal), what, format!("refused {number}"))
+}
+
+/// The entry's own.
+fn checked(c: &Check, d: &mut Draw) -> Left {
+    let mut stream = Place::new(c.stream, d);
+    let [mut report, mut records, mut refusal] = [&c.report, &c.records, &c.refusal].map(|bytes| Place::new(bytes, d));
+    let number = unsafe {
+        entry::vbv_check(
+            stream.at(),
+            stream.len,
+            c.standard,
+            report.at(),
+            report.len,
+            records.at(),
+            records.len,
+            refusal.at(),
+            refusal.len,
+        )
+    };
+    let written = [("report", &report), ("records", &records), ("refusal", &refusal)];
+    Left::after(number, &written, &[(&stream, c.stream)])
+}
+
+/// The same check with something about it that is out of range.
+fn odd<'a>(c: &Check<'a>, d: &mut Draw) -> Check<'a> {
+    let mut c = c.clone();
+    let which = d.below(4);
+    if which == 0 || which == 2 {
+        c.report.truncate(d.below(REPORT));
+    }
+    if which == 1 || which == 2 {
+        c.refusal.truncate(d.below(REFUSAL));
+    }
+    if which == 3 || d.one_in(4) {
+        c.standard = [0, 3, 3 + d.below(253) as u8][d.below(3)];
+    }
+    c
+}
+
+fn patched_in_place(picture: &[u8], delay: u16, d: &mut Draw) -> Left {
+    let mut place = Place::new(picture, d);
+    let number = unsafe { entry::vbv_patch_delay(place.at(), place.len, delay) };
+    Left::after(number, &[("picture", &place)], &[])
+}
+
+impl Run {
+    fn check(&mut self, c: &Check) {
+        let (expected, what, why) = expected(c);
+        let found = checked(c, &mut self.d);
+        self.met(what, &why, &found, &expected);
+    }
+
+    /// One stream: the input has the length of its records place in front.
+    pub fn stream(&mut self, standard: u8, input: &[u8]) {
+        let (part, stream) = input.split_at(2);
+        let d = &mut self.d;
+        let [report, refusal] = [REPORT, REFUSAL].map(|n| n + d.below(3) * d.below(16));
+        let [report, records, refusal] = [report, number(part) as usize, refusal].map(|n| d.bytes(n));
+        let c = Check { stream, standard, report, records, refusal };
+        if self.d.one_in(4) {
+            let odd = odd(&c, &mut self.d);
+            self.check(&odd);
+        }
+        self.check(&c);
+    }
+
+    /// One header to patch: the input has the delay in front.
+    pub fn header(&mut self, input: &[u8]) {
+        let (delay, picture) = input.split_at(2);
+        let answer = patched(input).bytes;
+        let mut expected = Left::before(&[("picture", &answer[1..])]);
+        expected.number = answer[0].into();
+        let why = match answer[0] {
+            0 => "patched",
+            _ if picture.len() < 8 => "20: fewer than 8 bytes",
+            _ => "20: no picture start code",
+        };
+        let found = patched_in_place(picture, number(delay) as u16, &mut self.d);
+        self.met(PATCHES, why, &found, &expected);
+    }
+}

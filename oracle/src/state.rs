@@ -1,0 +1,64 @@
+//! A writer's state as bytes, read and written by docs/LAYOUT.md and docs/DECISIONS.md alone.
+
+use crate::model::{FAR, MOST_BUFFER, MOST_FRD, MOST_FRN, MOST_RATE};
+use crate::writer::Writer;
+
+pub const WORDS: usize = 19;
+pub const BYTES: usize = 8 * WORDS;
+
+/// The words of a writer.
+pub fn words(w: &Writer) -> [u64; WORDS] {
+    let [whole, rest, end, removed] = w.model();
+    let [i, p, b] = w.targets;
+    let [q_i, q_p, q_b] = w.q.map(u64::from);
+    let (kind, q) = w.pending.map_or((0, 0), |(kind, q)| (kind as u64 + 1, q.into()));
+    let params = [w.rate, w.buffer, w.frn, w.frd].map(|n| n as u64);
+    let [rate, buffer, frn, frd] = params;
+    let (started, finished) = (w.started.into(), w.finished.into());
+    [rate, buffer, frn, frd, whole, rest, end, removed, started, i, p, b, q_i, q_p, q_b, kind, q, w.stuffing, finished]
+}
+
+/// The words that bytes begin with.
+pub fn words_of(bytes: &[u8]) -> Option<[u64; WORDS]> {
+    let bytes = bytes.get(..BYTES)?;
+    Some(std::array::from_fn(|k| u64::from_le_bytes(bytes[8 * k..8 * k + 8].try_into().unwrap())))
+}
+
+/// The greatest value of each word, beside the others.
+pub fn limits(s: &[u64; WORDS]) -> [u64; WORDS] {
+    let buffer = (65_534 * u128::from(s[0]) / 90_000).min(MOST_BUFFER.into()) as u64;
+    let rest = (180_000 * u128::from(s[2])).saturating_sub(1) as u64;
+    let bytes = s[6] / 8;
+    let q = if s[15] == 0 { 0 } else { 31 };
+    [MOST_RATE, buffer, MOST_FRN, MOST_FRD, 1 << 55, rest, FAR, bytes, 1, FAR, FAR, FAR, 31, 31, 31, 3, q, bytes, 1]
+}
+
+/// The least value of each word.
+fn least(s: &[u64; WORDS]) -> [u64; WORDS] {
+    let q = (s[15] != 0).into();
+    [1, 1, 1, 1, 0, 0, 0, 0, 0, 0, 0, 0, 1, 1, 1, 0, q, 0, 0]
+}
+
+/// The writer that bytes hold: none, where they are too few or a value is out of its range.
+pub fn held(bytes: &[u8]) -> Option<Writer> {
+    let s = words_of(bytes)?;
+    let (least, limits) = (least(&s), limits(&s));
+    if (0..WORDS).any(|k| s[k] < least[k] || limits[k] < s[k]) || s[6] % 8 != 0 {
+        return None;
+    }
+    Some(Writer {
+        rate: s[0].into(),
+        buffer: s[1].into(),
+        frn: s[2].into(),
+        frd: s[3].into(),
+        targets: [s[9], s[10], s[11]],
+        q: [s[12], s[13], s[14]].map(|q| q as u8),
+        pending: (s[15] != 0).then(|| (s[15] as usize - 1, s[16] as u8)),
+        started: s[8] == 1,
+        delivered: 180_000 * u128::from(s[2]) * u128::from(s[4]) + u128::from(s[5]),
+        end: s[6].into(),
+        placed: s[7],
+        stuffing: s[17],
+        finished: s[18] == 1,
+    })
+}
