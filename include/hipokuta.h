@@ -1,9 +1,10 @@
-/* Hipokuta: a proved check of MPEG video against the buffer model of ISO/IEC 13818-2, Annex C (constant rate).
+/* Hipokuta: the buffer model of ISO/IEC 13818-2, Annex C, at a constant rate, proved: the check of an MPEG stream, and the
+ * writer of an MPEG-2 one.
  *
  * Numbers in lent bytes are 64-bit words, low byte first; docs/LAYOUT.md has each layout byte by byte. Pointers need no
  * alignment. A null pointer may stand with the length 0, and with no other. What a call may write must not overlap
- * anything else that the same call is lent. Nothing is kept between calls, no memory is allocated, and calls may run at
- * the same time on different memory.
+ * anything else that the same call is lent. Nothing is kept between calls but what the caller holds, no memory is
+ * allocated, and calls may run at the same time on different memory.
  */
 #ifndef HIPOKUTA_H
 #define HIPOKUTA_H
@@ -43,6 +44,56 @@ uint64_t vbv_check(const uint8_t *stream, size_t stream_len, uint8_t standard,
  * with nothing changed where there are fewer than 8 bytes or they do not begin 00 00 01 00.
  */
 uint64_t vbv_patch_delay(uint8_t *picture, size_t picture_len, uint16_t vbv_delay);
+
+/* Bytes of a writer's state, and of the answer to an offer. */
+#define CBR_STATE_BYTES 152
+#define CBR_ANSWER_BYTES 72
+
+/* Kinds of picture; the interval from a picture's removal to the next one's; how an answer came out. */
+#define CBR_I 0
+#define CBR_P 1
+#define CBR_B 2
+#define CBR_FIELD 1
+#define CBR_FRAME 2
+#define CBR_PLACED 0
+#define CBR_AGAIN 1
+#define CBR_REFUSED 2
+
+/* Makes a writer of constant rate in state. Returns 0, or a refusal with state untouched: 19 where state_len is under 152,
+ * 12 where a value is out of range, 6 where frame_rate_code is not 1 to 8, 12 where the buffer lasts longer than 65,534
+ * ticks of 1/90,000 s.
+ *
+ * The rate is bit_rate_value (1 to 262,143) times 400 bits a second, the buffer vbv_buffer_size_value (1 to 1,023) times
+ * 16,384 bits. quantiser (1 to 31) is where all kinds start. b_between (0 to 15) B pictures between anchors and
+ * anchors_per_gop (1 to 255) set the targets that the quantisers are steered by, and nothing else.
+ */
+uint64_t cbr_create(uint32_t bit_rate_value, uint16_t vbv_buffer_size_value, uint8_t frame_rate_code, uint8_t quantiser,
+                    uint8_t b_between, uint8_t anchors_per_gop,
+                    uint8_t *state, size_t state_len);
+
+/* Offers a picture: headers to stand before it (may be none; until a picture is placed each offer brings a sequence header
+ * and its extension, and after that none does), and its layer, from the picture start code to the end of the slices; the
+ * delay in it may be anything. last is 1 for the stream's last picture, else 0. Returns 0, or the number of the refusal.
+ *
+ * answer holds outcome, number, picture, coded, expected, quantiser, delay, bytes, stuffing; unused words are 0.
+ * CBR_PLACED: the first bytes of out are the stream's next ones, stuffing zeros among them; quantiser is the one placed
+ * with. state has gone on.
+ * CBR_AGAIN (also 0): too large; encode this picture again with quantiser and offer that, or withdraw it. out is untouched.
+ * CBR_REFUSED: number is the value returned. state and out are untouched, but that 21 closes the pending picture.
+ * An out_len of 2,048 times vbv_buffer_size_value is always enough.
+ *
+ * State bytes that hold no writer are 12, before anything else; an answer_len under 72 is 19, with nothing touched; any
+ * other kind, interval or last is 12; then 17, 18, 20, 14, 7, 9, too large (21 at quantiser 31), 22, 19.
+ */
+uint64_t cbr_offer(uint8_t *state, size_t state_len,
+                   const uint8_t *headers, size_t headers_len,
+                   uint8_t kind, uint8_t interval, uint8_t last,
+                   const uint8_t *layer, size_t layer_len,
+                   uint8_t *out, size_t out_len,
+                   uint8_t *answer, size_t answer_len);
+
+/* Gives up the picture that is wanted again, if there is one. Returns 0, or 12 where the bytes hold no writer. */
+uint64_t cbr_withdraw(uint8_t *state, size_t state_len);
 
 #ifdef __cplusplus
 }

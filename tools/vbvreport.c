@@ -2,15 +2,16 @@
 #define _POSIX_C_SOURCE 200809L
 #include "hipokuta.h"
 #include "plot.h"
+#include "report.h"
+#include "stream.h"
 
 #include <errno.h>
-#include <fcntl.h>
 #include <inttypes.h>
 #include <stdlib.h>
 #include <string.h>
-#include <sys/mman.h>
-#include <sys/stat.h>
 #include <unistd.h>
+
+const char program[] = "vbvreport";
 
 enum { ACCEPTED = 0, REFUSED = 1, TROUBLE = 2 };
 
@@ -30,112 +31,12 @@ static const char help[] =
     "\n"
     "Exit status: 0 accepted, 1 refused, 2 bad use or a file that cannot be read or written.\n";
 
-/* What the refusals of a check are called, and what each means for the cabin set. */
-static const struct {
-    const char *name, *meaning;
-} refusals[] = {
-    [1] = { "bytes end inside a header", "The stream breaks off. A set waits for bytes that do not come; copy or capture it again." },
-    [2] = { "bad header value",
-            "A header holds what its standard forbids. A set may skip it or show nothing. A stream of the other standard\n"
-            "  looks like this too: see -1 and -2." },
-    [3] = { "no sequence header", "A set cannot learn size, rate or buffer from this stream and shows nothing." },
-    [4] = { "no picture", "There is nothing that a set could show." },
-    [5] = { "first delay 0xFFFF",
-            "The stream does not claim a constant rate, so no set can tell from it when to start, and no buffer is promised." },
-    [6] = { "frame rate code", "The frame rate is none that the standard knows. A set cannot tell when to show a picture." },
-    [7] = { "position beyond delivered bits",
-            "A picture begins only after the time at which it is due. A set has run dry: the picture freezes." },
-    [8] = { "delay above 0xFFFE", "A picture waits longer than its delay field can say. A set that tunes in there starts wrong." },
-    [9] = { "overflow", "The set's buffer is more than full before this picture is removed. Bytes are lost and pictures smear." },
-    [10] = { "underflow", "This picture is not whole in the set's buffer when it is due. The picture freezes or breaks up." },
-    [11] = { "delay mismatch",
-             "The picture's delay is not the time at which it is due. A set that tunes in there starts too early or too late,\n"
-             "  and its buffer overflows or runs dry later." },
-    [12] = { "parameter out of range",
-             "The declared rate or buffer is zero, or the buffer takes longer to fill than a delay field can say. No set can be\n"
-             "  held to it." },
-    [14] = { "stream too long", "The stream has more than 2^48 bits. Check it in parts." },
-};
-
-struct stream {
-    const uint8_t *bytes;
-    size_t length;
-};
-
-struct refusal {
-    uint64_t number, picture, coded, expected;
-};
-
-/* The next 00 00 01 at or after `at`, with a byte behind it; the length where there is none. */
-static size_t next_code(const struct stream *s, size_t at)
-{
-    for (; at + 4 <= s->length; at++)
-        if (s->bytes[at] == 0 && s->bytes[at + 1] == 0 && s->bytes[at + 2] == 1)
-            return at;
-    return s->length;
-}
-
 /* MPEG-2 has a sequence extension (B5, its first four bits 1) right behind the sequence header (B3), MPEG-1 has none. */
 static uint8_t told_standard(const struct stream *s)
 {
-    size_t at = next_code(s, 0);
-    while (at < s->length && s->bytes[at + 3] != 0xB3)
-        at = next_code(s, at + 4);
+    size_t at = find_code(s, SEQUENCE);
     at = next_code(s, at < s->length ? at + 4 : at);
-    return at + 5 <= s->length && s->bytes[at + 3] == 0xB5 && s->bytes[at + 4] >> 4 == 1 ? VBV_MPEG2 : VBV_MPEG1;
-}
-
-/* Record places that suffice: no more pictures than picture start codes. */
-static size_t places(const struct stream *s)
-{
-    size_t count = 0;
-    for (size_t at = next_code(s, 0); at < s->length; at = next_code(s, at + 4))
-        count += s->bytes[at + 3] == 0;
-    return count;
-}
-
-static int trouble(const char *name, const char *what)
-{
-    fprintf(stderr, "vbvreport: %s: %s\n", name, what);
-    return TROUBLE;
-}
-
-/* Maps a file. An empty one is no bytes, and no memory. */
-static int map(const char *name, struct stream *s)
-{
-    struct stat about;
-    int file = open(name, O_RDONLY);
-    if (file < 0)
-        return trouble(name, strerror(errno));
-    int bad = fstat(file, &about) != 0;
-    if (!bad && !S_ISREG(about.st_mode)) {
-        close(file);
-        return trouble(name, "not a file");
-    }
-    s->length = bad ? 0 : (size_t)about.st_size;
-    void *bytes = s->length > 0 ? mmap(NULL, s->length, PROT_READ, MAP_PRIVATE, file, 0) : NULL;
-    bad = bad || bytes == MAP_FAILED;
-    s->bytes = bytes;
-    if (bad)
-        trouble(name, strerror(errno));
-    close(file);
-    return bad ? TROUBLE : 0;
-}
-
-static void share(const char *name, uint64_t bits, uint64_t buffer, const char *words)
-{
-    double percent = 100.0 * (double)bits / (double)buffer;
-    printf("  %-12s %12" PRIu64 "  bits: %s (%.1f %% of the buffer)\n", name, bits, words, percent);
-}
-
-static void print_report(const struct report *r)
-{
-    printf("  %-12s %12" PRIu64 "  bits a second\n", "bit_rate", r->bit_rate);
-    printf("  %-12s %12" PRIu64 "  bits: what the set's buffer holds\n", "buffer_bits", r->buffer_bits);
-    printf("  %-12s %12" PRIu64 "\n", "pictures", r->pictures);
-    share("min_after", r->min_after, r->buffer_bits, "the least left after a removal");
-    share("max_before", r->max_before, r->buffer_bits, "the most held before a removal");
-    printf("  By the model, a set with this buffer never overflows and never runs dry on this stream.\n");
+    return at + 5 <= s->length && code_at(s, at) == EXTENSION && s->bytes[at + 4] >> 4 == 1 ? VBV_MPEG2 : VBV_MPEG1;
 }
 
 static void print_records(const struct report *report, const struct record *records)
@@ -148,11 +49,11 @@ static void print_records(const struct report *report, const struct record *reco
 
 static void print_refusal(const struct refusal *r)
 {
-    printf("  refusal %" PRIu64 ": %s\n", r->number, refusals[r->number].name);
+    printf("  refusal %" PRIu64 ": %s\n", r->number, refusal_name(r->number));
     if (9 <= r->number && r->number <= 11)
         printf("  picture %" PRIu64 " (the first is 0), coded delay %" PRIu64 ", expected delay %" PRIu64 "\n", r->picture,
                r->coded, r->expected);
-    printf("  %s\n", refusals[r->number].meaning);
+    printf("  %s\n", refusal_meaning(r->number));
 }
 
 static int draw(const char *to, const char *name, const struct report *report, const struct record *records)
@@ -172,7 +73,7 @@ static int check(const char *name, const struct stream *s, uint8_t standard, int
 {
     struct report report;
     struct refusal refusal;
-    size_t count = places(s);
+    size_t count = picture_codes(s);
     struct record *records = calloc(count + 1, sizeof *records);
     if (records == NULL)
         return trouble(name, "no memory for its records");
@@ -187,7 +88,7 @@ static int check(const char *name, const struct stream *s, uint8_t standard, int
             print_records(&report, records);
         if (picture != NULL)
             status = draw(picture, name, &report, records);
-    } else if (refusal.number < sizeof refusals / sizeof *refusals && refusals[refusal.number].name != NULL) {
+    } else if (refusal.number < 15 && refusal_name(refusal.number) != NULL) {
         print_refusal(&refusal);
         if (picture != NULL)
             fprintf(stderr, "vbvreport: %s: not drawn, since the stream is refused\n", picture);

@@ -1,9 +1,10 @@
-/* Calls the two entries as C firmware would, and holds every byte of every lent place to what it must be afterwards.
- * Each place is memory of its own of just its length, so that valgrind sees a byte too far. Exit status 1: something differs. */
+/* Calls the check and the patch as C firmware would, and holds every byte of every lent place to what it must be afterwards.
+ * Exit status 1: something differs. */
 #define _DEFAULT_SOURCE
 #include "hipokuta.h"
+#include "places.h"
+#include "stream.h"
 
-#include <inttypes.h>
 #include <stdio.h>
 #include <stdlib.h>
 #include <string.h>
@@ -11,28 +12,17 @@
 
 enum { MOST_PICTURES = 2, WORDS = 4 * MOST_PICTURES };
 
-/* 16 by 16, 25 frames, 1,000,000 bits a second, buffer 327,680 bits, for either standard; MPEG-2's extension; a group. */
-#define SEQUENCE "000001B301001013027120A0"
-#define EXTENSION "000001B5148200010000"
-#define GROUP "000001B800080040"
 /* 182,400 bits a second and a buffer of 131,072 bits, 64,673 ticks; 22,800 bits a second and 16,384 bits. */
 #define SLOW "000001B30100101300722040"
 #define SLOWEST "000001B301001013000E6008"
 /* Picture headers of I pictures, by their delay. */
 #define I_0 "0000010000080000"
 #define I_400 "0000010000080C80"
-#define I_22118 "00000100000AB330"
 #define I_23901 "00000100000AEAE8"
 #define I_25701 "00000100000B2328"
 #define I_25708 "00000100000B2360"
 #define I_30000 "00000100000BA980"
 #define I_64000 "00000100000FD000"
-#define I_FFFF "00000100000FFFF8"
-/* A slice; before it, in MPEG-2, the coding extension of a frame, a top field, a bottom field. */
-#define SLICE "000001011234"
-#define FRAME "000001B58FFFF34180" SLICE
-#define TOP "000001B58FFFF14180" SLICE
-#define BOTTOM "000001B58FFFF24180" SLICE
 #define TEN "40404040404040404040"
 #define FIFTY TEN TEN TEN TEN TEN
 #define USER_DATA "000001B2" FIFTY FIFTY FIFTY FIFTY
@@ -78,66 +68,6 @@ static const struct known refused[] = {
     { "22,400 bits a second, buffer 16,384", "000001B301001013000E2008" I_0 SLICE, 1, { 12 }, { 0 }, { 0 } },
 };
 
-#define COUNT(table) (sizeof(table) / sizeof *(table))
-
-static int calls, failed;
-static int met[256];
-
-static void fail(const char *name, const char *what)
-{
-    printf("entries: %s: %s\n", name, what);
-    failed++;
-}
-
-/* A lent place: memory of just that length (none for 0), filled, with what it must hold afterwards. */
-struct place {
-    size_t length;
-    uint8_t *bytes, *expected;
-};
-
-static uint8_t *memory(size_t length)
-{
-    uint8_t *bytes = length > 0 ? malloc(length) : NULL;
-    if (length > 0 && bytes == NULL)
-        exit(2);
-    return bytes;
-}
-
-static struct place lend(size_t length)
-{
-    struct place p = { length, memory(length), memory(length) };
-    for (size_t i = 0; i < length; i++)
-        p.bytes[i] = p.expected[i] = (uint8_t)(i * 7 + 3);
-    return p;
-}
-
-/* Low byte first. */
-static void expect_words(struct place *p, const uint64_t *words, size_t count)
-{
-    for (size_t i = 0; i < 8 * count; i++)
-        p->expected[i] = (uint8_t)(words[i / 8] >> 8 * (i % 8));
-}
-
-static void take_back(struct place *p, const char *name, const char *what)
-{
-    if (p->length > 0 && memcmp(p->bytes, p->expected, p->length) != 0)
-        fail(name, what);
-    free(p->bytes);
-    free(p->expected);
-}
-
-/* The bytes of a line of hexadecimal digits, in memory of just their length. */
-static uint8_t *bytes_of(const char *hex, size_t *length)
-{
-    *length = strlen(hex) / 2;
-    uint8_t *bytes = memory(*length);
-    for (size_t i = 0; i < *length; i++) {
-        char digits[3] = { hex[2 * i], hex[2 * i + 1], 0 };
-        bytes[i] = (uint8_t)strtoul(digits, NULL, 16);
-    }
-    return bytes;
-}
-
 /* One call with places of these lengths: its value, and every byte of every place. */
 static void check(const struct known *k, size_t report_length, size_t records_length, size_t refusal_length)
 {
@@ -154,12 +84,7 @@ static void check(const struct known *k, size_t report_length, size_t records_le
     }
     uint64_t answer = vbv_check(stream, length, k->standard, report.bytes, report.length, records.bytes, records.length,
                                 refusal.bytes, refusal.length);
-    calls++;
-    met[answer & 255] = 1;
-    if (answer != k->refusal[0]) {
-        fail(k->name, "another answer");
-        printf("    %" PRIu64 " in place of %" PRIu64 "\n", answer, k->refusal[0]);
-    }
+    answered(k->name, answer, k->refusal[0]);
     take_back(&same, k->name, "the stream has changed");
     take_back(&report, k->name, "the report's place");
     take_back(&records, k->name, "the records' place");
@@ -226,11 +151,9 @@ static void check_too_long(void)
     struct place report = lend(VBV_REPORT_BYTES), records = lend(64), refusal = lend(VBV_REFUSAL_BYTES);
     uint64_t expected[4] = { 14, 0, 0, 0 };
     expect_words(&refusal, expected, 4);
-    if (vbv_check(stream, length, VBV_MPEG2, report.bytes, report.length, records.bytes, records.length, refusal.bytes,
-                  refusal.length) != 14)
-        fail("a stream above 2^48 bits", "another answer");
-    calls++;
-    met[14] = 1;
+    uint64_t answer = vbv_check(stream, length, VBV_MPEG2, report.bytes, report.length, records.bytes, records.length,
+                                refusal.bytes, refusal.length);
+    answered("a stream above 2^48 bits", answer, 14);
     take_back(&report, "a stream above 2^48 bits", "the report's place");
     take_back(&records, "a stream above 2^48 bits", "the records' place");
     take_back(&refusal, "a stream above 2^48 bits", "the refusal's place");
@@ -244,10 +167,7 @@ static void patch(const char *name, const char *hex, uint16_t delay, uint64_t nu
     picture.bytes = bytes_of(hex, &picture.length);
     picture.expected = bytes_of(afterwards, &picture.length);
     uint64_t answer = vbv_patch_delay(picture.bytes, picture.length, delay);
-    calls++;
-    met[answer & 255] = 1;
-    if (answer != number)
-        fail(name, "another answer");
+    answered(name, answer, number);
     take_back(&picture, name, "the picture's bytes");
 }
 
@@ -270,10 +190,11 @@ static void check_delays(void)
 {
     uint8_t *picture = memory(8);
     memcpy(picture, "\0\0\1\0\xA5\xFF\x5A\xFF", 8);
-    for (unsigned delay = 0; delay <= 0xFFFF; delay++, calls++) {
+    for (unsigned delay = 0; delay <= 0xFFFF; delay++) {
         uint64_t answer = vbv_patch_delay(picture, 8, (uint16_t)delay);
         unsigned read = (picture[5] & 7u) << 13 | picture[6] * 32u | picture[7] >> 3;
-        if (answer != 0 || read != delay || picture[4] != 0xA5 || picture[5] >> 3 != 31 || (picture[7] & 7) != 7)
+        answered("a delay", answer, 0);
+        if (read != delay || picture[4] != 0xA5 || picture[5] >> 3 != 31 || (picture[7] & 7) != 7)
             fail("a delay", "not read back, or another bit changed");
     }
     free(picture);
@@ -291,14 +212,5 @@ int main(void)
     check_too_long();
     check_patches();
     check_delays();
-
-    for (size_t i = 0; i < COUNT(needed); i++)
-        if (!met[needed[i]])
-            fail("the refusals", "one was not met");
-    printf("entries: %d calls, answers", calls);
-    for (int i = 0; i < 256; i++)
-        if (met[i])
-            printf(" %d", i);
-    printf(", %d failed\n", failed);
-    return failed > 0;
+    return summary("entries", needed, COUNT(needed));
 }

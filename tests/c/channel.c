@@ -1,0 +1,236 @@
+#include "channel.h"
+#include "places.h"
+#include "stream.h"
+
+#include <stdlib.h>
+#include <string.h>
+
+enum { OUT = 2048 * 20 };
+
+uint8_t layers[3][3][MOST_BYTES], later[MOST_BYTES];
+
+void is(const char *name, uint64_t value, uint64_t expected)
+{
+    if (value != expected)
+        fail(name, "not so");
+}
+
+/* The bytes of the digits, then bytes of no start code. */
+static void fill(uint8_t *bytes, const char *hex)
+{
+    size_t length;
+    uint8_t *start = bytes_of(hex, &length);
+    memset(bytes, 0x40, MOST_BYTES);
+    memcpy(bytes, start, length);
+    free(start);
+}
+
+void prepare(void)
+{
+    fill(layers[CBR_I][CBR_FRAME], I_FFFF FRAME);
+    fill(layers[CBR_P][CBR_FRAME], P_FFFF FRAME);
+    fill(layers[CBR_B][CBR_FRAME], B_FFFF FRAME);
+    fill(layers[CBR_I][CBR_FIELD], I_FFFF TOP);
+    fill(layers[CBR_P][CBR_FIELD], P_FFFF BOTTOM);
+    fill(layers[CBR_B][CBR_FIELD], B_FFFF TOP);
+    fill(later, GROUP "000001B2");
+}
+
+static void words_of(const uint8_t *bytes, uint64_t *words, size_t count)
+{
+    memset(words, 0, 8 * count);
+    for (size_t i = 0; i < 8 * count; i++)
+        words[i / 8] |= (uint64_t)bytes[i] << 8 * (i % 8);
+}
+
+uint64_t create(const struct config *c, uint8_t *state, size_t length)
+{
+    return cbr_create(c->rate, c->buffer, c->code, c->quantiser, c->between, c->anchors, state, length);
+}
+
+struct channel *open_channel(const struct config *config)
+{
+    struct channel *c = calloc(1, sizeof *c);
+    if (c == NULL)
+        exit(2);
+    uint8_t *state = memory(CBR_STATE_BYTES);
+    answered("a new writer", create(config, state, CBR_STATE_BYTES), 0);
+    words_of(state, c->state, STATE_WORDS);
+    memcpy(c->declared, c->state, sizeof c->declared);
+    free(state);
+    fill(c->headers, SEQUENCE EXTENSION GROUP "000001B2");
+    uint32_t fields = config->rate << 14 | 1 << 13 | (uint32_t)config->buffer << 3;
+    c->headers[7] = (uint8_t)(0x10 | config->code);
+    for (int i = 0; i < 4; i++)
+        c->headers[8 + i] = (uint8_t)(fields >> (24 - 8 * i));
+    return c;
+}
+
+struct offer picture(const struct channel *c, uint8_t kind, uint8_t interval, size_t length)
+{
+    struct offer o = { CBR_STATE_BYTES, later, 0, PLAIN, { 0 }, kind, interval, 0, layers[kind][interval], length, 1, OUT,
+                       CBR_ANSWER_BYTES };
+    if (!c->state[STARTED]) {
+        o.headers = c->headers;
+        o.headers_length = 30;
+        o.are = FIRST;
+        memcpy(o.declared, c->declared, sizeof o.declared);
+    }
+    return o;
+}
+
+struct offer frame(const struct channel *c, uint8_t kind, size_t length)
+{
+    return picture(c, kind, CBR_FRAME, length);
+}
+
+static struct place copy_of(const uint8_t *bytes, size_t length)
+{
+    struct place p = lend(length);
+    if (length > 0) {
+        memcpy(p.bytes, bytes, length);
+        memcpy(p.expected, bytes, length);
+    }
+    return p;
+}
+
+/* The state's bytes, as many as there is room for. */
+static struct place lend_state(const uint64_t *words, size_t length)
+{
+    struct place whole = lend(length < CBR_STATE_BYTES ? CBR_STATE_BYTES : length);
+    expect_words(&whole, words, STATE_WORDS);
+    struct place p = copy_of(whole.expected, length);
+    free(whole.bytes);
+    free(whole.expected);
+    return p;
+}
+
+/* What an output part holds once the picture is placed there. */
+static void expect_placed(struct place *out, const struct offer *o, const uint64_t *answer)
+{
+    uint8_t *next = out->expected;
+    if (o->headers_length > 0)
+        memcpy(next, o->headers, o->headers_length);
+    next += o->headers_length;
+    memcpy(next, o->layer, o->layer_length);
+    vbv_patch_delay(next, o->layer_length, (uint16_t)answer[DELAY]);
+    next += o->layer_length;
+    memset(next, 0, answer[ZEROS]);
+    if (o->last)
+        memcpy(next + answer[ZEROS], "\0\0\1\xB7", 4);
+}
+
+/* What was handed out, behind what was before. */
+static void keep(struct channel *c, const uint64_t *answer, const uint8_t *out)
+{
+    if (answer[BYTES] > MOST_SENT - c->length || c->pictures == MOST_PICTURES)
+        exit(2);
+    memcpy(c->placed[c->pictures++], answer, 8 * ANSWER_WORDS);
+    memcpy(c->sent + c->length, out, answer[BYTES]);
+    c->length += answer[BYTES];
+}
+
+struct told offer(const char *name, struct channel *c, const struct offer *o)
+{
+    struct told t = rules_offer(c->state, o);
+    int placed = t.number == 0 && t.answer[OUTCOME] == CBR_PLACED;
+    struct place headers = copy_of(o->headers, o->headers_length), layer = copy_of(o->layer, o->layer_length);
+    struct place state = lend_state(c->state, o->state_length), out = lend(o->out_length), answer = lend(o->answer_length);
+    if (o->state_length >= CBR_STATE_BYTES)
+        expect_words(&state, t.state, STATE_WORDS);
+    if (o->answer_length >= CBR_ANSWER_BYTES)
+        expect_words(&answer, t.answer, ANSWER_WORDS);
+    if (placed)
+        expect_placed(&out, o, t.answer);
+    answered(name,
+             cbr_offer(state.bytes, state.length, headers.bytes, headers.length, o->kind, o->interval, o->last, layer.bytes,
+                       layer.length, out.bytes, out.length, answer.bytes, answer.length),
+             t.number);
+    if (o->state_length >= CBR_STATE_BYTES)
+        words_of(state.bytes, c->state, STATE_WORDS);
+    if (placed)
+        keep(c, t.answer, out.bytes);
+    if (t.number == 19 && o->answer_length >= CBR_ANSWER_BYTES)
+        is("a part of a buffer's bytes is enough", o->out_length < c->state[BUFFER] / 8, 1);
+    take_back(&headers, name, "the headers have changed");
+    take_back(&layer, name, "the layer has changed");
+    take_back(&state, name, "the state");
+    take_back(&out, name, "the output part");
+    take_back(&answer, name, "the answer's place");
+    return t;
+}
+
+void refused(const char *name, struct channel *c, struct offer o, uint64_t number)
+{
+    is(name, offer(name, c, &o).number, number);
+}
+
+void again(const char *name, struct channel *c, struct offer o, uint64_t quantiser)
+{
+    struct told t = offer(name, c, &o);
+    is(name, t.number == 0 && t.answer[OUTCOME] == CBR_AGAIN && t.answer[QUANTISER] == quantiser, 1);
+}
+
+void placed(const char *name, struct channel *c, struct offer o, uint64_t quantiser, uint64_t stuffing)
+{
+    struct told t = offer(name, c, &o);
+    is(name, t.number == 0 && t.answer[OUTCOME] == CBR_PLACED && t.answer[QUANTISER] == quantiser, 1);
+    is(name, t.answer[ZEROS], stuffing);
+}
+
+void withdraw(const char *name, struct channel *c, size_t length)
+{
+    struct place state = lend_state(c->state, length);
+    int holds = length >= CBR_STATE_BYTES && rules_fit(c->state);
+    if (holds) {
+        c->state[PENDING] = c->state[PENDING_Q] = 0;
+        expect_words(&state, c->state, STATE_WORDS);
+    }
+    answered(name, cbr_withdraw(state.bytes, state.length), holds ? 0 : 12);
+    take_back(&state, name, "the state");
+}
+
+void check_sent(const char *name, const struct channel *c)
+{
+    uint8_t report[VBV_REPORT_BYTES], refusal[VBV_REFUSAL_BYTES], *records = memory(VBV_RECORD_BYTES * MOST_PICTURES);
+    uint64_t words[5], record[4];
+    answered(name,
+             vbv_check(c->sent, c->length, VBV_MPEG2, report, sizeof report, records, VBV_RECORD_BYTES * MOST_PICTURES,
+                       refusal, sizeof refusal),
+             0);
+    words_of(report, words, 5);
+    is(name, words[0] == c->state[RATE] && words[1] == c->state[BUFFER] && words[2] == c->pictures, 1);
+    is(name, words[4] <= words[1], 1);
+    for (size_t i = 0; i < c->pictures; i++) {
+        words_of(records + VBV_RECORD_BYTES * i, record, 4);
+        is(name, record[0], c->placed[i][DELAY]);
+        is(name, record[1], c->placed[i][DELAY]);
+        is(name, record[2], 8 * c->placed[i][BYTES]);
+    }
+    free(records);
+}
+
+size_t check_least(const char *name, const struct channel *c)
+{
+    uint8_t report[VBV_REPORT_BYTES], refusal[VBV_REFUSAL_BYTES], *records = memory(VBV_RECORD_BYTES * MOST_PICTURES);
+    uint8_t *shorter = memory(c->length);
+    uint64_t words[4];
+    size_t end = 0, stuffed = 0;
+    for (size_t i = 0; i + 1 < c->pictures; i++) {
+        end += c->placed[i][BYTES];
+        if (c->placed[i][ZEROS] == 0)
+            continue;
+        memcpy(shorter, c->sent, end - 1);
+        memcpy(shorter + end - 1, c->sent + end, c->length - end);
+        answered(name,
+                 vbv_check(shorter, c->length - 1, VBV_MPEG2, report, sizeof report, records,
+                           VBV_RECORD_BYTES * MOST_PICTURES, refusal, sizeof refusal),
+                 9);
+        words_of(refusal, words, 4);
+        is(name, words[1], i + 1);
+        stuffed++;
+    }
+    free(shorter);
+    free(records);
+    return stuffed;
+}

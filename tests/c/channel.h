@@ -1,0 +1,56 @@
+/* A writer with what it has handed out. Every call is held to the rules (rules.h): its value, and every byte of every lent
+ * place. */
+#ifndef CHANNEL_H
+#define CHANNEL_H
+
+#include "hipokuta.h"
+#include "rules.h"
+
+enum { MOST_BYTES = 40000, MOST_SENT = 1 << 20, MOST_PICTURES = 400 };
+
+/* The arguments of a creation. */
+struct config {
+    uint32_t rate;
+    uint16_t buffer;
+    uint8_t code, quantiser, between, anchors;
+};
+
+/* A writer's state in words, and what it has handed out; its first headers, 30 bytes and then user data. */
+struct channel {
+    uint64_t state[STATE_WORDS], declared[4], seed;
+    uint8_t interval, headers[MOST_BYTES], sent[MOST_SENT];
+    size_t length, pictures;
+    uint64_t placed[MOST_PICTURES][ANSWER_WORDS];
+};
+
+/* Layers by kind and interval, and headers for later pictures: the first bytes of these. */
+extern uint8_t layers[3][3][MOST_BYTES], later[MOST_BYTES];
+
+/* Makes layers and headers; comes before anything else. */
+void prepare(void);
+
+void is(const char *name, uint64_t value, uint64_t expected);
+
+uint64_t create(const struct config *c, uint8_t *state, size_t length);
+
+/* A new writer, with nothing sent; to be freed. */
+struct channel *open_channel(const struct config *config);
+
+/* An offer of a layer of that length, with the headers that the channel's next picture needs, and room enough. */
+struct offer picture(const struct channel *c, uint8_t kind, uint8_t interval, size_t length);
+struct offer frame(const struct channel *c, uint8_t kind, size_t length);
+
+/* One call. The last three say besides what the rules must come to. */
+struct told offer(const char *name, struct channel *c, const struct offer *o);
+void withdraw(const char *name, struct channel *c, size_t length);
+void refused(const char *name, struct channel *c, struct offer o, uint64_t number);
+void again(const char *name, struct channel *c, struct offer o, uint64_t quantiser);
+void placed(const char *name, struct channel *c, struct offer o, uint64_t quantiser, uint64_t stuffing);
+
+/* What a channel has sent passes the check, with the delays and the bytes that the writer told. */
+void check_sent(const char *name, const struct channel *c);
+
+/* Without one of its stuffing bytes a picture makes the next one overflow: the stuffing is the least. How many had any. */
+size_t check_least(const char *name, const struct channel *c);
+
+#endif

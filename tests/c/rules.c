@@ -1,0 +1,135 @@
+#include "rules.h"
+
+#include <string.h>
+
+__extension__ typedef unsigned __int128 wide;
+
+static const uint64_t far = (uint64_t)1 << 48;
+
+static int within(uint64_t low, uint64_t high, uint64_t value)
+{
+    return low <= value && value <= high;
+}
+
+static int model_fits(const uint64_t *s)
+{
+    return within(1, 429496729200, s[RATE]) && within(1, 4294950912, s[BUFFER]) && within(1, 240000, s[FRN])
+        && within(1, 32032, s[FRD]) && (wide)90000 * s[BUFFER] <= (wide)65534 * s[RATE] && s[WHOLE] <= (uint64_t)1 << 55
+        && s[REST] < 180000 * s[FRN] && s[END] <= far && s[REMOVED] <= far && s[STARTED] <= 1;
+}
+
+int rules_fit(const uint64_t *s)
+{
+    int fits = model_fits(s) && s[END] % 8 == 0 && s[REMOVED] <= s[END] / 8 && s[STUFFING] <= s[END] / 8;
+    for (int kind = 0; kind < 3; kind++)
+        fits = fits && s[TARGETS + kind] <= far && within(1, 31, s[QUANTISERS + kind]);
+    return fits && s[PENDING] <= 3 && s[FINISHED] <= 1
+        && (s[PENDING] == 0 ? s[PENDING_Q] == 0 : within(1, 31, s[PENDING_Q]));
+}
+
+/* Bits from the stream's first; those delivered in units of 1 / (180,000 x frn) bit. */
+struct places {
+    wide unit, position, content, end, delivered, next;
+};
+
+static struct places places_of(const uint64_t *s, const struct offer *o)
+{
+    struct places p = { .unit = (wide)180000 * s[FRN] };
+    p.position = s[END] + 8 * ((wide)o->headers_length + 4);
+    p.content = s[END] + 8 * ((wide)o->headers_length + o->layer_length + (o->last ? 4 : 0));
+    p.delivered = s[WHOLE] * p.unit + s[REST];
+    if (!s[STARTED])
+        p.delivered = p.position * p.unit + (wide)90000 * s[BUFFER] * 3 / (4 * s[RATE]) * s[RATE] * 2 * s[FRN];
+    p.next = p.delivered + (wide)s[RATE] * s[FRD] * 90000 * o->interval;
+    wide arrived = (p.next + p.unit - 1) / p.unit, held = p.content + s[BUFFER];
+    p.end = p.content + (!o->last && arrived > held ? (arrived - held + 7) / 8 * 8 : 0);
+    return p;
+}
+
+static int headers_fit(const uint64_t *s, const struct offer *o)
+{
+    return s[STARTED] ? o->are == PLAIN : o->are == FIRST && memcmp(s, o->declared, sizeof o->declared) == 0;
+}
+
+/* The refusals before and behind the size; 0 where there is none. */
+static uint64_t refused_before(const uint64_t *s, const struct offer *o, const struct places *p)
+{
+    return o->kind > 2 || !within(1, 2, o->interval) || o->last > 1                ? 12
+        : s[FINISHED] || (s[PENDING] != 0 && s[PENDING] != (uint64_t)o->kind + 1) ? 17
+        : !headers_fit(s, o)                                                      ? 18
+        : !o->layer_fits                                                          ? 20
+        : p->position > far || p->end > far                                       ? 14
+        : p->position * p->unit > p->delivered                                    ? 7
+        : p->delivered > ((wide)s[END] + s[BUFFER]) * p->unit                     ? 9
+                                                                                  : 0;
+}
+
+static uint64_t refused_behind(const uint64_t *s, const struct offer *o, const struct places *p)
+{
+    return p->end * p->unit > p->delivered ? 22 : o->out_length < (p->end - s[END]) / 8 ? 19 : 0;
+}
+
+/* The kind's next quantiser. */
+static uint64_t steered(uint64_t q, uint64_t target, wide bits)
+{
+    wide counted = target > 0 ? target : 1;
+    return 5 * bits > 6 * counted ? (q < 31 ? q + 1 : 31) : 10 * bits < 7 * counted ? (q > 1 ? q - 1 : 1) : q;
+}
+
+static void place(struct told *t, const struct offer *o, const struct places *p, uint64_t q)
+{
+    uint64_t *s = t->state;
+    wide tick = (wide)2 * s[FRN] * s[RATE];
+    t->answer[QUANTISER] = q;
+    t->answer[DELAY] = (uint64_t)((p->delivered - p->position * p->unit + tick / 2) / tick);
+    t->answer[BYTES] = (uint64_t)((p->end - s[END]) / 8);
+    t->answer[ZEROS] = (uint64_t)((p->end - p->content) / 8);
+    s[WHOLE] = (uint64_t)(p->next / p->unit);
+    s[REST] = (uint64_t)(p->next % p->unit);
+    s[END] = (uint64_t)p->end;
+    s[REMOVED]++;
+    s[STARTED] = 1;
+    s[QUANTISERS + o->kind] = steered(q, s[TARGETS + o->kind], 8 * (wide)o->layer_length);
+    s[PENDING] = s[PENDING_Q] = 0;
+    s[STUFFING] += t->answer[ZEROS];
+    s[FINISHED] = o->last;
+}
+
+static void refuse(struct told *t, uint64_t number)
+{
+    t->number = t->answer[NUMBER] = number;
+    t->answer[OUTCOME] = 2;
+    if (number == 9)
+        t->answer[PICTURE] = t->state[REMOVED];
+    if (number == 21)
+        t->state[PENDING] = t->state[PENDING_Q] = 0;
+}
+
+struct told rules_offer(const uint64_t *s, const struct offer *o)
+{
+    struct told t = { .number = 0 };
+    memcpy(t.state, s, sizeof t.state);
+    int holds = o->state_length >= 8 * STATE_WORDS && rules_fit(s);
+    if (!holds || o->answer_length < 8 * ANSWER_WORDS) {
+        refuse(&t, holds ? 19 : 12);
+        return t;
+    }
+    struct places p = places_of(s, o);
+    uint64_t number = refused_before(s, o, &p), q = s[PENDING] != 0 ? s[PENDING_Q] : s[QUANTISERS + o->kind % 3];
+    if (number == 0 && p.content * p.unit > p.delivered) {
+        if (q < 31) {
+            t.state[PENDING] = (uint64_t)o->kind + 1;
+            t.answer[OUTCOME] = 1;
+            t.answer[QUANTISER] = t.state[PENDING_Q] = q + 1 + q / 4 < 31 ? q + 1 + q / 4 : 31;
+            return t;
+        }
+        number = 21;
+    } else if (number == 0) {
+        number = refused_behind(s, o, &p);
+    }
+    if (number != 0)
+        refuse(&t, number);
+    else
+        place(&t, o, &p, q);
+    return t;
+}

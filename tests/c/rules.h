@@ -1,0 +1,40 @@
+/* The writer's rules in plain numbers of 128 bits, over the words of docs/LAYOUT.md, apart from the library's code: what a
+ * call must answer and leave. Whether headers and layer are such as a writer takes is said by who made them. */
+#ifndef RULES_H
+#define RULES_H
+
+#include <stddef.h>
+#include <stdint.h>
+
+/* The words of a state, and of an answer. */
+enum { RATE, BUFFER, FRN, FRD, WHOLE, REST, END, REMOVED, STARTED, TARGETS, QUANTISERS = 12, PENDING = 15, PENDING_Q,
+       STUFFING, FINISHED, STATE_WORDS };
+enum { OUTCOME, NUMBER, PICTURE, CODED, EXPECTED, QUANTISER, DELAY, BYTES, ZEROS, ANSWER_WORDS };
+
+/* Headers that fit at no time, after the first picture, and before it. */
+enum headers { UNFIT, PLAIN, FIRST };
+
+struct offer {
+    size_t state_length;
+    const uint8_t *headers;
+    size_t headers_length;
+    enum headers are;
+    uint64_t declared[4]; /* by first headers: rate, buffer, frn, frd */
+    uint8_t kind, interval, last;
+    const uint8_t *layer;
+    size_t layer_length;
+    int layer_fits;
+    size_t out_length, answer_length;
+};
+
+/* The value returned; the answer's words; the state afterwards. */
+struct told {
+    uint64_t number, answer[ANSWER_WORDS], state[STATE_WORDS];
+};
+
+/* Whether each value is in its range. */
+int rules_fit(const uint64_t *state);
+
+struct told rules_offer(const uint64_t *state, const struct offer *o);
+
+#endif

@@ -1,0 +1,180 @@
+#include "sending.h"
+
+#include "hipokuta.h"
+
+/* A writer's state, and its answer to an offer (docs/LAYOUT.md). */
+struct writer {
+    uint64_t bit_rate, buffer_bits, frn, frd, whole, rest, prev_end_bits, removed, started;
+    uint64_t target_bits[3], q[3], pending_kind, pending_q, stuffing_bytes, finished;
+};
+
+struct answer {
+    uint64_t outcome, number, picture, coded, expected, quantiser, delay, bytes, stuffing;
+};
+
+static struct stream kept(const struct source *in, size_t from, size_t length)
+{
+    return (struct stream){ in->pictures.headers + from, length };
+}
+
+struct stream headers_of(const struct source *in, size_t n)
+{
+    return kept(in, in->pictures.of[n].headers, in->pictures.of[n].headers_length);
+}
+
+struct stream layer_of(const struct source *in, size_t n)
+{
+    const struct picture *p = in->pictures.of + n;
+    return part(&in->stream, p->layer, p->layer + p->layer_length);
+}
+
+uint64_t find_sequence(struct source *in)
+{
+    struct stream all = kept(in, 0, in->pictures.headers_length);
+    size_t at = find_code(&all, SEQUENCE);
+    if (at == all.length)
+        return 3;
+    if (at + 12 > all.length)
+        return 1;
+    in->header = at;
+    in->extension = next_code(&all, at + 4);
+    if (code_at(&all, in->extension) != EXTENSION || in->extension + 10 > all.length)
+        in->extension = all.length;
+    return in->pictures.count == 0 ? 4 : 0;
+}
+
+static uint32_t declared(const struct source *in, struct field low, struct field high)
+{
+    struct stream header = kept(in, in->header, 12);
+    struct stream extension = kept(in, in->extension, in->pictures.headers_length - in->extension);
+    return field_value(&extension, high) << low.width | field_value(&header, low);
+}
+
+struct setting complete(const struct source *in, struct setting at)
+{
+    if (at.rate == 0)
+        at.rate = declared(in, BIT_RATE, BIT_RATE_EXTENSION);
+    if (at.buffer == 0)
+        at.buffer = declared(in, VBV_BUFFER_SIZE, VBV_BUFFER_SIZE_EXTENSION);
+    return at;
+}
+
+/* Puts a setting into the first sequence header and its extension. */
+static void declare(struct source *in, struct setting at)
+{
+    uint8_t *header = in->pictures.headers + in->header, *extension = in->pictures.headers + in->extension;
+    set_field(header, BIT_RATE, at.rate);
+    set_field(header, VBV_BUFFER_SIZE, at.buffer);
+    if (in->extension < in->pictures.headers_length) {
+        set_field(extension, BIT_RATE_EXTENSION, 0);
+        set_field(extension, VBV_BUFFER_SIZE_EXTENSION, 0);
+    }
+}
+
+/* Nothing can be encoded again here, so steering does not matter: any quantiser and targets will do. */
+static uint64_t create(struct source *in, struct setting at, struct writer *w)
+{
+    struct stream header = kept(in, in->header, 12);
+    uint16_t buffer = at.buffer > UINT16_MAX ? UINT16_MAX : (uint16_t)at.buffer;
+    declare(in, at);
+    return cbr_create(at.rate, buffer, (uint8_t)field_value(&header, FRAME_RATE_CODE), 31, 2, 5, (uint8_t *)w, sizeof *w);
+}
+
+/* By the structure that the picture coding extension tells. */
+static uint8_t interval_of(const struct stream *layer)
+{
+    struct stream extension = part(layer, next_code(layer, 4), layer->length);
+    uint32_t structure = field_value(&extension, PICTURE_STRUCTURE);
+    return structure == 1 || structure == 2 ? CBR_FIELD : CBR_FRAME;
+}
+
+/* Types 1, 2, 3 are I, P, B; any other is offered as I, for the library to refuse. */
+static uint8_t kind_of(const struct stream *layer)
+{
+    uint32_t type = field_value(layer, PICTURE_CODING_TYPE);
+    return type == 2 ? CBR_P : type == 3 ? CBR_B : CBR_I;
+}
+
+/* A placed picture's bytes; none takes more than the buffer. */
+static uint8_t placed[MAX_BUFFER * (BUFFER_UNIT / 8)];
+
+/* Offers a picture; where it is wanted again, offers it again as it is, until the library gives up. */
+static uint64_t offer(const struct source *in, size_t n, struct writer *w, struct answer *a)
+{
+    struct stream headers = headers_of(in, n), layer = layer_of(in, n);
+    uint8_t last = n + 1 == in->pictures.count;
+    uint64_t number;
+    do
+        number = cbr_offer((uint8_t *)w, sizeof *w, headers.bytes, headers.length, kind_of(&layer), interval_of(&layer), last,
+                           layer.bytes, layer.length, placed, sizeof placed, (uint8_t *)a, sizeof *a);
+    while (number == 0 && a->outcome == CBR_AGAIN);
+    return number;
+}
+
+/* Bytes by which picture n ends behind what is delivered when it is due. The first is due when three quarters of the buffer
+ * have come behind its start code. */
+static uint64_t bytes_over(const struct source *in, size_t n, const struct writer *w)
+{
+    uint64_t headers = headers_of(in, n).length, last = n + 1 == in->pictures.count ? 4 : 0;
+    uint64_t end = w->prev_end_bits + 8 * (headers + layer_of(in, n).length + last);
+    uint64_t first_delay = 90000 * w->buffer_bits * 3 / (4 * w->bit_rate);
+    uint64_t delivered = w->started ? w->whole : 8 * (headers + 4) + first_delay * w->bit_rate / 90000;
+    return end > delivered ? (end - delivered + 7) / 8 : 0;
+}
+
+struct sending send_all(struct source *in, struct setting at, FILE *to)
+{
+    struct writer w;
+    struct answer a;
+    struct sending end = { .number = create(in, at, &w) };
+    while (end.number == 0 && end.picture < in->pictures.count) {
+        end.number = offer(in, end.picture, &w, &a);
+        if (end.number != 0)
+            break;
+        if (to != NULL)
+            fwrite(placed, 1, a.bytes, to);
+        end.picture++;
+    }
+    end.bytes_over = end.number == 21 ? bytes_over(in, end.picture, &w) : 0;
+    end.stuffing = end.number == 0 ? w.stuffing_bytes : 0;
+    return end;
+}
+
+int is_of_setting(uint64_t number)
+{
+    return number == 7 || number == 9 || number == 12 || number == 21 || number == 22;
+}
+
+/* Too high is only a rate that brings more than the buffer from one picture to the next (22). */
+struct setting least_rate(struct source *in, struct setting at)
+{
+    struct setting found = { 0, at.buffer };
+    for (uint32_t low = 1, high = MAX_RATE; low <= high;) {
+        at.rate = low + (high - low) / 2;
+        uint64_t number = send_all(in, at, NULL).number;
+        if (!is_of_setting(number))
+            found = at;
+        if (!is_of_setting(number) || number == 22)
+            high = at.rate - 1;
+        else
+            low = at.rate + 1;
+    }
+    return found;
+}
+
+/* Too large is only a buffer that takes longer to fill than a delay can say (12). */
+struct setting least_buffer(struct source *in, struct setting at)
+{
+    struct setting found = { at.rate, 0 };
+    for (uint32_t low = 1, high = MAX_BUFFER; low <= high;) {
+        at.buffer = low + (high - low) / 2;
+        uint64_t number = send_all(in, at, NULL).number;
+        if (!is_of_setting(number))
+            found = at;
+        if (!is_of_setting(number) || number == 12)
+            high = at.buffer - 1;
+        else
+            low = at.buffer + 1;
+    }
+    return found;
+}

@@ -1,0 +1,101 @@
+#define _POSIX_C_SOURCE 200809L
+#include "stream.h"
+
+#include <errno.h>
+#include <fcntl.h>
+#include <stdio.h>
+#include <string.h>
+#include <sys/mman.h>
+#include <sys/stat.h>
+#include <unistd.h>
+
+const struct field FRAME_RATE_CODE = { 60, 4 }, BIT_RATE = { 64, 18 }, VBV_BUFFER_SIZE = { 83, 10 };
+const struct field EXTENSION_ID = { 32, 4 }, BIT_RATE_EXTENSION = { 51, 12 }, VBV_BUFFER_SIZE_EXTENSION = { 64, 8 },
+                   FRAME_RATE_EXTENSIONS = { 73, 7 };
+const struct field PICTURE_CODING_TYPE = { 42, 3 }, FORWARD_VECTORS = { 61, 4 }, BACKWARD_VECTORS = { 65, 4 };
+const struct field PICTURE_STRUCTURE = { 54, 2 }, REPEAT_FIRST_FIELD = { 62, 1 };
+
+uint32_t field_value(const struct stream *s, struct field f)
+{
+    uint32_t value = 0;
+    if (f.at + f.width > 8 * s->length)
+        return 0;
+    for (size_t i = f.at; i < f.at + f.width; i++)
+        value = value << 1 | (s->bytes[i / 8] >> (7 - i % 8) & 1);
+    return value;
+}
+
+void set_field(uint8_t *bytes, struct field f, uint32_t value)
+{
+    for (size_t i = 0; i < f.width; i++) {
+        size_t at = f.at + f.width - 1 - i;
+        uint8_t bit = (uint8_t)(1 << (7 - at % 8));
+        bytes[at / 8] = (uint8_t)(value >> i & 1 ? bytes[at / 8] | bit : bytes[at / 8] & ~bit);
+    }
+}
+
+struct stream part(const struct stream *s, size_t from, size_t to)
+{
+    return (struct stream){ s->bytes + from, to - from };
+}
+
+size_t next_code(const struct stream *s, size_t at)
+{
+    for (; at + 4 <= s->length; at++)
+        if (s->bytes[at] == 0 && s->bytes[at + 1] == 0 && s->bytes[at + 2] == 1)
+            return at;
+    return s->length;
+}
+
+int code_at(const struct stream *s, size_t at)
+{
+    return at < s->length ? s->bytes[at + 3] : -1;
+}
+
+size_t find_code(const struct stream *s, int code)
+{
+    size_t at = next_code(s, 0);
+    while (at < s->length && code_at(s, at) != code)
+        at = next_code(s, at + 4);
+    return at;
+}
+
+int is_slice(int code)
+{
+    return 0x01 <= code && code <= 0xAF;
+}
+
+size_t picture_codes(const struct stream *s)
+{
+    size_t count = 0;
+    for (size_t at = next_code(s, 0); at < s->length; at = next_code(s, at + 4))
+        count += code_at(s, at) == PICTURE;
+    return count;
+}
+
+int trouble(const char *name, const char *what)
+{
+    fprintf(stderr, "%s: %s: %s\n", program, name, what);
+    return 2;
+}
+
+int map(const char *name, struct stream *s)
+{
+    struct stat about;
+    int file = open(name, O_RDONLY);
+    if (file < 0)
+        return trouble(name, strerror(errno));
+    int bad = fstat(file, &about) != 0;
+    if (!bad && !S_ISREG(about.st_mode)) {
+        close(file);
+        return trouble(name, "not a file");
+    }
+    s->length = bad ? 0 : (size_t)about.st_size;
+    void *bytes = s->length > 0 ? mmap(NULL, s->length, PROT_READ, MAP_PRIVATE, file, 0) : NULL;
+    bad = bad || bytes == MAP_FAILED;
+    s->bytes = bytes;
+    if (bad)
+        trouble(name, strerror(errno));
+    close(file);
+    return bad ? 2 : 0;
+}

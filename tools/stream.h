@@ -1,0 +1,56 @@
+/* A stream in memory, or a part of one: its start codes, and the fields of its headers. */
+#ifndef STREAM_H
+#define STREAM_H
+
+#include <stddef.h>
+#include <stdint.h>
+
+struct stream {
+    const uint8_t *bytes;
+    size_t length;
+};
+
+/* Codes of ISO/IEC 13818-2, Table 6-1; slices are 01 to AF. */
+enum { PICTURE = 0x00, USER_DATA = 0xB2, SEQUENCE = 0xB3, EXTENSION = 0xB5, SEQUENCE_END = 0xB7, GROUP = 0xB8 };
+
+/* A field: its first bit, counted from the start code's, and how many it has. Here those of a sequence header, its extension, a
+ * picture header and its coding extension (6.2.2.1, 6.2.2.3, 6.2.3, 6.2.3.1); vectors are a full-pel flag and its f_code. */
+struct field {
+    size_t at, width;
+};
+extern const struct field FRAME_RATE_CODE, BIT_RATE, VBV_BUFFER_SIZE;
+extern const struct field EXTENSION_ID, BIT_RATE_EXTENSION, VBV_BUFFER_SIZE_EXTENSION, FRAME_RATE_EXTENSIONS;
+extern const struct field PICTURE_CODING_TYPE, FORWARD_VECTORS, BACKWARD_VECTORS;
+extern const struct field PICTURE_STRUCTURE, REPEAT_FIRST_FIELD;
+
+/* The value of a field; 0 where the bytes end before it. */
+uint32_t field_value(const struct stream *s, struct field f);
+void set_field(uint8_t *bytes, struct field f, uint32_t value);
+
+/* The part from one place to another. */
+struct stream part(const struct stream *s, size_t from, size_t to);
+
+/* The next 00 00 01 at or after `at`, with a byte behind it; the length where there is none. */
+size_t next_code(const struct stream *s, size_t at);
+
+/* The code there; -1 at the stream's end. */
+int code_at(const struct stream *s, size_t at);
+
+/* Where a code stands first; the length where it does not. */
+size_t find_code(const struct stream *s, int code);
+
+int is_slice(int code);
+
+/* How many picture start codes there are: no fewer than pictures. */
+size_t picture_codes(const struct stream *s);
+
+/* Each program's own name. */
+extern const char program[];
+
+/* What ails a file, on standard error; returns 2, the exit status for it. */
+int trouble(const char *name, const char *what);
+
+/* Maps a file. An empty one is no bytes, and no memory. Returns 0, or 2 with the trouble told. */
+int map(const char *name, struct stream *s);
+
+#endif

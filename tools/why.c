@@ -1,0 +1,101 @@
+#include "why.h"
+
+#include <stdio.h>
+
+enum { SEQUENCE_EXTENSION = 1, PICTURE_CODING_EXTENSION = 8 };
+enum { P_PICTURE = 2, B_PICTURE = 3, D_PICTURE = 4 };
+
+static int is_header(int code)
+{
+    return code == USER_DATA || code == SEQUENCE || code == EXTENSION || code == GROUP;
+}
+
+static const char *code_name(int code)
+{
+    if (is_slice(code))
+        return "a slice outside of a picture";
+    if (code == 0xB4)
+        return "sequence error";
+    return code < 0xB9 ? "reserved" : "of a system stream, not of video";
+}
+
+/* The first code that no header has. */
+static int strange_code(const struct stream *headers)
+{
+    size_t at = next_code(headers, 0);
+    while (at < headers->length && is_header(code_at(headers, at)))
+        at = next_code(headers, at + 4);
+    return code_at(headers, at);
+}
+
+/* The first extension behind the start code at the front; no bytes where something else follows. */
+static struct stream extension_behind(const struct stream *s, uint32_t id)
+{
+    size_t at = next_code(s, 4);
+    struct stream extension = part(s, at, s->length);
+    int found = code_at(s, at) == EXTENSION && field_value(&extension, EXTENSION_ID) == id;
+    return found ? extension : part(s, s->length, s->length);
+}
+
+static const char *why_first_headers(const struct stream *headers)
+{
+    struct stream extension = extension_behind(headers, SEQUENCE_EXTENSION);
+    if (code_at(headers, 0) != SEQUENCE)
+        return "No sequence header stands before the first picture.";
+    if (extension.length == 0)
+        return "No sequence extension follows the sequence header: this is MPEG-1, and only MPEG-2 is sent.";
+    if (field_value(&extension, FRAME_RATE_EXTENSIONS) != 0)
+        return "The frame rate extensions are not 0, so that the frame rate is none of the table's eight.";
+    return "The sequence header or its extension breaks a rule of the standard, or a second one differs.";
+}
+
+void print_why_headers(const struct stream *headers, int first)
+{
+    int strange = strange_code(headers);
+    if (headers->length > 0 && next_code(headers, 0) != 0)
+        printf("  Bytes that are no header stand before the first start code.\n");
+    else if (strange >= 0)
+        printf("  There is a start code %02X among them: %s.\n", (unsigned)strange, code_name(strange));
+    else if (first)
+        printf("  %s\n", why_first_headers(headers));
+    else
+        printf("  A sequence header among them differs from the first in more than rate and buffer, or takes back quantiser\n"
+               "  matrices that a picture has brought, so it cannot be left out.\n");
+}
+
+/* Full-pel flags 0 and codes 7, where the type has them. */
+static int vectors_fit(const struct stream *layer, uint32_t type)
+{
+    int forward = field_value(layer, FORWARD_VECTORS) == 7, backward = field_value(layer, BACKWARD_VECTORS) == 7;
+    return (type != P_PICTURE && type != B_PICTURE) || (forward && (type != B_PICTURE || backward));
+}
+
+static int has_slice(const struct stream *layer)
+{
+    size_t at = next_code(layer, 0);
+    while (at < layer->length && !is_slice(code_at(layer, at)))
+        at = next_code(layer, at + 4);
+    return at < layer->length;
+}
+
+static const char *why_layer(const struct stream *layer)
+{
+    uint32_t type = field_value(layer, PICTURE_CODING_TYPE);
+    struct stream extension = extension_behind(layer, PICTURE_CODING_EXTENSION);
+    if (type == D_PICTURE)
+        return "It is a D picture, which MPEG-2 does not have.";
+    if (extension.length == 0)
+        return "No picture coding extension follows its header: it is cut off, or MPEG-1.";
+    if (field_value(&extension, REPEAT_FIRST_FIELD) != 0)
+        return "Its repeat_first_field is set: film shown at another rate is not sent.";
+    if (!vectors_fit(layer, type))
+        return "Its header's full-pel flags and vector codes are not 0 and 7, as MPEG-2 has them.";
+    if (!has_slice(layer))
+        return "It has no slice: it is cut off, or a code that no picture has stands before its slices.";
+    return "A header of it breaks a rule of the standard, or it is cut off.";
+}
+
+void print_why_layer(const struct stream *layer)
+{
+    printf("  %s\n", why_layer(layer));
+}

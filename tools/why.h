@@ -1,0 +1,10 @@
+/* Words for why the writer does not take headers (18) or a layer (20). The library has judged; this looks for the cause. */
+#ifndef WHY_H
+#define WHY_H
+
+#include "stream.h"
+
+void print_why_headers(const struct stream *headers, int first);
+void print_why_layer(const struct stream *layer);
+
+#endif
