@@ -145,36 +145,34 @@ int is_of_setting(uint64_t number)
     return number == 7 || number == 9 || number == 12 || number == 21 || number == 22;
 }
 
+/* The least value of a setting's field that carries the stream, found by halves; 0 where none does. Only the refusal
+ * too_high asks for a lower one. */
+static uint32_t least(struct source *in, struct setting *at, uint32_t *field, uint32_t most, uint64_t too_high)
+{
+    uint32_t found = 0;
+    for (uint32_t low = 1, high = most; low <= high;) {
+        *field = low + (high - low) / 2;
+        uint64_t number = send_all(in, *at, NULL).number;
+        if (!is_of_setting(number))
+            found = *field;
+        if (!is_of_setting(number) || number == too_high)
+            high = *field - 1;
+        else
+            low = *field + 1;
+    }
+    return found;
+}
+
 /* Too high is only a rate that brings more than the buffer from one picture to the next (22). */
 struct setting least_rate(struct source *in, struct setting at)
 {
-    struct setting found = { 0, at.buffer };
-    for (uint32_t low = 1, high = MAX_RATE; low <= high;) {
-        at.rate = low + (high - low) / 2;
-        uint64_t number = send_all(in, at, NULL).number;
-        if (!is_of_setting(number))
-            found = at;
-        if (!is_of_setting(number) || number == 22)
-            high = at.rate - 1;
-        else
-            low = at.rate + 1;
-    }
-    return found;
+    at.rate = least(in, &at, &at.rate, MAX_RATE, 22);
+    return at;
 }
 
 /* Too large is only a buffer that takes longer to fill than a delay can say (12). */
 struct setting least_buffer(struct source *in, struct setting at)
 {
-    struct setting found = { at.rate, 0 };
-    for (uint32_t low = 1, high = MAX_BUFFER; low <= high;) {
-        at.buffer = low + (high - low) / 2;
-        uint64_t number = send_all(in, at, NULL).number;
-        if (!is_of_setting(number))
-            found = at;
-        if (!is_of_setting(number) || number == 12)
-            high = at.buffer - 1;
-        else
-            low = at.buffer + 1;
-    }
-    return found;
+    at.buffer = least(in, &at, &at.buffer, MAX_BUFFER, 12);
+    return at;
 }
