@@ -33,19 +33,23 @@ header-number h.FrameRateCode = omega arith
 header-number h.FieldToWrite = omega arith
 header-number h.ShortOutput = omega arith
 
-pub model-number : (e : VbvError) → 1 ≤ modelNumber e
-model-number m.FrameRateCode = omega arith
-model-number m.Early = omega arith
-model-number m.DelayTooLong = omega arith
-model-number m.Params = omega arith
-model-number m.Order = omega arith
-model-number m.Range = omega arith
-model-number m.NoPicture = omega arith
+-- the model's numbers: no 0, no 19, none above 20
+model-range : (e : VbvError) → (1 ≤ modelNumber e) × (modelNumber e ≡ 19 → ⊥) × (modelNumber e ≤ 20)
+model-range m.FrameRateCode = (omega arith, λ h. omega arith, omega arith)
+model-range m.Early = (omega arith, λ h. omega arith, omega arith)
+model-range m.DelayTooLong = (omega arith, λ h. omega arith, omega arith)
+model-range m.Params = (omega arith, λ h. omega arith, omega arith)
+model-range m.Order = (omega arith, λ h. omega arith, omega arith)
+model-range m.Range = (omega arith, λ h. omega arith, omega arith)
+model-range m.NoPicture = (omega arith, λ h. omega arith, omega arith)
 
-violation-number : (v : VbvViolation) → 1 ≤ violationNumber v
-violation-number (Overflow n c e) = omega arith
-violation-number (Underflow n c e) = omega arith
-violation-number (DelayMismatch n c e) = omega arith
+pub model-number : (e : VbvError) → 1 ≤ modelNumber e
+model-number e = model-range e .0
+
+violation-range : (v : VbvViolation) → (1 ≤ violationNumber v) × (violationNumber v ≤ 11)
+violation-range (Overflow n c e) = (omega arith, omega arith)
+violation-range (Underflow n c e) = (omega arith, omega arith)
+violation-range (DelayMismatch n c e) = (omega arith, omega arith)
 
 error-number : (e : VbvVerifyError) → 1 ≤ refusalOf e .number
 error-number (Parse e) = header-number e
@@ -54,11 +58,11 @@ error-number NoSequenceHeader = omega arith
 error-number NoPictures = omega arith
 error-number VariableRate = omega arith
 error-number RecordPlaces = omega arith
-error-number (Violation v) = violation-number v
+error-number (Violation v) = violation-range v .0
 
 pub offer-number : (e : CbrError) → 1 ≤ sentRefusal e .number
 offer-number (s.Model e) = model-number e
-offer-number (s.Violation v) = violation-number v
+offer-number (s.Violation v) = violation-range v .0
 offer-number s.Kind = omega arith
 offer-number s.Headers = omega arith
 offer-number s.Layer = omega arith
@@ -67,23 +71,9 @@ offer-number s.Stuffing = omega arith
 offer-number s.Output = omega arith
 
 -- 19 of an offer is the output part, and 21 the size
-other-model : (e : VbvError) → modelNumber e ≡ 19 → ⊥
-other-model m.FrameRateCode h = omega arith
-other-model m.Early h = omega arith
-other-model m.DelayTooLong h = omega arith
-other-model m.Params h = omega arith
-other-model m.Order h = omega arith
-other-model m.Range h = omega arith
-other-model m.NoPicture h = omega arith
-
-other-violation : (v : VbvViolation) → violationNumber v ≡ 19 → ⊥
-other-violation (Overflow n c e) h = omega arith
-other-violation (Underflow n c e) h = omega arith
-other-violation (DelayMismatch n c e) h = omega arith
-
 pub only-output : (e : CbrError) → sentRefusal e .number ≡ 19 → e ≡ s.Output
-only-output (s.Model e) h = absurd (other-model e h)
-only-output (s.Violation v) h = absurd (other-violation v h)
+only-output (s.Model e) h = absurd (model-range e .1 h)
+only-output (s.Violation v) h = absurd (omega (arith, violation-range v .1))
 only-output s.Kind h = absurd (omega arith)
 only-output s.Headers h = absurd (omega arith)
 only-output s.Layer h = absurd (omega arith)
@@ -91,23 +81,9 @@ only-output s.TooLarge h = absurd (omega arith)
 only-output s.Stuffing h = absurd (omega arith)
 only-output s.Output h = refl
 
-model-most : (e : VbvError) → modelNumber e ≤ 20
-model-most m.FrameRateCode = omega arith
-model-most m.Early = omega arith
-model-most m.DelayTooLong = omega arith
-model-most m.Params = omega arith
-model-most m.Order = omega arith
-model-most m.Range = omega arith
-model-most m.NoPicture = omega arith
-
-violation-most : (v : VbvViolation) → violationNumber v ≤ 11
-violation-most (Overflow n c e) = omega arith
-violation-most (Underflow n c e) = omega arith
-violation-most (DelayMismatch n c e) = omega arith
-
 pub only-size : (e : CbrError) → sentRefusal e .number ≡ 21 → e ≡ s.TooLarge
-only-size (s.Model e) h = absurd (omega (arith, model-most e))
-only-size (s.Violation v) h = absurd (omega (arith, violation-most v))
+only-size (s.Model e) h = absurd (omega (arith, model-range e .2))
+only-size (s.Violation v) h = absurd (omega (arith, violation-range v .1))
 only-size s.Kind h = absurd (omega arith)
 only-size s.Headers h = absurd (omega arith)
 only-size s.Layer h = absurd (omega arith)

@@ -22,7 +22,7 @@ use Rattle.rate_control.specs.declared.Pending.the-variants.{Nothing}
 use Rattle.rate_control.proofs.Chain.{pick-elim}
 use Rattle.rate_control.proofs.Lists.{refused-keeps, refused-closes, room-enough}
 use Rattle.rate_control.proofs.Each.{withdraw-told}
-use Rattle.rate_control.proofs.Keeping.{refused-out, refused-unpending, withdraw-unpending, created-whole}
+use Rattle.rate_control.proofs.Keeping.{refused-out, withdraw-unpending, created-whole}
 use Rattle.layout.specs.State.{stateBytes, stateFits, writerAt}
 use Rattle.layout.specs.Words.{laid}
 use Rattle.layout.proofs.RoundTrip.{read-back, state-fits, length-state, laid-short}
@@ -88,14 +88,6 @@ module _ (s : List ℕ) (o : COffer) (b : (k : ℕ) → getD s k 0 < 256) where
       go : {a : CbrAnswer} → offer w (offerOf o) .answer ≡ a → Numbered a → outAfter w (offerOf o) ≡ o .out
       go q (numbered e) = refused-out w (offerOf o) e q
 
-  unpending-kept : {r : Reached} → Way s o r → w .pending ≡ Nothing → offerNumber r ≡ 21 → offerState r s ≡ s
-  unfolding offerNumber offerState
-  unpending-kept (stops n k l) p h = refl
-  unpending-kept (reaches f) p h = go refl (number-refuses _ (omega arith))
-    where
-      go : {a : CbrAnswer} → offer w (offerOf o) .answer ≡ a → Numbered a → laid (stateBytes (offer w (offerOf o) .writer)) s ≡ s
-      go q (numbered e) = same-writer f (refused-unpending w (offerOf o) e p q)
-
   withdrawal-kept : w .pending ≡ Nothing → withdrawState s ≡ s
   unfolding withdrawState
   withdrawal-kept p = pick-elim (λ (r : List ℕ). r ≡ s) (stateFits s) (λ f. same-writer f (withdraw-unpending w p)) (λ f. refl)
@@ -145,7 +137,7 @@ refusals s o b =
       state = state-kept s o b y;
       closes = closing s o b y;
       out = out-kept s o b y;
-      not-pending = λ p. (unpending-kept s o b y p, withdrawal-kept s o b p);
+      not-pending = withdrawal-kept s o b;
       room = room-kept s o b y;
       withdrawal = refused-withdrawal s o b;
       creation = refused-creation s o b;

@@ -115,10 +115,9 @@ pub record Keeps (s : List ℕ) (o : COffer) : Type 0 where
   -- it changes neither state nor output part, but that 21 does what a withdrawal does
   pub state : 1 ≤ offerNumber (reach s o) → (offerNumber (reach s o) ≡ 21 → ⊥) → offerState (reach s o) s ≡ s
   pub closes : offerNumber (reach s o) ≡ 21 → offerState (reach s o) s ≡ withdrawState s
+  -- which with nothing pending has nothing to close
+  pub not-pending : writerAt s .pending ≡ Nothing → withdrawState s ≡ s
   pub out : 1 ≤ offerNumber (reach s o) → offerOut (reach s o) (o .out) ≡ o .out
-  -- with nothing pending, a 21 has nothing to close, nor has a withdrawal
-  pub not-pending : writerAt s .pending ≡ Nothing
-      → (offerNumber (reach s o) ≡ 21 → offerState (reach s o) s ≡ s) × (withdrawState s ≡ s)
   -- an output part as large as the buffer always has room
   pub room : 72 ≤ length (o .answer) → writerAt s .model .params .«buffer_size_bits» ≤ 8 * length (o .out) → offerNumber (reach s o) ≡ 19 → ⊥
   -- a refused withdrawal, and a refused creation in the same place

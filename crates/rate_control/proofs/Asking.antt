@@ -34,7 +34,7 @@ abbrev pub toldOf : CbrWriter → Told
 toldOf w = record { q = w .q; pending = w .pending }
 
 reason-told : {w : CbrWriter} {o : Offer} {e : CbrError} (t : List ℕ) (x : Told) → Reason w o e → x ≡ toldBy t x o (Refused e)
-unfolding toldBy
+unfolding toldBy pick
 reason-told t x (unfit h) = refl
 reason-told t x (out-of-turn h) = refl
 reason-told t x (bad-headers h) = refl
@@ -46,7 +46,7 @@ reason-told t x (no-edge h) = refl
 reason-told t x (no-room l r n h) = refl
 
 outcome-told : {w : CbrWriter} {o : Offer} {r : CbrOffered} → Outcome w o r → toldOf (r .writer) ≡ toldBy (w .«target_bits») (toldOf w) o (r .answer)
-unfolding refused placed withPending toldBy
+unfolding refused placed withPending toldBy pick
 outcome-told {w} (stays e g) = reason-told (w .«target_bits») (toldOf w) g
 outcome-told (closes g) = refl
 outcome-told (retries g) = refl

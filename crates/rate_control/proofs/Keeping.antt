@@ -71,17 +71,6 @@ none-pending : (w : CbrWriter) → w .pending ≡ Nothing → withPending w Noth
 unfolding withPending
 none-pending w h = rw (← h)
 
-outcome-unpending : {w : CbrWriter} {o : Offer} {r : CbrOffered} (e : CbrError) → Outcome w o r → w .pending ≡ Nothing → r .answer ≡ Refused e → r .writer ≡ w
-unfolding refused placed
-outcome-unpending e (stays x g) p h = refl
-outcome-unpending {w} e (closes g) p h = none-pending w p
-outcome-unpending e (retries g) p h = let z : _≡_ {A = ℕ} 0 1 = cc in absurd (omega arith)
-outcome-unpending e (places g) p h = let z : _≡_ {A = ℕ} 0 1 = cc in absurd (omega arith)
-
--- a refusal changes nothing, 21 neither
-pub refused-unpending : (w : CbrWriter) (o : Offer) (e : CbrError) → w .pending ≡ Nothing → offer w o .answer ≡ Refused e → offer w o .writer ≡ w
-refused-unpending w o e p h = outcome-unpending e (outcome w o) p h
-
 pub withdraw-unpending : (w : CbrWriter) → w .pending ≡ Nothing → withdraw w .writer ≡ w
 unfolding withdraw
 withdraw-unpending w p = pick-elim (λ (r : CbrWithdrawn). r .writer ≡ w) _ (λ e. refl) (λ e. none-pending w p)

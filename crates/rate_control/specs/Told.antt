@@ -3,8 +3,11 @@
 use Prim.Native.Nat.{ℕ, _*_}
 use mathlib.Core.Path.{_≡_}
 use mathlib.Core.List.{List, [], _∷_}
+use lib.Dec.{eqb}
 use lib.ListN.{length, set}
+use Rattle.bits.specs.Bits.{pick}
 use Rattle.layers.specs.declared.PictureKind.{PictureKind}
+use Rattle.rate_control.specs.Answers.{refusalOf}
 use Rattle.rate_control.specs.Writer.{index, of, askedOf, asked, steered}
 use Rattle.rate_control.specs.Offer.{Offer}
 use Rattle.rate_control.specs.Calls.{Step, offered, withdrawn}
@@ -12,7 +15,6 @@ use Rattle.rate_control.specs.declared.Pending.{Pending}
 use Rattle.rate_control.specs.declared.Pending.the-variants.{Nothing, Waits}
 use Rattle.rate_control.specs.declared.CbrConfig.{CbrConfig}
 use Rattle.rate_control.specs.declared.CbrWriter.{CbrWriter}
-use Rattle.rate_control.specs.declared.CbrError.the-variants as er
 use Rattle.rate_control.specs.declared.CbrAnswer.{CbrAnswer}
 use Rattle.rate_control.specs.declared.CbrAnswer.the-variants.{Placed, Again, Refused}
 use Rattle.rate_control.specs.declared.CbrWithdrawal.{CbrWithdrawal}
@@ -38,14 +40,7 @@ unfoldable pub toldBy : List ℕ → Told → Offer → CbrAnswer → Told
 toldBy t x o (Placed q d n z) =
     record { q = set (x .q) (index (o .kind)) (steered q (of (o .kind) t) (8 * length (o .layer))); pending = Nothing }
 toldBy t x o (Again q) = record { q = x .q; pending = Waits (o .kind) q }
-toldBy t x o (Refused er.TooLarge) = closed x
-toldBy t x o (Refused (er.Model e)) = x
-toldBy t x o (Refused (er.Violation v)) = x
-toldBy t x o (Refused er.Kind) = x
-toldBy t x o (Refused er.Headers) = x
-toldBy t x o (Refused er.Layer) = x
-toldBy t x o (Refused er.Stuffing) = x
-toldBy t x o (Refused er.Output) = x
+toldBy t x o (Refused e) = pick (eqb (refusalOf e .number) 21) (closed x) x
 
 -- the quantiser that the writer holds for each offered picture is the one that was told
 pub data Asks (t : List ℕ) : Told → List Step → Type 0 where
