@@ -6,19 +6,18 @@ use Rattle.vbv.specs.Answers.{frameRate}
 use Rattle.vbv.specs.Model.{newModel}
 use Rattle.vbv.specs.declared.FrameRate.{FrameRate}
 use Rattle.vbv.specs.declared.FrameRate.the-variants.{Rate, Refused as NoRate}
-use Rattle.vbv.specs.declared.VbvError.{VbvError}
 use Rattle.vbv.specs.declared.VbvError.the-variants.{Params}
 use Rattle.vbv.specs.declared.VbvModel.{VbvModel}
 use Rattle.vbv.specs.declared.VbvModel.the-variants.{Model, Refused as NoModel}
 use Rattle.rate_control.specs.Targets.{targets}
 use Rattle.rate_control.specs.Create.{configFits, freshWriter, notCreated, withModel, withRate, create}
 use Rattle.rate_control.specs.declared.CbrConfig.{CbrConfig}
-use Rattle.rate_control.specs.declared.CbrCreation.the-variants.{Created, Refused as NotCreated}
+use Rattle.rate_control.specs.declared.CbrCreation.the-variants.{Created}
 use Rattle.rate_control.proofs.Creation.{not-created}
-use mathlib.Core.Path.{_≡_, refl, sym, ap, _∙_}
+use mathlib.Core.Path.{_≡_, refl, ap, _∙_}
 use mathlib.Core.List.{List, [], _∷_}
 use Prim.Native.Nat.{ℕ}
-use Rattle.rate_control.specs.Writer.{of, askedOf, asked}
+use Rattle.rate_control.specs.Writer.{of, asked}
 use Rattle.rate_control.specs.Offer.{Offer, offer, withPending, refused, placed, withdraw}
 use Rattle.rate_control.specs.Calls.{Call, offering, withdrawing, stepOf, after, run}
 use Rattle.rate_control.specs.Told.{Told, atFirst, closed, askedFor, toldBy, Asks, none, offer-then, withdrawal-then}
