@@ -75,7 +75,7 @@ static void check_creations(void)
         struct config config = usual;
         config.code = code;
         struct channel *c = open_channel(&config);
-        is("a frame rate", memcmp(c->state + FRN, frame_rates[code], sizeof frame_rates[code]), 0);
+        is("a frame rate", memcmp(c->state + FRN, frame_rates[code], sizeof frame_rates[code]) == 0, 1);
         free(c);
     }
 }
@@ -102,7 +102,7 @@ static void check_size(void)
 {
     for (uint8_t last = 0; last < 2; last++) {
         struct channel *c = open_channel(&usual);
-        struct offer o = frame(c, CBR_I, 30724 - 4 * last);
+        struct offer o = frame(c, CBR_I, 30724u - 4u * last);
         o.last = last;
         again("a byte too large", c, o, 13);
         o.layer_length--;
@@ -137,7 +137,7 @@ static void check_quantisers(void)
         config.quantiser = q;
         struct channel *c = open_channel(&config);
         if (q < 31)
-            again("from each quantiser", c, frame(c, CBR_I, MOST_BYTES), q + 1 + q / 4 > 31 ? 31 : q + 1 + q / 4);
+            again("from each quantiser", c, frame(c, CBR_I, MOST_BYTES), q < 25 ? q + 1u + q / 4u : 31);
         else
             refused("too large at once", c, frame(c, CBR_I, MOST_BYTES), 21);
         free(c);
@@ -155,7 +155,7 @@ static void check_withdrawal(void)
         withdraw("a state too short", c, length);
     is("still pending", c->state[PENDING], 2);
     withdraw("a withdrawal", c, CBR_STATE_BYTES);
-    is("as before", memcmp(fresh, c->state, sizeof fresh), 0);
+    is("as before", memcmp(fresh, c->state, sizeof fresh) == 0, 1);
     placed("another kind", c, frame(c, CBR_I, 12000), 10, 0);
     free(c);
 }
@@ -167,7 +167,7 @@ static void check_last(void)
     struct offer o = frame(c, CBR_P, 5000);
     o.last = 1;
     placed("a last", c, o, 10, 0);
-    is("the end code", memcmp(c->sent + c->length - 4, "\0\0\1\xB7", 4), 0);
+    is("the end code", memcmp(c->sent + c->length - 4, "\0\0\1\xB7", 4) == 0, 1);
     check_sent("to the last", c);
     for (uint8_t kind = 0; kind < 3; kind++)
         refused("behind the last", c, frame(c, kind, 23), 17);
@@ -284,13 +284,14 @@ static void check_parts(void)
             placed("a first picture", c, frame(c, CBR_I, 12000), 10, 0);
         for (size_t i = 0; i < COUNT(headers); i++) {
             struct offer o = frame(c, CBR_I, 23);
-            o.headers = bytes_of(headers[i].hex, &o.headers_length);
+            uint8_t *unfit = bytes_of(headers[i].hex, &o.headers_length);
+            o.headers = unfit;
             o.are = UNFIT;
             o.layer_fits = 0; /* 18 comes before 20 */
             o.layer_length = 22 * (i % 2);
             if (headers[i].started == started)
                 refused(headers[i].name, c, o, 18);
-            free((void *)o.headers);
+            free(unfit);
         }
         free(c);
     }
@@ -299,10 +300,11 @@ static void check_parts(void)
 static void check_layer(struct channel *c, const struct unfit *k, int fits)
 {
     struct offer o = frame(c, k->kind, 0);
-    o.layer = bytes_of(k->hex, &o.layer_length);
+    uint8_t *layer = bytes_of(k->hex, &o.layer_length);
+    o.layer = layer;
     o.layer_fits = fits;
     is(k->name, offer(k->name, c, &o).number, fits ? 0 : 20);
-    free((void *)o.layer);
+    free(layer);
 }
 
 static void check_layers(void)
@@ -504,7 +506,7 @@ static void check_value(struct channel *c, size_t word, uint64_t value, int fits
             c->state[i] = ranges[i].word;
         c->state[word] = value;
         c->pictures = c->length = 0;
-        is("a value's range", rules_fit(c->state), (uint64_t)fits);
+        is("a value's range", rules_fit(c->state) == fits, 1);
         if (call == 0)
             offer("a value", c, &o);
         else
@@ -636,7 +638,7 @@ static void check_side_by_side(void)
     }
     for (int i = 0; i < 2; i++) {
         finish(mixed[i]);
-        is("side by side", memcmp(alone[i], mixed[i], sizeof *alone[i]), 0);
+        is("side by side", memcmp(alone[i], mixed[i], sizeof *alone[i]) == 0, 1);
         free(alone[i]);
         free(mixed[i]);
     }
