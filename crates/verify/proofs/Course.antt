@@ -6,7 +6,8 @@ use mathlib.Core.List.{List, [], _∷_}
 use Prim.Native.Nat.{ℕ, suc, _+_, _≤_}
 use native.Mathlib.Omega.{arith}
 use native.Mathlib.Numerals.{add-one}
-use Rattle.vbv.specs.Annex.{gain, overflows, underflows}
+use borrow.Author.Tests.{ltb-false}
+use Rattle.vbv.specs.Annex.{gain, overflows, underflows, early, expectedDelay}
 use Rattle.vbv.specs.Model.{paramsFit, delivered, modelFits, afterRemoval, periods, nextDelivered}
 use Rattle.vbv.specs.Fits.{EndFits}
 use Rattle.vbv.specs.declared.VbvParams.{VbvParams}
@@ -31,12 +32,19 @@ pub record Ready (p : VbvParams) (m : VbvCbrModel) : Type 0 where
   pub kept : m .params ≡ p
   pub few : m .removed ≤ m .«prev_end_bits»
 
--- a removal that Annex C records
-pub recorded-not : {e : VbvVerifyError} {r : VbvPictureRecord} → refused e ≡ recorded r → ⊥
+-- a removal that Annex C records: it passed each test
+pub record WasRecorded (p : VbvParams) (previous d : ℕ) (c : CodedPicture) (r : VbvPictureRecord) : Type 0 where
+  pub in-time : early p (c .«pos_bits») d ≡ false
+  pub delay-low : expectedDelay p (c .«pos_bits») d ≤ 65534
+  pub no-overflow : overflows p previous d ≡ false
+  pub no-underflow : underflows p (c .«end_bits») d ≡ false
+  pub record-is : r ≡ recordOf p previous d c
+
+recorded-not : {e : VbvVerifyError} {r : VbvPictureRecord} → refused e ≡ recorded r → ⊥
 recorded-not h = let z : _≡_ {A = ℕ} 0 1 = cc in omega arith
 
 pub was-recorded : (p : VbvParams) (n previous d : ℕ) (c : CodedPicture) (r : VbvPictureRecord) → removal p n previous d c ≡ recorded r
-    → (overflows p previous d ≡ false) × (underflows p (c .«end_bits») d ≡ false) × (recordOf p previous d c ≡ r)
+    → WasRecorded p previous d c r
 unfolding removal
 was-recorded p n previous d c r h =
     let a = was-no _ _ _ recorded-not h in
@@ -44,7 +52,7 @@ was-recorded p n previous d c r h =
     let e = was-no _ _ _ recorded-not (b .1) in
     let o = was-no _ _ _ recorded-not (e .1) in
     let u = was-no _ _ _ recorded-not (o .1) in
-    (o .0, u .0, cc (u .1))
+    record { in-time = a .0; delay-low = ltb-false 65534 _ (b .0); no-overflow = o .0; no-underflow = u .0; record-is = cc (u .1) }
 
 module _ {p : VbvParams} {m : VbvCbrModel} (y : Ready p m) {c : CodedPicture} (q : Placed (m .«prev_end_bits») c) where
   end-fits : EndFits m (c .«end_bits»)
@@ -60,7 +68,7 @@ module _ {p : VbvParams} {m : VbvCbrModel} (y : Ready p m) {c : CodedPicture} (q
   step {r} h =
       let w = was-recorded p (m .removed) (m .«prev_end_bits») (delivered m) c r h in
       was-removed _ _ _ _
-      (removes m (c .«end_bits») (c .interval) (y .fits) (y .on) (fitting-end m (c .«end_bits») end-fits) (rw (← y .kept) at (w .0)) (rw (← y .kept) at (w .1)))
+      (removes m (c .«end_bits») (c .interval) (y .fits) (y .on) (fitting-end m (c .«end_bits») end-fits) (rw (← y .kept) at (w .no-overflow)) (rw (← y .kept) at (w .no-underflow)))
 
   within : {r : VbvPictureRecord} → removal p (m .removed) (m .«prev_end_bits») (delivered m) c ≡ recorded r
       → r .«occupancy_before_bits» ≤ p .«buffer_size_bits»
@@ -68,7 +76,7 @@ module _ {p : VbvParams} {m : VbvCbrModel} (y : Ready p m) {c : CodedPicture} (q
   within {r} h =
       let w = was-recorded p (m .removed) (m .«prev_end_bits») (delivered m) c r h in
       let f : paramsFit p ≡ true = rw (y .kept) at (fits-params m (y .fits)) in
-      rw (← w .2) (occupancy-most p f (m .«prev_end_bits») (delivered m) (w .0))
+      rw (w .record-is) (occupancy-most p f (m .«prev_end_bits») (delivered m) (w .no-overflow))
 
 -- the course: each removal's record and the model behind it, up to the end or a refusal
 pub data Course (p : VbvParams) : VbvCbrModel → List CodedPicture → Run → Type 0 where

@@ -10,4 +10,6 @@ pub mod Verdict
 pub mod Recording
 pub mod Accepting
 pub mod Telling
+pub mod Removals
+pub mod Uncut
 pub mod Bounds

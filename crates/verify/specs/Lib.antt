@@ -2,6 +2,7 @@ pub mod Sequence
 pub mod Coded
 pub mod Run
 pub mod Check
+pub mod Uncut
 pub mod Answers
 pub mod Layout
 pub mod Walk
