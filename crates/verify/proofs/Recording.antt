@@ -1,6 +1,6 @@
 -- The records of an accepted stream come one behind another from the walk of the check by value.
 -- Assumes nothing.
-use mathlib.Core.Path.{_≡_, refl, sym, ap, subst, _∙_}
+use mathlib.Core.Path.{_≡_, refl, sym, _∙_}
 use mathlib.Core.Bool.{Bool, true, false}
 use mathlib.Core.Logic.{_⊎_, inl, inr}
 use Prim.Native.Nat.{ℕ, _*_, _^_, _≤_, _<_}
@@ -20,10 +20,7 @@ use Rattle.verify.specs.declared.VbvStandard.{VbvStandard}
 use Rattle.verify.specs.declared.CodedPicture.{CodedPicture}
 use Rattle.verify.specs.declared.Coded.the-variants as cd
 use Rattle.verify.specs.declared.VbvPictureRecord.{VbvPictureRecord}
-use Rattle.verify.specs.declared.VbvVerifyError.{VbvVerifyError}
 use Rattle.verify.specs.declared.VbvVerifyError.the-variants.{Model}
-use Rattle.verify.specs.declared.VbvVerified.{VbvVerified}
-use Rattle.verify.specs.declared.VbvVerified.the-variants as vf
 use Rattle.verify.specs.declared.Declared.{Declared}
 use Rattle.verify.specs.declared.Declared.the-variants.{Params, Refused as NotDeclared}
 use Rattle.verify.specs.declared.Progress.{Progress}
@@ -34,33 +31,12 @@ use Rattle.scan.specs.Walk.{picturesAt, nextPicture}
 use Rattle.verify.specs.Sequence.{declared}
 use Rattle.verify.specs.Coded.{Headers, unread, read, headers, codedPictures}
 use Rattle.verify.specs.Check.{Verdict, no, yes, withPictures, withParams, verdict, verified, records}
-use Rattle.verify.specs.Walk.{codedAt, advanced, ifCoded, walked, judgement}
+use Rattle.verify.specs.Walk.{codedAt, advanced, ifCoded}
 use Rattle.verify.specs.Recorder.{recorderOf, recordCount, noRecord, lastOf, stayed, wentOn, recordedBy, nextRecord}
 use Rattle.scan.proofs.Pictures.{walked as walked-on, pictures-done, pictures-walk}
 use Rattle.verify.proofs.Fold.{lastsAll, Reads, none, good, reads}
 use Rattle.verify.proofs.Rising.{rising}
-use Rattle.verify.proofs.Verdict.{judges, judgement-is}
-
--- ---- the answer
-
-module _ (standard : VbvStandard) (s : List ℕ) (places : ℕ) where
-  pub checked-long : 35184372088832 < length s → vf.Refused (Model Range) ≡ verified (verdict standard s places)
-  unfolding verdict verified pick
-  checked-long h = rw (lt-leb (8 * length s) (2 ^ 48) (omega arith))
-
-  module _ (h : length s ≤ 35184372088832) where
-    within : verdict standard s places ≡ withParams standard s places (declared standard s)
-    unfolding verdict pick
-    within = rw (le-leb (8 * length s) (2 ^ 48) (omega arith))
-
-    pub checked-undeclared : (e : VbvVerifyError) → declared standard s ≡ NotDeclared e → vf.Refused e ≡ verified (verdict standard s places)
-    unfolding withParams verified
-    checked-undeclared e d = rw (within, d)
-
-    pub checked-declared : (p : VbvParams) → declared standard s ≡ Params p
-        → judgement p places (walked standard s p 0 Fresh (pictures s)) ≡ verified (verdict standard s places)
-    unfolding withParams
-    checked-declared p d = rw (within, d) (judgement-is standard s (omega arith) p places)
+use Rattle.verify.proofs.Verdict.{judges}
 
 -- ---- a step
 

@@ -6,19 +6,16 @@ use Prim.Native.Nat.{ℕ, _^_, _≤_}
 use lib.Dec.{ltb, leb}
 use borrow.Author.Tests.{leb-true, leb-false, le-ltb, lt-ltb}
 use Rattle.bits.specs.Bits.{pick}
-use Rattle.vbv.specs.Annex.{overflows, underflows, early, expectedDelay, occupancy}
 use Rattle.vbv.specs.Model.{delivered, modelFits, afterRemoval, nextDelivered}
 use Rattle.vbv.specs.Fits.{EndFits}
 use Rattle.vbv.specs.declared.VbvCbrModel.{VbvCbrModel}
-use Rattle.vbv.specs.declared.VbvViolation.the-variants.{Overflow, Underflow, DelayMismatch}
 use Rattle.vbv.specs.declared.VbvRemoval.the-variants as rm
 use Rattle.vbv.proofs.Laws.{occupancy-told}
 use Rattle.vbv.proofs.Told.{delay-told, removal-told}
 use Rattle.verify.specs.declared.CodedPicture.{CodedPicture}
-use Rattle.verify.specs.declared.VbvVerifyError.the-variants.{Violation}
 use Rattle.verify.specs.declared.Removed.{Removed}
 use Rattle.verify.specs.declared.Removed.the-variants.{Recorded, Refused}
-use Rattle.verify.specs.Run.{apart, Removal, refused, recorded, recordOf, removal}
+use Rattle.verify.specs.Run.{Removal, refused, recorded, recordOf, removal}
 use Rattle.verify.specs.Walk.{removed, byDelay, byOccupancy, byRemoval, withDelays}
 
 -- the answer of the code, by Annex C's

@@ -1,5 +1,5 @@
 -- The walk's judgement is the verdict, and what it stores are the verdict's records.
--- Assumes nothing.
+-- Assumes noRecord.
 use mathlib.Core.Path.{_≡_, refl, sym, ap, subst, _∙_}
 use mathlib.Core.Bool.{Bool, true, false}
 use mathlib.Core.Logic.{_⊎_, inl, inr}
@@ -43,7 +43,7 @@ use Rattle.verify.specs.Check.{Verdict, no, yes, judged, withPictures, w
 use Rattle.verify.specs.Walk.{codedAt, removed, onward, begun, first, advanced, putAt, ifCoded, walked, stored, placed, judgedAs, judgement}
 use Rattle.verify.specs.Walk.{made as madeBy}
 use Rattle.verify.proofs.Storing.{records-cons, records-over}
-use Rattle.verify.specs.Recorder.{lastOf}
+use Rattle.verify.specs.Recorder.{noRecord, lastOf}
 use Rattle.verify.proofs.Fold.{advancedAll, storedAll, lastsAll, Reads, reads, walked-unread, walked-read, stored-read}
 use Rattle.verify.proofs.Rising.{Placed, Rising, next, rising}
 use Rattle.verify.proofs.Course.{Ready, Course, ended, ceased, went, halted, course}
@@ -207,20 +207,17 @@ unfolding first madeBy pick
 first-unfit p c v f = rw (v, unmade p f)
 
 -- a model: the walk goes on as if it ran already
-nothing : VbvPictureRecord
-nothing = record { «vbv_delay» = 0; «expected_delay» = 0; «data_bits» = 0; «occupancy_before_bits» = 0 }
-
 module _ {p : VbvParams} {c : CodedPicture} (b : Begun p c) (cs : List CodedPicture) where
-  as-running : advancedAll p Fresh (c ∷ cs) ≡ advancedAll p (Running (b .model) nothing (p .«buffer_size_bits») 0) (c ∷ cs)
+  as-running : advancedAll p Fresh (c ∷ cs) ≡ advancedAll p (Running (b .model) noRecord (p .«buffer_size_bits») 0) (c ∷ cs)
   unfolding advancedAll advanced
   as-running = rw (b .goes)
 
-  as-lasts : lastsAll p Fresh (c ∷ cs) ≡ lastsAll p (Running (b .model) nothing (p .«buffer_size_bits») 0) (c ∷ cs)
+  as-lasts : lastsAll p Fresh (c ∷ cs) ≡ lastsAll p (Running (b .model) noRecord (p .«buffer_size_bits») 0) (c ∷ cs)
   unfolding lastsAll advanced
   as-lasts = rw (b .goes)
 
   as-stored : (places : ℕ) (out : List ℕ)
-      → storedAll p places 0 Fresh (c ∷ cs) out ≡ storedAll p places 0 (Running (b .model) nothing (p .«buffer_size_bits») 0) (c ∷ cs) out
+      → storedAll p places 0 Fresh (c ∷ cs) out ≡ storedAll p places 0 (Running (b .model) noRecord (p .«buffer_size_bits») 0) (c ∷ cs) out
   unfolding storedAll advanced
   as-stored places out = rw (b .goes)
 
@@ -241,19 +238,19 @@ runs : (p : VbvParams) (places : ℕ) (c : CodedPicture) (cs : List CodedPicture
     → withPictures places p (read (c ∷ cs)) ≡ pick (leb (length (c ∷ cs)) places) (judged p o) (no RecordPlaces)
     → Course p (b .model) (c ∷ cs) o → (t : Bool) → leb (length (c ∷ cs)) places ≡ t → Judged p places (c ∷ cs)
 unfolding judged judgedAs placed report verified pick
-runs p places c cs b (stopped e) w k true l = refusing e (rw (as-running b cs, stopped-course k nothing (p .«buffer_size_bits») 0, l)) (w ∙ rw l)
-runs p places c cs b (stopped e) w k false l = refusing RecordPlaces (rw (as-running b cs, stopped-course k nothing (p .«buffer_size_bits») 0, l)) (w ∙ rw l)
+runs p places c cs b (stopped e) w k true l = refusing e (rw (as-running b cs, stopped-course k noRecord (p .«buffer_size_bits») 0, l)) (w ∙ rw l)
+runs p places c cs b (stopped e) w k false l = refusing RecordPlaces (rw (as-running b cs, stopped-course k noRecord (p .«buffer_size_bits») 0, l)) (w ∙ rw l)
 runs p places c cs b (ran rs) w k false l =
-    refusing RecordPlaces (rw (as-running b cs, ran-course k places (length (c ∷ cs)) nothing (p .«buffer_size_bits») 0, l)) (w ∙ rw l)
+    refusing RecordPlaces (rw (as-running b cs, ran-course k places (length (c ∷ cs)) noRecord (p .«buffer_size_bits») 0, l)) (w ∙ rw l)
 runs p places c cs b (ran []) w k true l = absurd (omega (arith, ran-length k))
 runs p places c cs b (ran (r ∷ rs)) w k true l =
     let g : greatestOf 0 (r ∷ rs) ≡ greatestBefore (r ∷ rs) = greatest-is 0 (r ∷ rs) ∙ omega arith in
     reporting r rs
-    (rw (as-running b cs, ran-course k places (length (c ∷ cs)) nothing (p .«buffer_size_bits») 0, l, ran-least k, g, ← ran-length k))
+    (rw (as-running b cs, ran-course k places (length (c ∷ cs)) noRecord (p .«buffer_size_bits») 0, l, ran-least k, g, ← ran-length k))
     (w ∙ rw l)
     (omega (arith, leb-true (length (c ∷ cs)) places l, ran-length k))
-    (λ out. as-stored b cs places out ∙ ran-stored k places 0 nothing (p .«buffer_size_bits») 0 out (omega (arith, leb-true (length (c ∷ cs)) places l, ran-length k)))
-    (as-lasts b cs ∙ ran-lasts k nothing (p .«buffer_size_bits») 0)
+    (λ out. as-stored b cs places out ∙ ran-stored k places 0 noRecord (p .«buffer_size_bits») 0 out (omega (arith, leb-true (length (c ∷ cs)) places l, ran-length k)))
+    (as-lasts b cs ∙ ran-lasts k noRecord (p .«buffer_size_bits») 0)
 
 verdict-none : (p : VbvParams) (places : ℕ) → withPictures places p (read []) ≡ no NoPictures
 unfolding withPictures
@@ -310,7 +307,7 @@ module _ (standard : VbvStandard) (s : List ℕ) (short : 8 * length s ≤ 2 ^ 4
       go (unread e) r a = let z : _≡_ {A = ℕ} 0 1 = cc in absurd (omega arith)
       go (read cs) r a = stored-read p r places 0 Fresh out ∙ judges p places cs (rising short r) .bytes out l x a
 
--- a walk without places stores nothing
+-- a walk without places stores noRecord
 put-none : (n : ℕ) (st : Progress) (out : List ℕ) → putAt 0 n st out ≡ out
 unfolding putAt pick
 put-none n Fresh out = refl
@@ -331,6 +328,30 @@ stored-none standard s p n st (q ∷ qs) out = go (λ k t. stored-none standard 
 
 -- ---- the ways that the check goes
 
+-- its answer, for any number of places
+module _ (standard : VbvStandard) (s : List ℕ) (places : ℕ) where
+  pub checked-long : 35184372088832 < length s → vf.Refused (Model Range) ≡ verified (verdict standard s places)
+  unfolding verdict verified pick
+  checked-long h = rw (lt-leb (8 * length s) (2 ^ 48) (omega arith))
+
+  module _ (h : length s ≤ 35184372088832) where
+    within : verdict standard s places ≡ withParams standard s places (declared standard s)
+    unfolding verdict pick
+    within = rw (le-leb (8 * length s) (2 ^ 48) (omega arith))
+
+    pub checked-undeclared : (e : VbvVerifyError) → declared standard s ≡ NotDeclared e → vf.Refused e ≡ verified (verdict standard s places)
+    unfolding withParams verified
+    checked-undeclared e d = rw (within, d)
+
+    module _ (p : VbvParams) (d : declared standard s ≡ Params p) where
+      by-pictures : verdict standard s places ≡ withPictures places p (codedPictures standard s)
+      unfolding withParams
+      by-pictures = rw (within, d)
+
+      pub checked-declared : judgement p places (walked standard s p 0 Fresh (pictures s)) ≡ verified (verdict standard s places)
+      checked-declared = rw by-pictures (judgement-is standard s (omega arith) p places)
+
+-- and the bytes of the record places
 no-records : (v : Verdict) (e : VbvVerifyError) → verified v ≡ vf.Refused e → records v ≡ []
 unfolding verified records
 no-records (no x) e h = refl
@@ -344,29 +365,19 @@ module _ (standard : VbvStandard) (s out : List ℕ) where
   pub range-refused : 35184372088832 < length s
       → (vf.Refused (Model Range) ≡ verified (verdict standard s (length out / 32)))
       × (out ≡ over (recordsBytes (records (verdict standard s (length out / 32)))) out)
-  unfolding verdict verified pick
-  range-refused h =
-      let v : verdict standard s (length out / 32) ≡ no (Model Range) = rw (lt-leb (8 * length s) (2 ^ 48) (omega arith)) in
-      (rw v, unstored _ (Model Range) out (rw v))
+  range-refused h = let a = checked-long standard s (length out / 32) h in (a, unstored _ (Model Range) out (sym a))
 
   module _ (h : length s ≤ 35184372088832) where
     pub undeclared : (e : VbvVerifyError) → declared standard s ≡ NotDeclared e
         → (vf.Refused e ≡ verified (verdict standard s (length out / 32)))
         × (out ≡ over (recordsBytes (records (verdict standard s (length out / 32)))) out)
-    unfolding verdict withParams verified pick
-    undeclared e d =
-        let v : verdict standard s (length out / 32) ≡ no e = rw (le-leb (8 * length s) (2 ^ 48) (omega arith), d) in
-        (rw v, unstored _ e out (rw v))
+    undeclared e d = let a = checked-undeclared standard s (length out / 32) h e d in (a, unstored _ e out (sym a))
 
     module _ (p : VbvParams) (d : declared standard s ≡ Params p) {answer : VbvVerified}
         (a : answer ≡ judgement p (length out / 32) (walked standard s p 0 Fresh (pictures s)))
         {first : List ℕ} (f : first ≡ stored standard s p 0 0 Fresh (pictures s) out) where
-      verdict-is : verdict standard s (length out / 32) ≡ withPictures (length out / 32) p (codedPictures standard s)
-      unfolding verdict withParams pick
-      verdict-is = rw (le-leb (8 * length s) (2 ^ 48) (omega arith), d)
-
       answer-is : answer ≡ verified (verdict standard s (length out / 32))
-      answer-is = a ∙ judgement-is standard s (omega arith) p (length out / 32) ∙ rw verdict-is
+      answer-is = a ∙ checked-declared standard s (length out / 32) h p d
 
       untouched : first ≡ out
       untouched = f ∙ stored-none standard s p 0 Fresh (pictures s) out
@@ -380,8 +391,8 @@ module _ (standard : VbvStandard) (s out : List ℕ) where
           → last ≡ stored standard s p (length out / 32) 0 Fresh (pictures s) first
           → (answer ≡ verified (verdict standard s (length out / 32)))
           × (last ≡ over (recordsBytes (records (verdict standard s (length out / 32)))) out)
-      reported x q l = (
-        answer-is,
-        l ∙ rw (untouched, verdict-is)
-            (stored-is standard s (omega arith) p (length out / 32) out (omega arith) x (rw verdict-is at (sym answer-is ∙ q))),
-      )
+      reported x q l =
+          let v = by-pictures standard s (length out / 32) h p d in (
+            answer-is,
+            l ∙ rw (untouched, v) (stored-is standard s (omega arith) p (length out / 32) out (omega arith) x (rw v at (sym answer-is ∙ q))),
+          )

@@ -10,7 +10,6 @@ use Rattle.headers.specs.declared.sequence_header.Answer.the-variants.{Parsed, 
 use Rattle.vbv.specs.Answers.{frameRate}
 use Rattle.vbv.specs.declared.FrameRate.{FrameRate}
 use Rattle.vbv.specs.declared.FrameRate.the-variants.{Rate, Refused as RateRefused}
-use Rattle.vbv.specs.declared.VbvParams.{VbvParams}
 use Rattle.scan.specs.Codes.{codes}
 use Rattle.scan.specs.Pictures.{skip, notSequence}
 use Rattle.scan.specs.Walk.{found}

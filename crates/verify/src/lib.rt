@@ -109,7 +109,7 @@ enum Removed {
 enum Progress {
     // No picture yet.
     Fresh,
-    // No model is started: 5 or 12.
+    // No model is started, and why.
     Unmodelled(VbvVerifyError),
     // The model behind the last removal and that removal's record; the least occupancy after one so far, the greatest before.
     Running {

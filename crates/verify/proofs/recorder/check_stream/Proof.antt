@@ -1,6 +1,6 @@
 use mathlib.Core.Path.{sym, _∙_}
 use native.Mathlib.Omega.{arith}
-use Rattle.verify.proofs.Recording.{checked-long, checked-undeclared, checked-declared}
+use Rattle.verify.proofs.Verdict.{checked-long, checked-undeclared, checked-declared}
 use borrow.Author.Needs.{needs}
 use Rattle.verify.proofs.recorder.check_stream.Statement.{statement}
 use Rattle.verify.proofs.recorder.check_stream.Tie as tie

@@ -1,6 +1,5 @@
 use mathlib.Core.Path.{refl}
 use Rattle.verify.specs.Recorder.{noRecord}
-use borrow.Author.Needs.{needs}
 use Rattle.verify.proofs.recorder.no_record.Statement.{statement}
 use Rattle.verify.proofs.recorder.no_record.Tie as tie
 
