@@ -1,5 +1,5 @@
 -- The report subtracts in ℕ, where a difference is cut off at 0. In the report of an accepted stream none is: at every removal what is taken away is there.
--- Assumes nothing.
+-- (The expected delay that a refusal carries stands behind the test of 7 in `removal`.) Assumes nothing.
 use Prim.Native.Nat.{ℕ, _+_, _*_, _≤_}
 use mathlib.Core.Path.{_≡_}
 use mathlib.Core.List.{List, [], _∷_}

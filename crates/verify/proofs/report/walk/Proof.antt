@@ -36,7 +36,7 @@ enum-told : tie.Need-enum-told Inv-loop μ-loop
 enum-told c = search needs
 
 same-length : tie.Need-same-length Inv-loop μ-loop
-same-length c = c .before .before .before .loop .inv .as-long
+same-length c = search needs
 
 returns : tie.Need-returns Inv-loop μ-loop
 returns c = walking-done (c .before .before .before .loop .inv) (sym (c .before .before .next-picture .ensures) ∙ c .enum-told .given .1)
@@ -45,15 +45,13 @@ enum-known-at : tie.Need-enum-known-at Inv-loop μ-loop
 enum-known-at c = search needs
 
 coded-at-requires : tie.Need-coded-at-requires Inv-loop μ-loop
-coded-at-requires c κs =
-    let w = met c in
-    (omega (arith, w .low, w .on, w .high), (omega (arith, w .high), omega arith))
+coded-at-requires c κs = let w = met c in search (needs, w)
 
 enum-known-error : tie.Need-enum-known-error Inv-loop μ-loop
 enum-known-error c = search needs
 
 same-length-2 : tie.Need-same-length-2 Inv-loop μ-loop
-same-length-2 c = c .before .before .before .before .before .before .before .before .loop .inv .as-long
+same-length-2 c = search needs
 
 returns-2 : tie.Need-returns-2 Inv-loop μ-loop
 returns-2 c = walking-unread (c .before .before .before .before .before .before .before .before .loop .inv) _ _ _ (step (c .before .before .before .before)) _ (sym (c .before .before .before .coded-at .ensures) ∙ c .before .error .given .1)
@@ -65,17 +63,13 @@ advance-requires : tie.Need-advance-requires Inv-loop μ-loop
 advance-requires c κs = search needs
 
 put-last-requires : tie.Need-put-last-requires Inv-loop μ-loop
-put-last-requires c κs = omega (arith, c .before .before .before .before .before .before .before .before .before .before .loop .inv .as-long)
+put-last-requires c κs = omega arith
 
 add-n : tie.Need-add-n Inv-loop μ-loop
-add-n c =
-    let w = met (c .before .before .before .before .before .before .before .before .before) in
-    omega (arith, c .before .before .before .before .before .before .before .before .before .before .before .before .before .loop .inv .few, w .from, w .low, w .on, w .high)
+add-n c = omega (arith, met (c .before .before .before .before .before .before .before .before .before))
 
 loop-less : tie.Need-loop-less Inv-loop μ-loop
-loop-less c =
-    let w = met (c .before .before .before .before .before .before .before .before .before) in
-    omega (arith, w .from, w .low, w .on, w .high)
+loop-less c = omega (arith, met (c .before .before .before .before .before .before .before .before .before))
 
 loop-again : tie.Need-loop-again Inv-loop μ-loop
 loop-again c = walking-more (c .before .before .before .before .before .before .before .before .before .before .before .before .before .loop .inv) _ _ _ (step (c .before .before .before .before .before .before .before .before .before)) _ (sym (c .before .before .before .before .before .before .before .before .coded-at .ensures) ∙ c .before .before .before .before .before .before .coded .given .1) (c .before .before .before .before .advance .ensures) (c .before .before .put-last .ensures)

@@ -25,7 +25,7 @@ enum-known-at : tie.Need-enum-known-at
 enum-known-at c = search needs
 
 coded-at-requires : tie.Need-coded-at-requires
-coded-at-requires c κs = let w = walked _ _ _ _ _ (sym (c .before .before .before .next-picture .ensures) ∙ c .before .at .given .1) in (omega (arith, w .low, w .on, w .high), (omega (arith, w .high), omega arith))
+coded-at-requires c κs = let w = walked _ _ _ _ _ (sym (c .before .before .before .next-picture .ensures) ∙ c .before .at .given .1) in search (needs, w)
 
 enum-told-2 : tie.Need-enum-told-2
 enum-told-2 c = search needs
