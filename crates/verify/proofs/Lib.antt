@@ -7,9 +7,9 @@ pub mod Course
 pub mod Fold
 pub mod Coding
 pub mod Verdict
+pub mod Removals
 pub mod Recording
 pub mod Accepting
 pub mod Telling
-pub mod Removals
 pub mod Uncut
 pub mod Bounds

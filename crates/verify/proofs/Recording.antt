@@ -1,42 +1,36 @@
 -- The records of an accepted stream come one behind another from the walk of the check by value.
 -- Assumes nothing.
 use mathlib.Core.Path.{_≡_, refl, sym, _∙_}
-use mathlib.Core.Bool.{Bool, true, false}
-use mathlib.Core.Logic.{_⊎_, inl, inr}
 use Prim.Native.Nat.{ℕ, _*_, _^_, _≤_, _<_}
 use mathlib.Core.List.{List, [], _∷_}
 use native.Mathlib.Omega.{arith}
-use lib.Dec.{leb}
 use lib.ListN.{length}
-use borrow.Author.Tests.{lt-leb, le-leb, leb-true}
+use borrow.Author.Tests.{lt-leb, le-leb}
 use Rattle.bits.specs.Bits.{pick}
 use Rattle.headers.specs.declared.Error.{Error}
 use Rattle.vbv.specs.declared.VbvParams.{VbvParams}
 use Rattle.vbv.specs.declared.VbvCbrModel.{VbvCbrModel}
-use Rattle.vbv.specs.declared.VbvError.the-variants.{Range}
 use Rattle.scan.specs.declared.Next.{Next}
 use Rattle.scan.specs.declared.Next.the-variants.{Picture, Done}
 use Rattle.verify.specs.declared.VbvStandard.{VbvStandard}
 use Rattle.verify.specs.declared.CodedPicture.{CodedPicture}
 use Rattle.verify.specs.declared.Coded.the-variants as cd
 use Rattle.verify.specs.declared.VbvPictureRecord.{VbvPictureRecord}
-use Rattle.verify.specs.declared.VbvVerifyError.the-variants.{Model}
-use Rattle.verify.specs.declared.Declared.{Declared}
-use Rattle.verify.specs.declared.Declared.the-variants.{Params, Refused as NotDeclared}
 use Rattle.verify.specs.declared.Progress.{Progress}
 use Rattle.verify.specs.declared.Progress.the-variants.{Fresh, Unmodelled, Running, Stopped}
 use Rattle.verify.specs.declared.recorder.VbvRecorder.{VbvRecorder}
-use Rattle.scan.specs.Pictures.{Pic, pictures}
+use Rattle.scan.specs.Pictures.{Pic}
 use Rattle.scan.specs.Walk.{picturesAt, nextPicture}
 use Rattle.verify.specs.Sequence.{declared}
-use Rattle.verify.specs.Coded.{Headers, unread, read, headers, codedPictures}
-use Rattle.verify.specs.Check.{Verdict, no, yes, withPictures, withParams, verdict, verified, records}
+use Rattle.verify.specs.Coded.{read}
+use Rattle.verify.specs.Check.{Verdict, no, yes, verdict, verified, records}
 use Rattle.verify.specs.Walk.{codedAt, advanced, ifCoded}
 use Rattle.verify.specs.Recorder.{recorderOf, recordCount, noRecord, lastOf, stayed, wentOn, recordedBy, nextRecord}
 use Rattle.scan.proofs.Pictures.{walked as walked-on, pictures-done, pictures-walk}
-use Rattle.verify.proofs.Fold.{lastsAll, Reads, none, good, reads}
+use Rattle.verify.proofs.Fold.{lastsAll, Reads, none, good}
 use Rattle.verify.proofs.Rising.{rising}
 use Rattle.verify.proofs.Verdict.{judges}
+use Rattle.verify.proofs.Removals.{was-accepted}
 
 -- ---- a step
 
@@ -103,38 +97,19 @@ pub record Placing (s : List ℕ) (places : ℕ) (w : VbvRecorder) (rs : List Vb
   pub each : Yields s w rs
   pub few : length rs ≤ places
 
-nothing : {s : List ℕ} {places : ℕ} {w : VbvRecorder} → Placing s places w []
-nothing = record { each = no-more; few = omega arith }
-
-by-headers : (standard : VbvStandard) (s : List ℕ) (short : 8 * length s ≤ 2 ^ 48) (p : VbvParams) (places : ℕ) (h : Headers) → Reads standard s (pictures s) h
-    → Placing s places (recorderOf standard (Params p)) (records (withPictures places p h))
-unfolding recorderOf withPictures records
-by-headers standard s short p places (unread e) r = nothing
-by-headers standard s short p places (read cs) r =
-    let j = judges p places cs (rising short r) in record { each = go (j .lasts); few = j .few }
-  where
-    go : (records (withPictures places p (read cs)) ≡ []) ⊎ (lastsAll p Fresh cs ≡ records (withPictures places p (read cs)))
-        → Yields s (recorderOf standard (Params p)) (records (withPictures places p (read cs)))
-    go (inl e) = rw e no-more
-    go (inr e) = rw (← e) (yields (omega arith) p 0 Fresh (pictures-walk s) r)
-
-by-declared : (standard : VbvStandard) (s : List ℕ) (short : 8 * length s ≤ 2 ^ 48) (places : ℕ) (d : Declared)
-    → Placing s places (recorderOf standard d) (records (withParams standard s places d))
-unfolding withParams records codedPictures
-by-declared standard s short places (Params p) =
-    by-headers standard s short p places (headers standard s (pictures s)) (reads standard s (pictures s))
-by-declared standard s short places (NotDeclared e) = nothing
-
 -- of every stream, whatever its answer
 pub records-placed : (standard : VbvStandard) (s : List ℕ) (places : ℕ)
     → Placing s places (recorderOf standard (declared standard s)) (records (verdict standard s places))
-unfolding verdict records pick
-records-placed standard s places = go (leb (8 * length s) (2 ^ 48)) refl
+unfolding recorderOf records
+records-placed standard s places = go (verdict standard s places) refl
   where
-    go : (t : Bool) → leb (8 * length s) (2 ^ 48) ≡ t
-        → Placing s places (recorderOf standard (declared standard s)) (records (pick t (withParams standard s places (declared standard s)) (no (Model Range))))
-    go true e = by-declared standard s (leb-true (8 * length s) (2 ^ 48) e) places (declared standard s)
-    go false e = nothing
+    go : (v : Verdict) → verdict standard s places ≡ v → Placing s places (recorderOf standard (declared standard s)) (records v)
+    go (no e) h = record { each = no-more; few = omega arith }
+    go (yes p r rs) h =
+        let a = was-accepted standard s places h in
+        let j = judges p places (a .first ∷ a .others) (rising (a .short) (a .are-read)) in
+        let l = yields (omega (arith, a .short)) p 0 Fresh (pictures-walk s) (a .are-read) in
+        rw (a .declared-is) record { each = rw (j .lasts r rs (a .judged-is)) at l; few = rw (a .judged-is) at (j .few) }
 
 pub count-is : (v : Verdict) → recordCount (verified v) ≡ length (records v)
 unfolding recordCount verified records

@@ -53,12 +53,16 @@ removals {p} (next {previous} {c} {cs} q t) n d rs h =
 
 -- ---- a stream
 
-pub record WasAccepted (standard : VbvStandard) (s : List ℕ) (p : VbvParams) (rs : List VbvPictureRecord) : Type 0 where
+pub record WasAccepted (standard : VbvStandard) (s : List ℕ) (places : ℕ) (p : VbvParams) (r : VbvPictureRecord) (rs : List VbvPictureRecord) : Type 0 where
+  pub short : 8 * length s ≤ 2 ^ 48
+  pub declared-is : declared standard s ≡ Params p
   pub first : CodedPicture
   pub others : List CodedPicture
   pub pictures-are : codedPictures standard s ≡ read (first ∷ others)
+  pub are-read : Reads standard s (pictures s) (read (first ∷ others))
+  pub judged-is : withPictures places p (read (first ∷ others)) ≡ yes p r rs
   pub params-fit : paramsFit p ≡ true
-  pub all : Removals p 0 (firstDelivered p (first .«pos_bits») (first .«vbv_delay»)) (first ∷ others) rs
+  pub all : Removals p 0 (firstDelivered p (first .«pos_bits») (first .«vbv_delay»)) (first ∷ others) (r ∷ rs)
 
 no-not : {e : VbvVerifyError} {p : VbvParams} {r : VbvPictureRecord} {rs : List VbvPictureRecord} → no e ≡ yes p r rs → ⊥
 no-not h = let z : _≡_ {A = ℕ} 0 1 = cc in omega arith
@@ -70,23 +74,35 @@ was-ran (ran []) h = absurd (no-not h)
 was-ran (ran (r ∷ rs)) h = (cc, cc)
 
 module _ (standard : VbvStandard) (s : List ℕ) (places : ℕ) {p : VbvParams} {r : VbvPictureRecord} {rs : List VbvPictureRecord} where
-  by-headers : 8 * length s ≤ 2 ^ 48 → (q : VbvParams) (o : Headers) → codedPictures standard s ≡ o → Reads standard s (pictures s) o
-      → withPictures places q o ≡ yes p r rs → WasAccepted standard s p (r ∷ rs)
+  by-headers : 8 * length s ≤ 2 ^ 48 → (q : VbvParams) → declared standard s ≡ Params q → (o : Headers) → codedPictures standard s ≡ o
+      → Reads standard s (pictures s) o → withPictures places q o ≡ yes p r rs → WasAccepted standard s places p r rs
   unfolding withPictures
-  by-headers l q (unread e) x t h = absurd (no-not h)
-  by-headers l q (read []) x t h = absurd (no-not h)
-  by-headers l q (read (c ∷ cs)) x t h =
+  by-headers l q d (unread e) x t h = absurd (no-not h)
+  by-headers l q d (read []) x t h = absurd (no-not h)
+  by-headers l q d (read (c ∷ cs)) x t h =
       let a = was-no _ _ _ no-not h in
       let b = was-yes _ _ _ no-not (a .1) in
       let e = was-yes _ _ _ no-not (b .1) in
       let f = was-ran (run q 0 0 (firstDelivered q (c .«pos_bits») (c .«vbv_delay»)) (c ∷ cs)) (e .1) in
-      rw (← f .0) record { first = c; others = cs; pictures-are = x; params-fit = b .0; all = removals (rising l t) 0 _ (r ∷ rs) (f .1) }
+      rw (← f .0)
+      record {
+        short = l;
+        declared-is = d;
+        first = c;
+        others = cs;
+        pictures-are = x;
+        are-read = t;
+        judged-is = rw (← f .0) at h;
+        params-fit = b .0;
+        all = removals (rising l t) 0 _ (r ∷ rs) (f .1);
+      }
 
-  by-params : 8 * length s ≤ 2 ^ 48 → (o : Declared) → withParams standard s places o ≡ yes p r rs → WasAccepted standard s p (r ∷ rs)
+  by-params : 8 * length s ≤ 2 ^ 48 → (o : Declared) → declared standard s ≡ o → withParams standard s places o ≡ yes p r rs
+      → WasAccepted standard s places p r rs
   unfolding withParams codedPictures
-  by-params l (NotDeclared e) h = absurd (no-not h)
-  by-params l (Params q) h = by-headers l q (headers standard s (pictures s)) refl (reads standard s (pictures s)) h
+  by-params l (NotDeclared e) d h = absurd (no-not h)
+  by-params l (Params q) d h = by-headers l q d (headers standard s (pictures s)) refl (reads standard s (pictures s)) h
 
-  pub was-accepted : verdict standard s places ≡ yes p r rs → WasAccepted standard s p (r ∷ rs)
+  pub was-accepted : verdict standard s places ≡ yes p r rs → WasAccepted standard s places p r rs
   unfolding verdict
-  was-accepted h = let a = was-yes _ _ _ no-not h in by-params (leb-true _ _ (a .0)) (declared standard s) (a .1)
+  was-accepted h = let a = was-yes _ _ _ no-not h in by-params (leb-true _ _ (a .0)) (declared standard s) refl (a .1)

@@ -2,7 +2,6 @@
 -- Assumes noRecord.
 use mathlib.Core.Path.{_≡_, refl, sym, ap, subst, _∙_}
 use mathlib.Core.Bool.{Bool, true, false}
-use mathlib.Core.Logic.{_⊎_, inl, inr}
 use Prim.Native.Nat.{ℕ, suc, _+_, _*_, _/_, _^_, _≤_, _<_, min, max}
 use mathlib.Core.List.{List, [], _∷_}
 use native.Mathlib.Omega.{arith}
@@ -166,16 +165,16 @@ pub record Judged (p : VbvParams) (places : ℕ) (cs : List CodedPicture) : Type
   pub bytes : (out : List ℕ) → 32 * places ≤ length out → (x : VbvStreamReport) → verified (withPictures places p (read cs)) ≡ vf.Report x
       → storedAll p places 0 Fresh cs out ≡ over (recordsBytes (records (withPictures places p (read cs)))) out
   pub few : length (records (withPictures places p (read cs))) ≤ places
-  pub lasts : (records (withPictures places p (read cs)) ≡ []) ⊎ (lastsAll p Fresh cs ≡ records (withPictures places p (read cs)))
+  pub lasts : (r : VbvPictureRecord) (rs : List VbvPictureRecord) → withPictures places p (read cs) ≡ yes p r rs → lastsAll p Fresh cs ≡ r ∷ rs
 
 refusing : {p : VbvParams} {places : ℕ} {cs : List CodedPicture} (e : VbvVerifyError)
     → judgedAs p places (length cs) (advancedAll p Fresh cs) ≡ vf.Refused e → withPictures places p (read cs) ≡ no e → Judged p places cs
 unfolding verified records
-refusing e a b =
+refusing {p} e a b =
     record {
       answer = a ∙ rw b;
       few = rw b (omega arith);
-      lasts = inl (rw b);
+      lasts = λ r rs h. let y : no e ≡ yes p r rs = rw b at h in let z : _≡_ {A = ℕ} 0 1 = cc in absurd (omega arith);
       bytes = λ out l x h. let y : vf.Refused e ≡ vf.Report x = rw b at h in let z : _≡_ {A = ℕ} 0 1 = cc in absurd (omega arith);
     }
 
@@ -184,11 +183,11 @@ reporting : {p : VbvParams} {places : ℕ} {cs : List CodedPicture} (r : VbvPict
     → length (r ∷ rs) ≤ places → ((out : List ℕ) → storedAll p places 0 Fresh cs out ≡ sets out 0 (recordsBytes (r ∷ rs)))
     → lastsAll p Fresh cs ≡ r ∷ rs → Judged p places cs
 unfolding records
-reporting r rs a b l s k =
+reporting {p} r rs a b l s k =
     record {
       answer = a ∙ rw b;
       few = rw b l;
-      lasts = inr (k ∙ rw b);
+      lasts = λ q qs h. let y : yes p r rs ≡ yes p q qs = rw b at h in k ∙ cc;
       bytes = λ out h x y. s out ∙ rw b (records-over out (r ∷ rs) (omega arith));
     }
 
