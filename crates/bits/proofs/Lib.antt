@@ -1,5 +1,6 @@
 pub mod Appending
 pub mod Checking
+pub mod Flags
 pub mod Joining
 pub mod Laws
 pub mod Laying

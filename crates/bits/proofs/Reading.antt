@@ -8,11 +8,12 @@ use native.Mathlib.Nat.{add-assoc, add-zero}
 use native.Mathlib.Omega.{arith}
 use lib.Dec.{leb, eqb}
 use lib.ListN.{length, getD, take, drop, replicate, length-append, length-drop}
-use lib.Seq.{take-suc, take-append-le}
+use lib.Seq.{take-suc, take-all, take-append-le}
 use borrow.Author.Tests.{le-leb, lt-leb, leb-true, leb-false, eqb-true, eq-eqb}
 use Rattle.bits.specs.Bits.{pick, bitsAt, there}
 use Rattle.bits.specs.Fields.{Field, field, any, Parsed, short, bad, got, after, obeys, readFields, sameBytes, readHeader, total}
 use Rattle.bits.specs.Answers.{readBits, greatest, tableOf, places, noFields, fieldsAnswer}
+use Rattle.bits.proofs.Flags.{and-left, and-right}
 use Rattle.bits.proofs.Laws.{bits-bound, bits-append, bits-drop}
 use Rattle.bits.specs.declared.Bits.{Bits}
 use Rattle.bits.specs.declared.Bits.the-variants.{Value, Short as NoBits}
@@ -20,8 +21,7 @@ use Rattle.bits.specs.declared.Fields.{Fields}
 use Rattle.bits.specs.declared.Outcome.the-variants.{Done, Short, Bad}
 
 pub both-true : (a b : Bool) → a && b ≡ true → (a ≡ true) × (b ≡ true)
-both-true true b e = (refl, e)
-both-true false b e = ((cc), (cc))
+both-true a b e = (and-left a b e, and-right a b e)
 
 -- bits are there
 module _ (s : List ℕ) (i n : ℕ) where
@@ -272,6 +272,10 @@ leb-same a b c d f g = case (leb a b) (leb c d) refl refl
     case false true p q = le-leb a b (g (leb-true c d q)) ∙ sym q
     case false false p q = p ∙ sym q
 
+-- what is behind byte k, as code hands it on
+pub rest-is : (s : List ℕ) (k : ℕ) → take (length s - k) (drop k s) ≡ drop k s
+rest-is s k = take-all (length s - k) (drop k s) (omega (arith, length-drop k s))
+
 -- a part of the bytes reads as the part alone
 pub there-drop : (k : ℕ) (s : List ℕ) (i n : ℕ) → k ≤ length s → there (drop k s) i n ≡ there s (8 * k + i) n
 unfolding there
@@ -409,6 +413,13 @@ pub same-self : (a : List ℕ) → sameBytes a a ≡ true
 unfolding sameBytes
 same-self [] = refl
 same-self (x ∷ a) = rw (eq-eqb x x refl, same-self a)
+
+pub same-not : (a b : List ℕ) → (a ≡ b → ⊥) → sameBytes a b ≡ false
+same-not a b n = case (sameBytes a b) refl
+  where
+    case : (t : Bool) → sameBytes a b ≡ t → t ≡ false
+    case true e = absurd (n (same-bytes a b e))
+    case false e = refl
 
 pub record HeaderRead (code : List ℕ) (fs : List Field) (s vs : List ℕ) : Type 0 where
   pub long : 4 ≤ length s

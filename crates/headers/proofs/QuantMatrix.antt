@@ -118,14 +118,6 @@ module _ (s : List ℕ) (i : ℕ) (vs : List ℕ) (e : readMatrix s i ≡ got vs
       case (none h) = refl
       case (one bytes l h) = refl
 
-  -- its bits are in the bytes
-  pub matrix-inside : i + (1 + 512 * getD vs 0 0) ≤ 8 * length s
-  matrix-inside = case seen
-    where
-      case : {ws : List ℕ} → Matrix s i (got ws) → i + (1 + 512 * getD ws 0 0) ≤ 8 * length s
-      case (none h) = omega arith
-      case (one bytes l h) = omega arith
-
   -- it is the table that its flag chooses
   pub matrix-as-table : readFields (any 1 ∷ matrixBytes (getD vs 0 0)) s i ≡ got vs
   matrix-as-table = case (readBits s i 1) refl

@@ -1,4 +1,4 @@
--- A sequence header with its extension: the ways that reading the two goes, what stands behind them, and the bounds of what they make.
+-- A sequence header with its extension: the ways that reading the two goes, and what stands behind them.
 -- Assumes nothing.
 use mathlib.Core.Path.{_≡_, refl}
 use mathlib.Core.List.{List, _++_}
@@ -6,13 +6,14 @@ use Prim.Native.Nat.{ℕ, _-_, _≤_}
 use native.Mathlib.Omega.{arith}
 use lib.ListN.{length, take, drop}
 use lib.Seq.{drop-append-le}
+use Rattle.bits.proofs.Reading.{rest-is}
 use Rattle.headers.specs.StartCode.{nextStartCode}
 use Rattle.headers.specs.SequenceHeader.{sequenceHeader, sequenceHeaderBytes}
 use Rattle.headers.specs.SequenceExtension.{sequenceExtension}
 use Rattle.headers.specs.Sequence.{sequenceOf, refusedSequence, withExtension, extensionAt, afterHeader, sequence}
-use Rattle.headers.proofs.StartCode.{next-found, next-append, rest-is}
+use Rattle.headers.proofs.StartCode.{next-found, next-append}
 use Rattle.headers.proofs.SequenceHeader.{HeaderBounds, sequence-header-bounds, sequence-header-append}
-use Rattle.headers.proofs.SequenceExtension.{extension-bounds, extension-append}
+use Rattle.headers.proofs.SequenceExtension.{extension-append}
 use Rattle.headers.specs.declared.Error.{Error}
 use Rattle.headers.specs.declared.Error.the-variants.{InvalidBitstream}
 use Rattle.headers.specs.declared.NextStartCode.{NextStartCode}
@@ -23,7 +24,6 @@ use Rattle.headers.specs.declared.sequence_header.SequenceHeaderRead.{Se
 use Rattle.headers.specs.declared.sequence_extension.Mpeg2SequenceExtension.{Mpeg2SequenceExtension}
 use Rattle.headers.specs.declared.sequence_extension.SequenceExtensionRead.{SequenceExtensionRead}
 use Rattle.headers.specs.declared.sequence_extension.SequenceExtensionRead.the-variants.{Parsed as ExtensionParsed, Refused as ExtensionRefused}
-use Rattle.headers.specs.declared.sequence_extension.Mpeg2Sequence.{Mpeg2Sequence}
 
 -- the ways of from_buf, with what its calls answer
 module _ (s : List ℕ) (r : SequenceHeaderRead) (h : r ≡ sequenceHeader s) where
@@ -92,25 +92,3 @@ sequence-append s t a =
     let c = next-append s t (sequenceHeaderBytes (sequenceHeader s .header)) (p .place) (p .code-found) in
     let x = extension-append (drop (p .place) s) t (λ e. let z : _≡_ {A = ℕ} 0 1 = cc in omega arith) in
     rw (h, p .header-parsed, c, p .code-found, drop-append-le (p .place) s t l, x)
-
--- the bounds of a parsed sequence
-pub record SequenceBounds (q : Mpeg2Sequence) : Type 0 where
-  pub width-low : 1 ≤ q .«horizontal_size»
-  pub width-high : q .«horizontal_size» ≤ 16383
-  pub height-low : 1 ≤ q .«vertical_size»
-  pub height-high : q .«vertical_size» ≤ 16383
-  pub rate-low : 1 ≤ q .«bit_rate»
-  pub rate-high : q .«bit_rate» ≤ 1073741823
-  pub buffer-high : q .«vbv_buffer_size» ≤ 262143
-  pub code-low : 1 ≤ q .header .«frame_rate_code»
-  pub code-high : q .header .«frame_rate_code» ≤ 15
-  pub frame-n-high : q .extension .«frame_rate_extension_n» ≤ 3
-  pub frame-d-high : q .extension .«frame_rate_extension_d» ≤ 31
-
-pub sequence-bounds : (s : List ℕ) → sequence s .answer ≡ Accepted → SequenceBounds (sequence s .sequence)
-unfolding sequenceOf
-sequence-bounds s a =
-    let p = sequence-parts s a in
-    let h = sequence-header-bounds s (p .header-parsed) in
-    let x = extension-bounds (drop (p .place) s) (p .extension) (p .extension-parsed) in
-    rw (p .sequence-is) (omega arith)

@@ -6,19 +6,19 @@ use mathlib.Core.Bool.{Bool, true, false, _&&_}
 use Prim.Native.Nat.{ℕ, _+_, _*_, _≤_}
 use native.Mathlib.Omega.{arith}
 use lib.Dec.{eqb}
-use lib.ListN.{length, getD}
+use lib.ListN.{getD}
 use Rattle.bits.specs.Fields.{Parsed, short, bad, got, readHeader}
 use Rattle.bits.proofs.Reading.{both-true, read-range, header-got, header-append}
 use Rattle.headers.specs.Answers.{flagOf}
 use Rattle.headers.specs.QuantMatrix.{readMatrix, matrixOf, matrixRead}
-use Rattle.headers.specs.SequenceHeader.{sequenceHeaderCode, sequenceHeaderFields, aspectRatio, headerOf, refusedHeader, headerThen, sequenceHeader, sequenceHeaderBytes}
+use Rattle.headers.specs.SequenceHeader.{sequenceHeaderCode, sequenceHeaderFields, aspectRatio, headerOf, refusedHeader, headerThen, sequenceHeader}
 use Rattle.headers.specs.declared.Error.{Error}
 use Rattle.headers.specs.declared.Error.the-variants.{ShortHeader, InvalidBitstream}
 use Rattle.headers.specs.declared.quant_matrix_extension.MatrixRead.{MatrixRead}
 use Rattle.headers.specs.declared.sequence_header.Mpeg2SequenceHeader.{Mpeg2SequenceHeader}
 use Rattle.headers.specs.declared.sequence_header.SequenceHeaderRead.{SequenceHeaderRead}
 use Rattle.headers.specs.declared.sequence_header.Answer.the-variants.{Parsed as Accepted, Refused}
-use Rattle.headers.proofs.QuantMatrix.{Matrix, matrix-seen, matrix-inside, matrix-append, matrix-there, matrix-missing, matrix-flag}
+use Rattle.headers.proofs.QuantMatrix.{Matrix, matrix-seen, matrix-append, matrix-there, matrix-missing, matrix-flag}
 
 -- the fields before the matrices
 abbrev pub fixedFields : List ℕ → Parsed
@@ -171,16 +171,6 @@ sequence-header-bounds s a =
       rate-high = r 4 .1;
       buffer-high = r 6 .1;
     })
-
--- the bytes that it occupies are there
-pub sequence-header-inside : (s : List ℕ) → sequenceHeader s .answer ≡ Accepted → sequenceHeaderBytes (sequenceHeader s .header) ≤ length s
-unfolding headerOf sequenceHeaderBytes
-sequence-header-inside s a =
-    let p = header-parts s a in
-    let i = p .intra in
-    let n = p .nonIntra in
-    rw (p .header-is)
-    (omega (arith, matrix-flag s 94 i (p .intra-read), matrix-flag s _ n (p .non-intra-read), matrix-inside s _ n (p .non-intra-read)))
 
 -- what stands behind the bytes does not matter, unless they are too short
 pub sequence-header-append : (s t : List ℕ) → (sequenceHeader s .answer ≡ Refused ShortHeader → ⊥) → sequenceHeader (s ++ t) ≡ sequenceHeader s

@@ -8,11 +8,11 @@ use native.Mathlib.Numerals.{add-one}
 use native.Mathlib.Omega.{arith}
 use lib.Dec.{eqb}
 use lib.ListN.{length, getD, take, drop, length-drop, drop-of-length-le}
-use lib.Seq.{take-all, drop-cons, drop-append-le, take-append-le}
+use lib.Seq.{drop-cons, drop-append-le, take-append-le}
 use borrow.Author.Tests.{eqb-true, eqb-false}
 use Rattle.bits.specs.Bits.{pick}
-use Rattle.bits.specs.Fields.{sameBytes}
-use Rattle.bits.proofs.Reading.{same-bytes, same-self}
+use Rattle.bits.specs.Fields.{sameBytes, startCodePrefix}
+use Rattle.bits.proofs.Reading.{same-bytes, same-self, rest-is}
 use Rattle.headers.specs.StartCode.{zeros, prefixAt, nextStartCode}
 use Rattle.headers.specs.declared.NextStartCode.the-variants.{At, Missing}
 
@@ -48,27 +48,24 @@ zeros-append (zero ∷ s) t h = ap suc (zeros-append s t (omega arith))
 zeros-append (suc b ∷ s) t h = refl
 
 -- the prefix, in the list and in the slice from its byte on
-pub prefix-is : (s : List ℕ) (p : ℕ) → prefixAt s p ≡ sameBytes (take 3 (drop p s)) (0x00 ∷ 0x00 ∷ 0x01 ∷ [])
+pub prefix-is : (s : List ℕ) (p : ℕ) → prefixAt s p ≡ sameBytes (take 3 (drop p s)) startCodePrefix
 unfolding prefixAt
 prefix-is s p = refl
 
-pub rest-is : (s : List ℕ) (p : ℕ) → take (length s - p) (drop p s) ≡ drop p s
-rest-is s p = take-all (length s - p) (drop p s) (omega (arith, length-drop p s))
-
-pub prefix-rest : (s : List ℕ) (p : ℕ) → sameBytes (take 3 (take (length s - p) (drop p s))) (0x00 ∷ 0x00 ∷ 0x01 ∷ []) ≡ prefixAt s p
+pub prefix-rest : (s : List ℕ) (p : ℕ) → sameBytes (take 3 (take (length s - p) (drop p s))) startCodePrefix ≡ prefixAt s p
 prefix-rest s p = rw (rest-is s p, prefix-is s p)
 
 pub record Prefix (s : List ℕ) (p : ℕ) : Type 0 where
   pub room : p + 3 ≤ length s
-  pub is : take 3 (drop p s) ≡ 0 ∷ 0 ∷ 1 ∷ []
+  pub is : take 3 (drop p s) ≡ startCodePrefix
 
 pub prefix-true : (s : List ℕ) (p : ℕ) → prefixAt s p ≡ true → Prefix s p
 unfolding prefixAt
 prefix-true s p e =
-    let q = same-bytes (take 3 (drop p s)) (0 ∷ 0 ∷ 1 ∷ []) e in
+    let q = same-bytes (take 3 (drop p s)) startCodePrefix e in
     record { room = long (drop p s) q (length-drop p s); is = q }
   where
-    long : (d : List ℕ) → take 3 d ≡ 0 ∷ 0 ∷ 1 ∷ [] → length d ≡ length s - p → p + 3 ≤ length s
+    long : (d : List ℕ) → take 3 d ≡ startCodePrefix → length d ≡ length s - p → p + 3 ≤ length s
     long [] q l = let z : _≡_ {A = ℕ} 0 1 = cc in omega arith
     long (a ∷ []) q l = let z : _≡_ {A = ℕ} 0 1 = cc in omega arith
     long (a ∷ b ∷ []) q l = let z : _≡_ {A = ℕ} 0 1 = cc in omega arith
@@ -82,7 +79,7 @@ prefix-none s p h = case (prefixAt s p) refl
     case false e = e
 
 -- a prefix at byte 0 has two zeros to pass over, so that none ends before byte 2
-first-zeros : (s : List ℕ) (k : ℕ) → take 3 s ≡ 0 ∷ 0 ∷ 1 ∷ [] → 2 ≤ k + zeros (drop k s)
+first-zeros : (s : List ℕ) (k : ℕ) → take 3 s ≡ startCodePrefix → 2 ≤ k + zeros (drop k s)
 unfolding zeros
 first-zeros [] k q = let z : _≡_ {A = ℕ} 0 1 = cc in omega arith
 first-zeros (suc a ∷ s) k q = let z : suc a ≡ 0 = cc in omega arith
@@ -156,5 +153,5 @@ next-append s t k p e =
     let m : 3 ≤ length (drop p s) = omega (arith, length-drop p s) in
     let w : k + zeros (drop k s) - 2 ≡ p = omega arith in
     let q : prefixAt (s ++ t) (k + zeros (drop k s) - 2) ≡ true =
-    rw (w, drop-append-le p s t (omega arith), take-append-le 3 (drop p s) t m, f .prefix .is) (same-self (0 ∷ 0 ∷ 1 ∷ [])) in
+    rw (w, drop-append-le p s t (omega arith), take-append-le 3 (drop p s) t m, f .prefix .is) (same-self startCodePrefix) in
     next-at (s ++ t) k (k + zeros (drop k s)) (rw z) q ∙ ap At w

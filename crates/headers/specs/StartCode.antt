@@ -5,7 +5,7 @@ use mathlib.Core.List.{List, [], _∷_}
 use mathlib.Core.Bool.{Bool}
 use lib.ListN.{take, drop}
 use Rattle.bits.specs.Bits.{pick}
-use Rattle.bits.specs.Fields.{sameBytes}
+use Rattle.bits.specs.Fields.{sameBytes, startCodePrefix}
 use Rattle.headers.specs.declared.NextStartCode.{NextStartCode}
 use Rattle.headers.specs.declared.NextStartCode.the-variants.{At, Missing}
 
@@ -17,7 +17,7 @@ zeros (suc b ∷ s) = 0
 
 -- 00 00 01 stands at byte p
 unfoldable pub prefixAt : List ℕ → ℕ → Bool
-prefixAt s p = sameBytes (take 3 (drop p s)) (0 ∷ 0 ∷ 1 ∷ [])
+prefixAt s p = sameBytes (take 3 (drop p s)) startCodePrefix
 
 -- the prefix that ends with the first byte, from byte k on, that is not zero; its two zeros may lie before byte k (docs/DIFFERENCES.md), and no byte need follow it
 unfoldable pub nextStartCode : List ℕ → ℕ → NextStartCode
