@@ -2,18 +2,16 @@
 -- Assumes nothing.
 use mathlib.Core.Path.{_≡_, refl, sym, ap, _∙_}
 use mathlib.Core.List.{List, _++_}
-use mathlib.Core.Bool.{Bool, true, false, _&&_}
+use mathlib.Core.Bool.{Bool, true, false}
 use Prim.Native.Nat.{ℕ, _≤_}
 use native.Mathlib.Omega.{arith}
-use lib.Dec.{leb}
 use lib.ListN.{length, getD, take}
-use borrow.Author.Tests.{leb-true}
 use Rattle.bits.specs.Bits.{pick}
 use Rattle.bits.specs.Fields.{Parsed, short, bad, got, readFields, readHeader}
 use Rattle.bits.specs.Answers.{fieldsAnswer}
 use Rattle.bits.specs.declared.Fields.{Fields}
 use Rattle.bits.specs.declared.Outcome.the-variants.{Done, Short, Bad}
-use Rattle.bits.proofs.Reading.{both-true, read-within, read-append, header-got, header-append, answer-short, answer-bad, fields-done, header-done}
+use Rattle.bits.proofs.Reading.{read-append, header-got, header-append, answer-short, answer-bad, fields-done, header-done}
 use Rattle.headers.specs.SequenceExtension.{extensionStartCode}
 use Rattle.picture_header.specs.CodingExtension.{
   motionCodeFields,
@@ -126,37 +124,6 @@ pub coding-code : (s : List ℕ) (x : PictureCodingExtension) → pictureCodingE
 coding-code s x e =
     let p = coding-parsed s x e in
     header-got extensionStartCode motionCodeFields s (p .h) (p .codes) .code-first
-
--- the ranges of its numbers
-pub record CodingBounds (x : PictureCodingExtension) : Type 0 where
-  pub fwd-horiz : (1 ≤ x .«f_code_fwd_horiz») × (x .«f_code_fwd_horiz» ≤ 15)
-  pub fwd-vert : (1 ≤ x .«f_code_fwd_vert») × (x .«f_code_fwd_vert» ≤ 15)
-  pub bwd-horiz : (1 ≤ x .«f_code_bwd_horiz») × (x .«f_code_bwd_horiz» ≤ 15)
-  pub bwd-vert : (1 ≤ x .«f_code_bwd_vert») × (x .«f_code_bwd_vert» ≤ 15)
-  pub precision : x .«intra_dc_precision» ≤ 3
-
-codes-fit : (h : List ℕ) → motionCodesFit h ≡ true → (1 ≤ getD h 1 0) × (1 ≤ getD h 2 0) × (1 ≤ getD h 3 0) × (1 ≤ getD h 4 0)
-unfolding motionCodesFit
-codes-fit h e =
-    let a = both-true (leb 1 (getD h 1 0)) (leb 1 (getD h 2 0) && (leb 1 (getD h 3 0) && leb 1 (getD h 4 0))) e in
-    let b = both-true (leb 1 (getD h 2 0)) (leb 1 (getD h 3 0) && leb 1 (getD h 4 0)) (a .1) in
-    let d = both-true (leb 1 (getD h 3 0)) (leb 1 (getD h 4 0)) (b .1) in
-    (leb-true _ _ (a .0), leb-true _ _ (b .0), leb-true _ _ (d .0), leb-true _ _ (d .1))
-
-pub coding-bounds : (s : List ℕ) (x : PictureCodingExtension) → pictureCodingExtension s ≡ Accepted x → CodingBounds x
-unfolding codingExtensionOf
-coding-bounds s x e =
-    let p = coding-parsed s x e in
-    let low = codes-fit (p .h) (p .fit) in
-    let codes = header-got extensionStartCode motionCodeFields s (p .h) (p .codes) .fields-read in
-    let high = read-within motionCodeFields s 32 (p .h) codes in
-    rw (p .made) (record {
-      fwd-horiz = (low .0, high 1);
-      fwd-vert = (low .1, high 2);
-      bwd-horiz = (low .2, high 3);
-      bwd-vert = (low .3, high 4);
-      precision = read-within codingFields s 52 (p .vs) (p .rest) 0;
-    })
 
 -- what stands behind the bytes does not matter, unless they are too short
 pub coding-append : (s t : List ℕ) → (pictureCodingExtension s ≡ Refused ShortHeader → ⊥) → pictureCodingExtension (s ++ t) ≡ pictureCodingExtension s

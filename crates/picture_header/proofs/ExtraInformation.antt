@@ -9,13 +9,13 @@ use native.Mathlib.Nat.{add-zero}
 use native.Mathlib.Omega.{arith}
 use lib.Dec.{leb, lit≤}
 use lib.ListN.{length, getD, take, drop, length-drop, drop-of-length-le}
-use lib.Seq.{take-all, drop-cons, drop-drop, drop-append-le}
+use lib.Seq.{drop-cons, drop-drop, drop-append-le}
 use borrow.Author.Tests.{leb-true, leb-false}
 use Rattle.bits.specs.Bits.{bitAt, bitsAt, bitList, there}
 use Rattle.bits.specs.Answers.{readBits}
 use Rattle.bits.specs.declared.Bits.the-variants.{Value, Short as NoBits}
 use Rattle.bits.proofs.Laws.{bits-none, bits-more, bits-drop, bit-list-length, bit-list-append, bit-list-at}
-use Rattle.bits.proofs.Reading.{found, missed, there-is, there-true, there-drop}
+use Rattle.bits.proofs.Reading.{found, missed, there-is, there-true, rest-is, there-drop}
 use Rattle.picture_header.specs.PictureHeader.{Extra, cut, bytes, oneMore, extra, extraAnswer, extraAt}
 use Rattle.picture_header.specs.declared.ExtraRead.the-variants.{Bytes as ExtraBytes, Cut}
 
@@ -90,9 +90,6 @@ module _ {s : List ℕ} {f n : ℕ} (w : Walk s f n) where
 
 -- flag n as it is read, from byte n on
 module _ (s : List ℕ) (f n : ℕ) (h : n < length s) where
-  rest : take (length s - n) (drop n s) ≡ drop n s
-  rest = take-all (length s - n) (drop n s) (omega (arith, length-drop n s))
-
   place : 8 * n + (f + n) ≡ f + 9 * n
   place = omega arith
 
@@ -102,7 +99,7 @@ module _ (s : List ℕ) (f n : ℕ) (h : n < length s) where
   pub flag-read : (v : ℕ) → Value v ≡ readBits (take (length s - n) (drop n s)) (f + n) 1
       → (f + 9 * n < 8 * length s) × (v ≡ bitAt s (f + 9 * n))
   flag-read v e =
-      let r = found (drop n s) (f + n) 1 v (rw rest at (e)) in
+      let r = found (drop n s) (f + n) 1 v (rw rest-is at (e)) in
       let b : bitsAt s (f + 9 * n) 1 ≡ bitAt s (f + 9 * n) = bits-more s (f + 9 * n) 0 ∙ rw (bits-none s (f + 9 * n), add-zero (f + 9 * n)) (omega arith) in (
         omega (arith, there-true s (f + 9 * n) 1 (sym there-place ∙ r .0) .1),
         r .1 ∙ bits-drop n s (f + n) 1 ∙ ap (λ (i : ℕ). bitsAt s i 1) place ∙ b,
@@ -112,7 +109,7 @@ module _ (s : List ℕ) (f n : ℕ) (h : n < length s) where
   flag-missed e = case (leb (8 * length s) (f + 9 * n)) refl
     where
       gone : there s (f + 9 * n) 1 ≡ false
-      gone = sym there-place ∙ missed (drop n s) (f + n) 1 (rw rest at (e))
+      gone = sym there-place ∙ missed (drop n s) (f + n) 1 (rw rest-is at (e))
 
       case : (b : Bool) → leb (8 * length s) (f + 9 * n) ≡ b → 8 * length s ≤ f + 9 * n
       case true q = leb-true _ _ q

@@ -4,7 +4,7 @@ use mathlib.Core.Path.{_≡_, refl, sym, ap, _∙_}
 use mathlib.Core.List.{List, [], _∷_}
 use mathlib.Core.Bool.{Bool, true, false, _||_}
 use mathlib.Core.Logic.{_⊎_, ⊎-elim}
-use Prim.Native.Nat.{ℕ, zero, suc, _+_, _-_, _*_, _/_, _≤_}
+use Prim.Native.Nat.{ℕ, zero, suc, _+_, _-_, _*_, _≤_}
 use native.Mathlib.Omega.{arith}
 use native.Mathlib.Nat.{add-zero}
 use lib.Dec.{eqb, lit≤}
@@ -25,11 +25,9 @@ use Rattle.picture_header.specs.declared.Mpeg2PictureHeader.{Mpeg2Pictur
 use Rattle.picture_header.specs.declared.PictureHeaderRead.the-variants.{Parsed as HeaderParsed}
 use Rattle.picture_header.specs.declared.PictureCodingExtension.{PictureCodingExtension}
 use Rattle.picture_header.specs.declared.PictureRead.the-variants.{Parsed as Accepted}
-use Rattle.headers.specs.declared.NextStartCode.the-variants.{At}
 use Rattle.headers.proofs.StartCode.{next-found, next-same}
-use Rattle.picture_header.proofs.PictureHeader.{picture-header-parsed, header-least, header-inside, extra-bit-type, flag-bit-range}
+use Rattle.picture_header.proofs.PictureHeader.{picture-header-parsed, header-least, header-inside, extra-bit-type, flag-bit-range, from, fields-are}
 use Rattle.picture_header.proofs.Picture.{picture-parsed, picture-behind}
-use Rattle.picture_header.proofs.PictureHeader.{from, fields-are}
 
 -- t is s with another delay: bits 45 to 60
 pub record OtherDelay (s t : List ℕ) : Type 0 where
@@ -52,11 +50,6 @@ delayed h d = record {
   «extra_information_bytes» = h .«extra_information_bytes»;
   «extra_information_bit» = h .«extra_information_bit»;
 }
-
--- its bytes: up to the first flag, nine bits for each extra byte, one for the last flag, and zeros to a whole byte
-pub header-bytes : (h : Mpeg2PictureHeader) → pictureHeaderBytes h ≡ (h .«extra_information_bit» + 9 * h .«extra_information_bytes» + 8) / 8
-unfolding pictureHeaderBytes pictureHeaderBits
-header-bytes h = ap (λ (n : ℕ). n / 8) (omega arith)
 
 pub delayed-bytes : (h : Mpeg2PictureHeader) (d : ℕ) → pictureHeaderBytes (delayed h d) ≡ pictureHeaderBytes h
 unfolding pictureHeaderBytes pictureHeaderBits delayed

@@ -6,7 +6,8 @@ use mathlib.Core.List.{List, _++_}
 use Prim.Native.Nat.{ℕ, _+_, _-_, _≤_, _<_}
 use native.Mathlib.Omega.{arith}
 use lib.ListN.{length, getD, take, drop, length-drop}
-use lib.Seq.{getD-drop, drop-append-le, take-all}
+use lib.Seq.{getD-drop, drop-append-le}
+use Rattle.bits.proofs.Reading.{rest-is}
 use Rattle.headers.specs.StartCode.{nextStartCode}
 use Rattle.headers.specs.SequenceExtension.{extensionStartCode}
 use Rattle.picture_header.specs.PictureHeader.{pictureHeader, pictureHeaderBytes}
@@ -51,7 +52,7 @@ module _ (s : List ℕ) (h : Mpeg2PictureHeader) where
   -- with the part from byte k on as the code has it
   pub behind-part : (k : ℕ) → nextStartCode s (pictureHeaderBytes h) ≡ At k
       → withCoding h (pictureCodingExtension (take (length s - k) (drop k s))) ≡ behindHeader s h
-  behind-part k m = rw (take-all (length s - k) (drop k s) (omega (arith, length-drop k s))) (behind-at k m)
+  behind-part k m = rw (rest-is s k) (behind-at k m)
 
   pub picture-dc : pictureHeader s ≡ HeaderParsed h → h .«picture_coding_type» ≡ DcIntra → Refused InvalidBitstream ≡ picture s
   unfolding picture afterPictureHeader unlessDc

@@ -11,7 +11,7 @@ use Rattle.vbv.specs.declared.RemovalInterval.{RemovalInterval}
 use Rattle.vbv.specs.declared.VbvCbrModel.{VbvCbrModel}
 use Rattle.vbv.specs.Annex.{unit, gain, overflows, underflows}
 use Rattle.vbv.specs.Model.{delivered, modelFits, atDelivered, afterRemoval, periods}
-use Rattle.vbv.specs.Fits.{EndFits}
+use Rattle.vbv.specs.Steps.{EndFits}
 use Rattle.vbv.specs.Patch.{startsPicture, patched}
 use Rattle.vbv.proofs.Fitting.{model-fits, fitting-model, fitting-end, unit-pos}
 use Rattle.vbv.proofs.Laws.{over-units, fits-params, delivered-at, delivered-after, removed, removes}

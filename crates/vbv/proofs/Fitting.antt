@@ -1,31 +1,24 @@
 -- What the tests of parameters and of a state say: bounds, and back.
 -- Assumes nothing.
-use mathlib.Core.Path.{_≡_, refl, sym, _∙_}
+use mathlib.Core.Path.{_≡_, sym, _∙_}
 use mathlib.Core.Bool.{Bool, true, false, _&&_}
 use Prim.Native.Nat.{ℕ, _*_, _/_, _^_, _≤_, _<_}
 use native.Mathlib.Omega.{arith}
 use lib.Arith.{digits-div}
 use lib.Dec.{leb, ltb}
 use borrow.Author.Tests.{leb-true, ltb-true, le-leb, lt-ltb}
+use Rattle.bits.proofs.Flags.{and-left, and-right}
 use Rattle.vbv.specs.declared.RemovalInterval.{RemovalInterval}
 use Rattle.vbv.specs.declared.RemovalInterval.the-variants.{Frame, Field}
 use Rattle.vbv.specs.declared.VbvParams.{VbvParams}
 use Rattle.vbv.specs.declared.VbvCbrModel.{VbvCbrModel}
 use Rattle.vbv.specs.Annex.{unit}
-use Rattle.vbv.specs.Fits.{ParamsFit, ModelFits, EndFits}
+use Rattle.vbv.specs.Steps.{ParamsFit, ModelFits, EndFits}
 use Rattle.vbv.specs.Model.{paramsFit, delivered, modelFits, periods, endFits}
 
 -- a flag that a callee returned and a branch tested
 pub told-by : (r v t : Bool) → r ≡ v → r ≡ t → v ≡ t
 told-by r v t p q = sym p ∙ q
-
-pub and-l : (a b : Bool) → (a && b) ≡ true → a ≡ true
-and-l true b h = refl
-and-l false b h = h
-
-and-r : (a b : Bool) → (a && b) ≡ true → b ≡ true
-and-r true b h = h
-and-r false b h = cc
 
 -- the ranges of the parameters, which keep the test of the ratio in 64 bits
 abbrev ranges : VbvParams → Bool
@@ -40,41 +33,41 @@ ranges p =
     && leb (p .frd) 32032
 
 pub in-range : (p : VbvParams) → ranges p ≡ true → (p .«bit_rate» ≤ 429496729200) × (p .«buffer_size_bits» ≤ 4294950912)
-in-range p h = (leb-true _ _ (search (and-l, and-r) depth 14), leb-true _ _ (search (and-l, and-r) depth 14))
+in-range p h = (leb-true _ _ (search (and-left, and-right) depth 14), leb-true _ _ (search (and-left, and-right) depth 14))
 
 pub params-fit : {p : VbvParams} → paramsFit p ≡ true → ParamsFit p
 unfolding paramsFit
 params-fit h =
     record {
-      rate-low = leb-true _ _ (search (and-l, and-r) depth 14);
-      rate-high = leb-true _ _ (search (and-l, and-r) depth 14);
-      size-low = leb-true _ _ (search (and-l, and-r) depth 14);
-      size-high = leb-true _ _ (search (and-l, and-r) depth 14);
-      frn-low = leb-true _ _ (search (and-l, and-r) depth 14);
-      frn-high = leb-true _ _ (search (and-l, and-r) depth 14);
-      frd-low = leb-true _ _ (search (and-l, and-r) depth 14);
-      frd-high = leb-true _ _ (search (and-l, and-r) depth 14);
-      full = leb-true _ _ (search (and-l, and-r));
+      rate-low = leb-true _ _ (search (and-left, and-right) depth 14);
+      rate-high = leb-true _ _ (search (and-left, and-right) depth 14);
+      size-low = leb-true _ _ (search (and-left, and-right) depth 14);
+      size-high = leb-true _ _ (search (and-left, and-right) depth 14);
+      frn-low = leb-true _ _ (search (and-left, and-right) depth 14);
+      frn-high = leb-true _ _ (search (and-left, and-right) depth 14);
+      frd-low = leb-true _ _ (search (and-left, and-right) depth 14);
+      frd-high = leb-true _ _ (search (and-left, and-right) depth 14);
+      full = leb-true _ _ (search (and-left, and-right));
     }
 
 pub model-fits : {m : VbvCbrModel} → modelFits m ≡ true → ModelFits m
 unfolding modelFits unit
 model-fits h =
     record {
-      params-fit = params-fit (search (and-l, and-r) depth 8);
-      whole-high = leb-true _ _ (search (and-l, and-r) depth 8);
-      rest-low = ltb-true _ _ (search (and-l, and-r) depth 8);
-      end-high = leb-true _ _ (search (and-l, and-r) depth 8);
-      removed-high = leb-true _ _ (search (and-l, and-r) depth 8);
+      params-fit = params-fit (search (and-left, and-right) depth 8);
+      whole-high = leb-true _ _ (search (and-left, and-right) depth 8);
+      rest-low = ltb-true _ _ (search (and-left, and-right) depth 8);
+      end-high = leb-true _ _ (search (and-left, and-right) depth 8);
+      removed-high = leb-true _ _ (search (and-left, and-right) depth 8);
     }
 
 pub end-fits : {m : VbvCbrModel} {end : ℕ} → endFits m end ≡ true → EndFits m end
 unfolding endFits
 end-fits h =
     record {
-      end-far = leb-true _ _ (search (and-l, and-r));
-      end-low = leb-true _ _ (search (and-l, and-r));
-      count = ltb-true _ _ (search (and-l, and-r));
+      end-far = leb-true _ _ (search (and-left, and-right));
+      end-low = leb-true _ _ (search (and-left, and-right));
+      count = ltb-true _ _ (search (and-left, and-right));
     }
 
 -- the test of a state by that of its parameters

@@ -21,7 +21,7 @@ use Rattle.vbv.specs.declared.VbvDelay.the-variants as dl
 use Rattle.vbv.specs.declared.VbvBits.the-variants as bt
 use Rattle.vbv.specs.Annex.{unit, firstDelivered, gain, overflows, underflows, early, expectedDelay, occupancy, greatestEnd, leastEnd}
 use Rattle.vbv.specs.Model.{paramsFit, delivered, modelFits, atDelivered, afterRemoval, periods, nextDelivered, newModel, startModel, delayForPicture, endFits, removePicture, ofStarted, maxEndBits, minEndBits, occupancyBeforeRemoval}
-use Rattle.vbv.specs.Fits.{ModelFits, EndFits}
+use Rattle.vbv.specs.Steps.{ModelFits, EndFits}
 use Rattle.vbv.proofs.Arith.{same-lt, below-floor, above-ceiling, ceiling-beyond, start-div, next-div, ticks-most, next-most}
 use Rattle.vbv.proofs.Picks.{yes, no, was-yes, was-no}
 use Rattle.vbv.proofs.Fitting.{params-fit, model-fits, end-fits, fitting-params, fitting-model, unit-pos, periods-most}

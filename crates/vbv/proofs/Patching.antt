@@ -11,13 +11,13 @@ use lib.Seq.{getD-set-other, take-set-le, drop-set-lt}
 use borrow.Author.Tests.{leb-true, le-leb, lt-leb}
 use Rattle.bits.specs.Bits.{bitsAt, digits, setBits}
 use Rattle.bits.specs.Fields.{sameBytes}
+use Rattle.bits.proofs.Flags.{and-left}
 use Rattle.bits.proofs.Laws.{bits-bound, bits-split, length-digits}
 use Rattle.bits.proofs.Appending.{Below, below-take, below-drop, digit-bound}
 use Rattle.bits.proofs.Patching.{byte-bits, set-length, set-below, set-before, set-behind, set-digits, set-within}
 use Rattle.vbv.specs.Patch.{startsPicture, patchAnswer, patched}
 use Rattle.vbv.specs.declared.VbvError.the-variants.{NoPicture}
 use Rattle.vbv.specs.declared.VbvPatch.the-variants.{Done, Refused}
-use Rattle.vbv.proofs.Fitting.{and-l}
 use Rattle.vbv.proofs.Picks.{yes, no}
 
 -- the test of a picture header
@@ -31,7 +31,7 @@ starts-is s h = rw (le-leb _ _ h)
 
 pub starts-long : (s : List ℕ) → startsPicture s ≡ true → 8 ≤ length s
 unfolding startsPicture
-starts-long s h = leb-true _ _ (and-l _ _ h)
+starts-long s h = leb-true _ _ (and-left _ _ h)
 
 -- a list of three by its elements
 three : (s : List ℕ) {x y z : ℕ} → length s ≡ 3 → getD s 0 0 ≡ x → getD s 1 0 ≡ y → getD s 2 0 ≡ z → s ≡ x ∷ y ∷ z ∷ []

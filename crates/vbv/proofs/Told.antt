@@ -16,7 +16,7 @@ use Rattle.vbv.specs.declared.VbvRemoval.the-variants as rm
 use Rattle.vbv.specs.declared.VbvDelay.the-variants as dl
 use Rattle.vbv.specs.Annex.{gain, overflows, underflows, early, expectedDelay}
 use Rattle.vbv.specs.Model.{paramsFit, delivered, modelFits, afterRemoval, periods, nextDelivered, newModel, delayForPicture, removePicture}
-use Rattle.vbv.specs.Fits.{EndFits}
+use Rattle.vbv.specs.Steps.{EndFits}
 use Rattle.vbv.proofs.Picks.{yes, no}
 use Rattle.vbv.proofs.Fitting.{fitting-end}
 

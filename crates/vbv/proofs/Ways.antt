@@ -17,7 +17,7 @@ use Rattle.vbv.specs.declared.VbvDelay.{VbvDelay}
 use Rattle.vbv.specs.declared.VbvDelay.the-variants as dl
 use Rattle.vbv.specs.declared.VbvBits.the-variants as bt
 use Rattle.vbv.specs.Annex.{unit, firstDelivered, gain, overflows, underflows, early, expectedDelay, occupancy, greatestEnd, leastEnd}
-use Rattle.vbv.specs.Fits.{ModelFits, EndFits}
+use Rattle.vbv.specs.Steps.{ModelFits, EndFits}
 use Rattle.vbv.specs.Model.{delivered, modelFits, atDelivered, afterRemoval, periods, nextDelivered, delayForPicture, removePicture, ofStarted}
 use Rattle.vbv.proofs.Arith.{ceiling-whole, ceiling-more, beyond, floor-beyond, start-div, start-mod, next-div, next-mod, delay-split, delay-large}
 use Rattle.vbv.proofs.Picks.{yes, no}

@@ -1,7 +1,7 @@
 pub mod Annex
 pub mod Answers
 pub mod Model
-pub mod Fits
+pub mod Steps
 pub mod Patch
 pub mod Figures
 pub mod Lent

@@ -4,7 +4,7 @@ ghost use mathlib.Core.Bool.{true};
 ghost use Prim.Native.Nat.{_+_, _-_, _/_, _^_, _≤_, _<_};
 ghost use Rattle.vbv.specs.Annex.{unit, firstDelivered};
 ghost use Rattle.vbv.specs.Answers.{errorNumber, frameRate};
-ghost use Rattle.vbv.specs.Fits.{ModelFits, EndFits};
+ghost use Rattle.vbv.specs.Steps.{ModelFits, EndFits};
 ghost use Rattle.vbv.specs.Model.{paramsFit, delivered, modelFits, atDelivered, periods, nextDelivered, newModel, startModel, delayForPicture, removePicture, maxEndBits, minEndBits, occupancyBeforeRemoval};
 ghost use Rattle.vbv.specs.Patch.{startsPicture, patchAnswer, patched};
 

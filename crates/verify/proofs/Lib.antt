@@ -1,4 +1,3 @@
-pub mod Parts
 pub mod Rising
 pub mod Storing
 pub mod Walking

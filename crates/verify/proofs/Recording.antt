@@ -20,13 +20,13 @@ use Rattle.verify.specs.declared.Progress.{Progress}
 use Rattle.verify.specs.declared.Progress.the-variants.{Fresh, Unmodelled, Running, Stopped}
 use Rattle.verify.specs.declared.recorder.VbvRecorder.{VbvRecorder}
 use Rattle.scan.specs.Pictures.{Pic}
-use Rattle.scan.specs.Walk.{picturesAt, nextPicture}
+use Rattle.scan.specs.Walk.{nextPicture}
 use Rattle.verify.specs.Sequence.{declared}
 use Rattle.verify.specs.Coded.{read}
 use Rattle.verify.specs.Check.{Verdict, no, yes, verdict, verified, records}
 use Rattle.verify.specs.Walk.{codedAt, advanced, ifCoded}
 use Rattle.verify.specs.Recorder.{recorderOf, recordCount, noRecord, lastOf, stayed, wentOn, recordedBy, nextRecord}
-use Rattle.scan.proofs.Pictures.{walked as walked-on, pictures-done, pictures-walk}
+use Rattle.scan.proofs.Pictures.{picturesAt, walked as walked-on, pictures-done, pictures-walk}
 use Rattle.verify.proofs.Fold.{lastsAll, Reads, none, good}
 use Rattle.verify.proofs.Rising.{rising}
 use Rattle.verify.proofs.Verdict.{judges}

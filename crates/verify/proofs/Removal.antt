@@ -7,7 +7,7 @@ use lib.Dec.{ltb, leb}
 use borrow.Author.Tests.{leb-true, leb-false, le-ltb, lt-ltb}
 use Rattle.bits.specs.Bits.{pick}
 use Rattle.vbv.specs.Model.{delivered, modelFits, afterRemoval, nextDelivered}
-use Rattle.vbv.specs.Fits.{EndFits}
+use Rattle.vbv.specs.Steps.{EndFits}
 use Rattle.vbv.specs.declared.VbvCbrModel.{VbvCbrModel}
 use Rattle.vbv.specs.declared.VbvRemoval.the-variants as rm
 use Rattle.vbv.proofs.Laws.{occupancy-told}

@@ -23,10 +23,10 @@ use Rattle.verify.specs.declared.Told.the-variants.{Delay, Refused}
 use Rattle.verify.specs.declared.CodedPicture.{CodedPicture}
 use Rattle.verify.specs.declared.Coded.the-variants as cd
 use Rattle.scan.specs.Pictures.{Pic, pictures}
-use Rattle.scan.specs.Walk.{picturesAt, nextPicture}
+use Rattle.scan.specs.Walk.{nextPicture}
 use Rattle.verify.specs.Coded.{toldByHeader, toldByPicture, told, read, codedOf}
 use Rattle.verify.specs.Walk.{codedBy, codedAt}
-use Rattle.scan.proofs.Pictures.{walked, pictures-done, pictures-walk}
+use Rattle.scan.proofs.Pictures.{picturesAt, walked, pictures-done, pictures-walk}
 use Rattle.verify.proofs.Fold.{Reads, none, good}
 
 -- a picture within the stream, behind what ends at `previous`

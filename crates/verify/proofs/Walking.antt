@@ -22,9 +22,9 @@ use Rattle.verify.specs.declared.Progress.the-variants.{Fresh, Unmodelle
 use Rattle.verify.specs.declared.Walked.the-variants.{Unread, Read}
 use Rattle.verify.specs.Layout.{recordBytes}
 use Rattle.scan.specs.Pictures.{pictures}
-use Rattle.scan.specs.Walk.{picturesAt, nextPicture}
+use Rattle.scan.specs.Walk.{nextPicture}
 use Rattle.verify.specs.Walk.{codedAt, advanced, putAt, ifCoded, walked, stored}
-use Rattle.scan.proofs.Pictures.{walked as walked-on, pictures-done, pictures-walk}
+use Rattle.scan.proofs.Pictures.{picturesAt, walked as walked-on, pictures-done, pictures-walk}
 
 -- a record goes to its place, nothing else to any
 pub put-other : (places n : ℕ) (st : Progress) (out : List ℕ)

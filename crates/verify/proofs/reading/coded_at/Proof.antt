@@ -1,6 +1,6 @@
 use Rattle.verify.specs.Coded.{codedOf}
 use Rattle.verify.specs.Walk.{codedAt, codedBy}
-use Rattle.verify.proofs.Parts.{rest-is}
+use Rattle.bits.proofs.Reading.{rest-is}
 use borrow.Author.Needs.{needs}
 use Rattle.verify.proofs.reading.coded_at.Statement.{statement}
 use Rattle.verify.proofs.reading.coded_at.Tie as tie

@@ -1,4 +1,4 @@
-use Rattle.verify.proofs.Parts.{rest-is}
+use Rattle.bits.proofs.Reading.{rest-is}
 use mathlib.Core.Path.{sym, _∙_}
 use native.Mathlib.Omega.{arith}
 use borrow.Author.Needs.{needs}

@@ -1,4 +1,4 @@
--- What fitting means, as bounds: the private functions go by these records, no public promise does.
+-- The promises of private functions: what fitting means, as bounds.
 -- Assumes nothing.
 use Prim.Native.Nat.{ℕ, _*_, _^_, _≤_, _<_}
 use Rattle.vbv.specs.declared.VbvParams.{VbvParams}
