@@ -9,11 +9,12 @@ use mathlib.Core.Logic.{⊎-elim, inl, inr}
 use native.Mathlib.Omega.{arith}
 use native.Mathlib.Nat.{zero-add}
 use lib.Dec.{eqb, lit≤, lit<}
-use lib.ListN.{length, take, drop}
+use lib.ListN.{length, take, drop, take-append-drop}
 use lib.Seq.{take-take}
 use borrow.Author.Tests.{not-true, eqb-true, ne-eqb}
 use Rattle.bits.specs.Bits.{bitsAt}
-use Rattle.bits.proofs.Reading.{both-true, same-bytes, same-self}
+use Rattle.bits.proofs.Flags.{and-left}
+use Rattle.bits.proofs.Reading.{both-true, same-self}
 use Rattle.bits.proofs.Appending.{Below}
 use Rattle.headers.specs.StartCode.{zeros}
 use Rattle.picture_header.specs.Picture.{picture}
@@ -23,6 +24,7 @@ use Rattle.headers.specs.declared.sequence_header.Answer.the-variants.{Parsed a
 use Rattle.headers.specs.declared.sequence_extension.Mpeg2Sequence.{Mpeg2Sequence}
 use Rattle.picture_header.specs.declared.PictureRead.the-variants.{Parsed}
 use Rattle.picture_header.proofs.Picture.{picture-append}
+use Rattle.headers.proofs.StartCode.{prefix-true}
 use Rattle.headers.proofs.Sequence.{sequence-append}
 use Rattle.picture_header.proofs.OtherDelay.{OtherDelay, delayed, delayed-delay, picture-delayed}
 use Rattle.vbv.specs.Patch.{startsPicture, patched}
@@ -32,12 +34,14 @@ use Rattle.vbv.specs.declared.FrameRate.the-variants.{Rate, Refused as NoRate}
 use Rattle.vbv.specs.declared.VbvParams.{VbvParams}
 use Rattle.vbv.specs.declared.RemovalInterval.{RemovalInterval}
 use Rattle.vbv.proofs.Patching.{starts-is, patched-length, patched-front, patched-rest, patched-below, patched-delay, patched-before, patched-behind}
-use Rattle.scan.specs.Codes.{Code, codes, codesFrom, endsPrefix}
+use Rattle.scan.specs.Codes.{Code, codes, codesFrom, every, endsPrefix}
 use Rattle.scan.specs.Pictures.{isSlice, notSlice, notPicture, skip}
-use Rattle.scan.specs.Laid.{every, OnePicture, Opened, Piece}
+use Rattle.scan.proofs.Laying.{OnePicture, Opened, Piece}
 use Rattle.scan.proofs.Pieces.{piece-behind}
-use Rattle.scan.proofs.PictureCodes.{PictureHead, opens-four, codes-picture, ends-drop, ends-prefix, codes-none, codes-opened}
-use Rattle.scan.proofs.Sorts.{slice-zero, slice-above, not-slice-above, not-picture, every-by, every-first, skip-split, every-empty}
+use Rattle.scan.proofs.PictureCodes.{PictureHead, codes-picture, codes-none, codes-opened}
+use Rattle.scan.proofs.Prefix.{ends-drop, ends-prefix}
+use Rattle.scan.proofs.Search.{every-more}
+use Rattle.scan.proofs.Sorts.{slice-zero, slice-above, not-slice-above, not-picture, every-by, skip-split, every-empty}
 use Rattle.verify.proofs.Telling.{told-parsed, declared-parsed}
 use Rattle.verify.specs.Coded.{told}
 use Rattle.verify.specs.Sequence.{declared}
@@ -48,6 +52,10 @@ use Rattle.layers.specs.declared.PictureKind.{PictureKind}
 use Rattle.layers.specs.Layer.{slices, isExtension, layerCodes, layerFits}
 use Rattle.layers.specs.Headers.{opensHeaders, headerCode, sameRate, sameParams, parsed, sequenceFirst, sequenceFits, headersFit}
 use Rattle.layers.proofs.Layers.{LayerFits, layer-fits, LowBits, picture-head, layer-header, layer-twelve, layer-low}
+
+-- the bytes that a list begins with, and those behind them
+begins : (n : ℕ) (s : List ℕ) {a : List ℕ} → take n s ≡ a → s ≡ a ++ drop n s
+begins n s e = sym (take-append-drop n s) ∙ ap (λ (l : List ℕ). l ++ drop n s) e
 
 -- ---- a layer
 
@@ -155,7 +163,7 @@ module _ (k : PictureKind) (i : RemovalInterval) (s : List ℕ) (fits : layerFit
       opened = record {
         first = 0;
         rest = drop 4 (patched s d);
-        opens = opens-four (patched s d) 0 0 1 0 patched-code;
+        opens = begins 4 (patched s d) patched-code;
         opens-slice = slice-zero;
         opens-end = refl;
         closed = patched-closed;
@@ -201,22 +209,16 @@ record HeadersFit (h : List ℕ) : Type 0 where
   all-codes : every headerCode (codes h) ≡ true
   closed : endsPrefix h ≡ false
 
-three-first : (h : List ℕ) → take 3 h ≡ 0x00 ∷ 0x00 ∷ 0x01 ∷ [] → h ≡ 0 ∷ 0 ∷ 1 ∷ drop 3 h
-three-first [] e = cc
-three-first (a ∷ []) e = cc
-three-first (a ∷ b ∷ []) e = cc
-three-first (a ∷ b ∷ c ∷ h) e = cc
-
 headers-fit : (b : ℕ) (s : List ℕ) → opensHeaders (b ∷ s) ≡ true → every headerCode (codes (b ∷ s)) ≡ true → endsPrefix (b ∷ s) ≡ false
     → HeadersFit (b ∷ s)
 unfolding opensHeaders
-headers-fit b s o c n = case (drop 3 (b ∷ s)) (three-first (b ∷ s) (same-bytes (take 3 (b ∷ s)) (0x00 ∷ 0x00 ∷ 0x01 ∷ []) o))
+headers-fit b s o c n = case (drop 3 (b ∷ s)) (begins 3 (b ∷ s) (prefix-true (b ∷ s) 0 o .is))
   where
     case : (r : List ℕ) → b ∷ s ≡ 0 ∷ 0 ∷ 1 ∷ r → HeadersFit (b ∷ s)
     case [] e = absurd (let z : false ≡ true = sym n ∙ ap endsPrefix e ∙ ends-prefix in let y : _≡_ {A = ℕ} 0 1 = cc in omega arith)
     case (f ∷ r) e =
         let a : every headerCode (record { offset = 0; code = f } ∷ codesFrom 4 0 r) ≡ true = sym (ap (every headerCode) (ap codes e ∙ codes-opened f r)) ∙ c in
-        record { first = f; rest = r; opens = e; first-code = every-first headerCode _ _ a .0; all-codes = c; closed = n }
+        record { first = f; rest = r; opens = e; first-code = and-left (headerCode f) _ (sym (every-more headerCode _ _) ∙ a); all-codes = c; closed = n }
 
 headers-open : {h : List ℕ} → HeadersFit h → Opened h
 headers-open f = record {

@@ -31,7 +31,8 @@ use Rattle.headers.proofs.StartCode.{zeros-zero}
 use Rattle.picture_header.proofs.PictureHeader.{PictureHeaderParsed, picture-header-parsed, header-least}
 use Rattle.picture_header.proofs.Picture.{picture-parsed, extension-placed}
 use Rattle.headers.proofs.StartCode.{next-found}
-use Rattle.picture_header.proofs.OtherDelay.{header-bytes, forward-code, extra-flag}
+use Rattle.picture_header.proofs.Extent.{header-bytes}
+use Rattle.picture_header.proofs.OtherDelay.{forward-code, extra-flag}
 use Rattle.vbv.specs.declared.RemovalInterval.{RemovalInterval}
 use Rattle.vbv.specs.declared.RemovalInterval.the-variants.{Frame, Field}
 use Rattle.verify.specs.Coded.{intervalOf}

@@ -12,9 +12,8 @@ use Rattle.vbv.specs.Patch.{patched}
 use Rattle.vbv.specs.declared.RemovalInterval.{RemovalInterval}
 use Rattle.vbv.specs.declared.VbvParams.{VbvParams}
 use Rattle.scan.specs.Pictures.{pictures}
-use Rattle.scan.specs.Laid.{Piece, Pieces, none, more, laid, laidPics}
 use Rattle.scan.proofs.Laid.{Tail, laid-pictures}
-use Rattle.scan.proofs.Laying.{laid-none, laid-more, pics-none, pics-last, pics-more}
+use Rattle.scan.proofs.Laying.{Piece, Pieces, none, more, laid, laidPics, laid-none, laid-more, pics-none, pics-last, pics-more}
 use Rattle.scan.proofs.Pieces.{piece-zeros}
 use Rattle.verify.specs.Coded.{told, read, headers, codedPictures}
 use Rattle.verify.specs.Sequence.{declared}

@@ -13,7 +13,7 @@ use Rattle.bits.specs.Answers.{readBits}
 use Rattle.bits.specs.declared.Bits.{Bits}
 use Rattle.bits.specs.declared.Bits.the-variants.{Value, Short}
 use Rattle.bits.proofs.Laws.{bits-drop}
-use Rattle.bits.proofs.Reading.{there-is, there-drop, found as read-found, missed}
+use Rattle.bits.proofs.Reading.{there-is, there-drop, found as read-found, missed, rest-is}
 use Rattle.headers.specs.StartCode.{zeros, prefixAt}
 use Rattle.picture_header.specs.Picture.{picture}
 use Rattle.picture_header.specs.PictureHeader.{pictureHeader, pictureHeaderBits, pictureHeaderBytes}
@@ -21,19 +21,18 @@ use Rattle.picture_header.specs.declared.Mpeg2PictureHeader.{Mpeg2PictureHeader
 use Rattle.picture_header.specs.declared.PictureCodingExtension.{PictureCodingExtension}
 use Rattle.picture_header.specs.declared.PictureRead.the-variants.{Parsed}
 use Rattle.picture_header.specs.declared.PictureHeaderRead.the-variants.{Parsed as HeaderParsed}
-use Rattle.headers.proofs.StartCode.{zeros-past, zeros-none, zeros-more, prefix-is, rest-is}
+use Rattle.headers.proofs.StartCode.{zeros-past, zeros-none, zeros-more, prefix-is}
 use Rattle.picture_header.proofs.PictureHeader.{picture-header-parsed}
-use Rattle.picture_header.proofs.OtherDelay.{header-bytes}
-use Rattle.picture_header.proofs.Extent.{header-bits}
+use Rattle.picture_header.proofs.Extent.{header-bits, header-bytes}
 use Rattle.vbv.specs.declared.RemovalInterval.{RemovalInterval}
 use Rattle.verify.specs.Coded.{intervalOf}
 use Rattle.scan.specs.declared.Found.the-variants.{At, Nothing}
-use Rattle.scan.specs.Codes.{codes, codesAt, nextCode, endsPrefix}
+use Rattle.scan.specs.Codes.{codes, codesAt, every, nextCode, endsPrefix}
 use Rattle.scan.specs.Pictures.{isSlice, notSequence, skip}
 use Rattle.scan.specs.Walk.{found}
-use Rattle.scan.specs.Laid.{every}
 use Rattle.scan.proofs.Walk.{seen, unseen, sought, unsought}
-use Rattle.scan.proofs.Search.{codes-from-zero, every-more, ends-last-three}
+use Rattle.scan.proofs.Search.{codes-from-zero, every-more}
+use Rattle.scan.proofs.Prefix.{ends-last-three}
 use Rattle.layers.specs.Headers.{opensHeaders, sequenceFirst}
 use Rattle.layers.specs.declared.PictureKind.{PictureKind}
 use Rattle.layers.specs.Layer.{sameKind, sameInterval, flagClear, codeSeven, headerFits, padding, slices, isExtension, layerCodes}
@@ -48,7 +47,7 @@ opens-empty (b ∷ s) h = absurd (omega arith)
 pub opens-by : (s : List ℕ) → (length s ≡ 0 → ⊥) → prefixAt s 0 ≡ opensHeaders s
 unfolding opensHeaders
 opens-by [] h = absurd (h refl)
-opens-by (b ∷ s) h = prefix-is (b ∷ s) 0
+opens-by (b ∷ s) h = refl
 
 pub ends-by : (s : List ℕ) → 3 ≤ length s → prefixAt s (length s - 3) ≡ endsPrefix s
 ends-by s h = prefix-is s (length s - 3) ∙ ends-last-three s h

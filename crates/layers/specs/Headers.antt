@@ -4,8 +4,7 @@ use Prim.Native.Nat.{ℕ, _*_}
 use mathlib.Core.List.{List, [], _∷_}
 use mathlib.Core.Bool.{Bool, true, false, not, _&&_, _||_}
 use lib.Dec.{eqb}
-use lib.ListN.{take}
-use Rattle.bits.specs.Fields.{sameBytes}
+use Rattle.headers.specs.StartCode.{prefixAt}
 use Rattle.headers.specs.Sequence.{sequence}
 use Rattle.headers.specs.declared.sequence_header.Answer.{Answer}
 use Rattle.headers.specs.declared.sequence_header.Answer.the-variants.{Parsed, Refused as HeaderRefused}
@@ -14,14 +13,13 @@ use Rattle.vbv.specs.Answers.{frameRate}
 use Rattle.vbv.specs.declared.FrameRate.{FrameRate}
 use Rattle.vbv.specs.declared.FrameRate.the-variants.{Rate, Refused as NoRate}
 use Rattle.vbv.specs.declared.VbvParams.{VbvParams}
-use Rattle.scan.specs.Codes.{Code, codes, endsPrefix}
+use Rattle.scan.specs.Codes.{Code, codes, every, endsPrefix}
 use Rattle.scan.specs.Pictures.{notSequence}
-use Rattle.scan.specs.Laid.{every}
 
 -- empty or starting 00 00 01
 unfoldable pub opensHeaders : List ℕ → Bool
 opensHeaders [] = true
-opensHeaders (b ∷ s) = sameBytes (take 3 (b ∷ s)) (0x00 ∷ 0x00 ∷ 0x01 ∷ [])
+opensHeaders (b ∷ s) = prefixAt (b ∷ s) 0
 
 -- user_data, sequence_header, extension, group_of_pictures (Table 6-1)
 unfoldable pub headerCode : ℕ → Bool

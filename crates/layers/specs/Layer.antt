@@ -21,9 +21,8 @@ use Rattle.picture_header.specs.declared.PictureRead.the-variants.{Parsed, Refu
 use Rattle.vbv.specs.declared.RemovalInterval.{RemovalInterval}
 use Rattle.vbv.specs.declared.RemovalInterval.the-variants.{Frame, Field}
 use Rattle.verify.specs.Coded.{intervalOf}
-use Rattle.scan.specs.Codes.{Code, codes, endsPrefix}
+use Rattle.scan.specs.Codes.{Code, codes, every, endsPrefix}
 use Rattle.scan.specs.Pictures.{isSlice, skip}
-use Rattle.scan.specs.Laid.{every}
 use Rattle.layers.specs.declared.PictureKind.{PictureKind}
 use Rattle.layers.specs.declared.PictureKind.the-variants.{I, P, B}
 

@@ -1,4 +1,4 @@
--- The sets of start codes that the code looks for, in one table.
+-- The promises of private functions: the sets of start codes that they look for, in one table.
 -- Assumes nothing.
 use Prim.Native.Nat.{ℕ}
 use mathlib.Core.Bool.{Bool}
@@ -8,8 +8,8 @@ use Rattle.layers.specs.Layer.{isExtension}
 use Rattle.layers.specs.declared.CodeSet.{CodeSet}
 use Rattle.layers.specs.declared.CodeSet.the-variants.{Headers, NoSequence, Extensions, Slices}
 
-unfoldable pub within : CodeSet → ℕ → Bool
-within Headers = headerCode
-within NoSequence = notSequence
-within Extensions = isExtension
-within Slices = isSlice
+unfoldable pub inSet : CodeSet → ℕ → Bool
+inSet Headers = headerCode
+inSet NoSequence = notSequence
+inSet Extensions = isExtension
+inSet Slices = isSlice

@@ -9,13 +9,12 @@ ghost use Rattle.picture_header.specs.PictureHeader.{pictureHeader, pictureHead
 ghost use Rattle.picture_header.specs.Picture.{picture};
 ghost use Rattle.picture_header.specs.declared.PictureHeaderRead.the-variants.{Parsed as HeaderParsed};
 ghost use Rattle.vbv.specs.Answers.{frameRate};
-ghost use Rattle.scan.specs.Codes.{codes, codesAt, endsPrefix};
+ghost use Rattle.scan.specs.Codes.{codes, codesAt, every, endsPrefix};
 ghost use Rattle.scan.specs.Pictures.{skip};
 ghost use Rattle.scan.specs.Walk.{found};
-ghost use Rattle.scan.specs.Laid.{every};
 ghost use Rattle.layers.specs.Headers.{opensHeaders, sameRate, sameParams, parsed, sequenceFirst, sequenceFits, headersFit};
 ghost use Rattle.layers.specs.Layer.{sameKind, sameInterval, flagClear, codeSeven, padding, headerFits, slices, isExtension, layerCodes, layerFits};
-ghost use Rattle.layers.specs.Steps.{within};
+ghost use Rattle.layers.specs.Steps.{inSet};
 use bits::Bits;
 use headers::sequence_extension::Mpeg2Sequence;
 use headers::sequence_header::Answer;
@@ -49,8 +48,8 @@ enum CodeSet {
 }
 
 // Whether a code is in a set.
-fn is_within(set: CodeSet, code: u8) -> bool
-    ensures { λ r. ⌜ r ≡ within set code ⌝ }
+fn in_set(set: CodeSet, code: u8) -> bool
+    ensures { λ r. ⌜ r ≡ inSet set code ⌝ }
 {
     match set {
         CodeSet::Headers => (code == 0xB2) | ((code == 0xB3) | ((code == 0xB5) | (code == 0xB8))),
@@ -62,13 +61,13 @@ fn is_within(set: CodeSet, code: u8) -> bool
 
 // The first code that is not in the set, of those that a scan from `from` finds.
 fn past(s: &[u8], from: usize, set: CodeSet) -> Found
-    ensures { λ r. ⌜ r ≡ found (skip (within set) (codesAt (now (s .entry)) from)) ⌝ }
+    ensures { λ r. ⌜ r ≡ found (skip (inSet set) (codesAt (now (s .entry)) from)) ⌝ }
 {
     let mut i = from;
     loop {
         match scan::next_code(s, i) {
             Found::At { offset, code } => {
-                if is_within(set, code) {
+                if in_set(set, code) {
                     i = offset + 4;
                 } else {
                     return Found::At { offset, code };
@@ -80,8 +79,8 @@ fn past(s: &[u8], from: usize, set: CodeSet) -> Found
 }
 
 // Whether all codes that a scan from `from` finds are in the set.
-fn all_within(s: &[u8], from: usize, set: CodeSet) -> bool
-    ensures { λ r. ⌜ r ≡ every (within set) (codesAt (now (s .entry)) from) ⌝ }
+fn all_in_set(s: &[u8], from: usize, set: CodeSet) -> bool
+    ensures { λ r. ⌜ r ≡ every (inSet set) (codesAt (now (s .entry)) from) ⌝ }
 {
     match past(s, from, set) {
         Found::At { offset: _, code: _ } => false,
@@ -115,7 +114,7 @@ fn sequence_first(headers: &[u8]) -> bool
 {
     match scan::next_code(headers, 0) {
         Found::At { offset, code } => {
-            (offset == 0) & ((code == 0xB3) & all_within(headers, offset + 4, CodeSet::NoSequence))
+            (offset == 0) & ((code == 0xB3) & all_in_set(headers, offset + 4, CodeSet::NoSequence))
         }
         Found::Nothing => false,
     }
@@ -166,7 +165,7 @@ fn sequence_fits(headers: &[u8], params: VbvParams, placed: bool) -> bool
     ensures { λ r. ⌜ r ≡ sequenceFits params placed (now (headers .entry)) ⌝ }
 {
     if placed {
-        return all_within(headers, 0, CodeSet::NoSequence);
+        return all_in_set(headers, 0, CodeSet::NoSequence);
     }
     sequence_first(headers) & declares(headers, params)
 }
@@ -176,7 +175,7 @@ pub fn headers_fit(headers: &[u8], params: VbvParams, placed: bool) -> bool
     ensures { λ r. ⌜ r ≡ headersFit params placed (now (headers .entry)) ⌝ }
 {
     opens_headers(headers)
-        & (all_within(headers, 0, CodeSet::Headers)
+        & (all_in_set(headers, 0, CodeSet::Headers)
             & (!ends_prefix(headers) & sequence_fits(headers, params, placed)))
 }
 
@@ -313,7 +312,7 @@ fn slices_behind(layer: &[u8], from: usize) -> bool
     ensures { λ r. ⌜ r ≡ slices (skip isExtension (codesAt (now (layer .entry)) from)) ⌝ }
 {
     match past(layer, from, CodeSet::Extensions) {
-        Found::At { offset, code: _ } => all_within(layer, offset, CodeSet::Slices),
+        Found::At { offset, code: _ } => all_in_set(layer, offset, CodeSet::Slices),
         Found::Nothing => false,
     }
 }

@@ -12,10 +12,11 @@ use lib.Seq.{drop-drop}
 use lib.Dec.{eqb, ltb}
 use borrow.Author.Tests.{lt-ltb, le-ltb}
 use Rattle.bits.specs.Bits.{pick}
+use Rattle.bits.proofs.Flags.{or-left, or-right}
 use Rattle.scan.specs.declared.Found.{Found}
 use Rattle.scan.specs.declared.Found.the-variants.{At, Nothing}
-use Rattle.scan.specs.Codes.{starts, fourth, firstFrom, nextCode}
-use Rattle.scan.specs.Blocks.{zeroOne, before}
+use Rattle.scan.specs.Codes.{starts, firstFrom, nextCode}
+use Rattle.scan.specs.Steps.{zeroOne, before}
 use Rattle.scan.proofs.NextCode.{no-pair}
 use Rattle.scan.proofs.Walk.{seen}
 
@@ -35,14 +36,6 @@ all-places s at k a b =
     let e : k ≡ 16 = omega arith in
     ap (zeroOne s at) e
 
-or-left : (a b : Bool) → (a || b) ≡ false → a ≡ false
-or-left false b e = refl
-or-left true b e = cc
-
-or-right : (a b : Bool) → (a || b) ≡ false → b ≡ false
-or-right false b e = e
-or-right true b e = cc
-
 -- a block without 00 01 is passed over whole
 pub quiet : (s : List ℕ) (at k : ℕ) → zeroOne s at k ≡ false → nextCode s (at + k) ≡ nextCode s at
 unfolding zeroOne
@@ -60,7 +53,7 @@ late e o [] h = refl
 late e o (b ∷ l) h = go (late e (suc o) l (omega arith)) (starts (b ∷ l))
   where
     go : before e (firstFrom (suc o) l) ≡ Nothing → (t : Bool)
-        → before e (pick t (At o (fourth (b ∷ l))) (firstFrom (suc o) l)) ≡ Nothing
+        → before e (pick t (At o (getD (b ∷ l) 3 0)) (firstFrom (suc o) l)) ≡ Nothing
     go r true = rw (le-ltb o e h)
     go r false = r
 
@@ -94,11 +87,11 @@ nothing (suc k) o (b ∷ l) q = go (λ r. nothing k (suc o) l r) (starts (b ∷ 
     e = omega arith
 
     go : (before (suc o + k) (firstFrom (suc o) l) ≡ Nothing → firstFrom (suc o + k) (drop k l) ≡ firstFrom (suc o) l) → (t : Bool)
-        → before (o + suc k) (pick t (At o (fourth (b ∷ l))) (firstFrom (suc o) l)) ≡ Nothing
-        → firstFrom (o + suc k) (drop k l) ≡ pick t (At o (fourth (b ∷ l))) (firstFrom (suc o) l)
+        → before (o + suc k) (pick t (At o (getD (b ∷ l) 3 0)) (firstFrom (suc o) l)) ≡ Nothing
+        → firstFrom (o + suc k) (drop k l) ≡ pick t (At o (getD (b ∷ l) 3 0)) (firstFrom (suc o) l)
     go rec true r =
         let h : o < o + suc k = omega arith in
-        let z : At o (fourth (b ∷ l)) ≡ Nothing = rw (lt-ltb o (o + suc k) h) at (r) in
+        let z : At o (getD (b ∷ l) 3 0) ≡ Nothing = rw (lt-ltb o (o + suc k) h) at (r) in
         cc
     go rec false r = rw e at (rec (rw e r))
 

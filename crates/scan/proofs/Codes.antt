@@ -1,69 +1,57 @@
 -- The start codes of two parts laid end to end.
 -- Assumes nothing.
-use mathlib.Core.Path.{_≡_, refl, ap, _∙_}
+use mathlib.Core.Path.{_≡_, refl, sym, ap, _∙_}
 use Prim.Native.Nat.{ℕ, zero, suc, _+_, _≤_}
 use mathlib.Core.List.{List, [], _∷_, _++_, map}
-use mathlib.Core.Bool.{Bool, true, false, not, _&&_, _||_, and-false, false≢true}
+use mathlib.Core.Bool.{Bool, true, false, not, _&&_, and-false, false≢true}
 use native.Mathlib.Omega.{arith}
 use native.Mathlib.Nat.{add-suc, add-zero, zero-add}
-use lib.ListN.{length, replicate}
+use lib.ListN.{length, getD, replicate}
 use lib.Dec.{eqb}
 use borrow.Author.Tests.{not-true}
 use Rattle.bits.specs.Bits.{pick}
-use Rattle.bits.proofs.Reading.{both-true}
-use Rattle.scan.specs.Codes.{Code, starts, fourth, codesFrom, codes, moved, isPrefix, endsPrefix, fresh}
+use Rattle.bits.specs.Fields.{sameBytes, startCodePrefix}
+use Rattle.bits.proofs.Flags.{and-left, and-right}
+use Rattle.bits.proofs.Reading.{same-self, same-more, same-not}
+use Rattle.scan.specs.Codes.{Code, starts, codesFrom, codes, endsPrefix}
+use Rattle.scan.proofs.Prefix.{starts-four, starts-is, starts-long, starts-before, ends-few, ends-here, ends-tail, ends-neither}
 
--- ---- tests
+-- ---- bytes that complete no prefix which another part began
 
-neither : (p q : Bool) → (p || q) ≡ false → (p ≡ false) × (q ≡ false)
-neither true q e = ((cc), (cc))
-neither false q e = (refl, e)
+-- they begin with neither 01 nor 00 01
+unfoldable pub fresh : List ℕ → Bool
+fresh [] = true
+fresh (a ∷ []) = not (eqb a 1)
+fresh (a ∷ b ∷ s) = not (eqb a 1) && not (eqb a 0 && eqb b 1)
 
 fresh-1 : (q : ℕ) (y : List ℕ) → fresh (q ∷ y) ≡ true → eqb q 1 ≡ false
 unfolding fresh
 fresh-1 q [] e = not-true (eqb q 1) e
-fresh-1 q (r ∷ y) e = not-true (eqb q 1) (both-true (not (eqb q 1)) (not (eqb q 0 && eqb r 1)) e .0)
+fresh-1 q (r ∷ y) e = not-true (eqb q 1) (and-left _ _ e)
 
 fresh-2 : (q r : ℕ) (y : List ℕ) → fresh (q ∷ r ∷ y) ≡ true → (eqb q 0 && eqb r 1) ≡ false
 unfolding fresh
-fresh-2 q r y e = not-true (eqb q 0 && eqb r 1) (both-true (not (eqb q 1)) (not (eqb q 0 && eqb r 1)) e .1)
-
-ends-here : (b : ℕ) (x : List ℕ) → endsPrefix (b ∷ x) ≡ false → isPrefix (b ∷ x) ≡ false
-unfolding endsPrefix
-ends-here b x p = neither (isPrefix (b ∷ x)) (endsPrefix x) p .0
-
-ends-tail : (b : ℕ) (x : List ℕ) → endsPrefix (b ∷ x) ≡ false → endsPrefix x ≡ false
-unfolding endsPrefix
-ends-tail b x p = neither (isPrefix (b ∷ x)) (endsPrefix x) p .1
+fresh-2 q r y e = not-true (eqb q 0 && eqb r 1) (and-right (not (eqb q 1)) _ e)
 
 -- ---- a code begins in x: the bytes after x change nothing
 
 starts-append : (b : ℕ) (x y : List ℕ) → endsPrefix (b ∷ x) ≡ false → fresh y ≡ true → starts (b ∷ (x ++ y)) ≡ starts (b ∷ x)
-unfolding starts isPrefix
+unfolding starts
 starts-append b [] [] p f = refl
 starts-append b [] (q ∷ []) p f = refl
-starts-append b [] (q ∷ r ∷ []) p f = refl
-starts-append b [] (q ∷ r ∷ t ∷ y) p f = rw (fresh-2 q r (t ∷ y) f, and-false)
+starts-append b [] (q ∷ r ∷ y) p f = starts-is (b ∷ q ∷ r ∷ y) ∙ rw (fresh-2 q r y f, and-false, and-false)
 starts-append b (c ∷ []) [] p f = refl
-starts-append b (c ∷ []) (q ∷ []) p f = refl
-starts-append b (c ∷ []) (q ∷ r ∷ y) p f = rw (fresh-1 q (r ∷ y) f, and-false, and-false)
+starts-append b (c ∷ []) (q ∷ y) p f = starts-is (b ∷ c ∷ q ∷ y) ∙ rw (fresh-1 q y f, and-false, and-false, and-false)
 starts-append b (c ∷ d ∷ []) [] p f = refl
-starts-append b (c ∷ d ∷ []) (q ∷ y) p f = ends-here b (c ∷ d ∷ []) p
-starts-append b (c ∷ d ∷ e ∷ x) y p f = refl
+starts-append b (c ∷ d ∷ []) (q ∷ y) p f = rw (ends-here b (c ∷ d ∷ []) p, and-false)
+starts-append b (c ∷ d ∷ e ∷ x) y p f = starts-four b c d e (x ++ y) ∙ sym (starts-four b c d e x)
 
-fourth-append : (b : ℕ) (x y : List ℕ) → starts (b ∷ x) ≡ true → fourth (b ∷ (x ++ y)) ≡ fourth (b ∷ x)
-unfolding starts fourth
+fourth-append : (b : ℕ) (x y : List ℕ) → starts (b ∷ x) ≡ true → getD (b ∷ (x ++ y)) 3 0 ≡ getD (b ∷ x) 3 0
+unfolding starts
 fourth-append b [] y h = cc
 fourth-append b (c ∷ []) y h = cc
 fourth-append b (c ∷ d ∷ []) y h = cc
 fourth-append b (c ∷ d ∷ e ∷ x) y h = refl
-
-pub starts-long : (b : ℕ) (x : List ℕ) → starts (b ∷ x) ≡ true → 3 ≤ length x
-unfolding starts
-starts-long b [] h = absurd (false≢true h)
-starts-long b (c ∷ []) h = absurd (false≢true h)
-starts-long b (c ∷ d ∷ []) h = absurd (false≢true h)
-starts-long b (c ∷ d ∷ e ∷ x) h = omega arith
 
 pub codesFrom-append : (x y : List ℕ) (o k : ℕ) → k ≤ length x → endsPrefix x ≡ false → fresh y ≡ true
     → codesFrom o k (x ++ y) ≡ codesFrom o k x ++ codesFrom (o + length x) 0 y
@@ -80,12 +68,16 @@ codesFrom-append (b ∷ x) y o zero h p f =
   where
     go : ((k : ℕ) → k ≤ length x → codesFrom (suc o) k (x ++ y) ≡ codesFrom (suc o) k x ++ codesFrom (suc o + length x) 0 y)
         → (t : Bool) → starts (b ∷ x) ≡ t
-        → pick t (record { offset = o; code = fourth (b ∷ (x ++ y)) } ∷ codesFrom (suc o) 3 (x ++ y)) (codesFrom (suc o) 0 (x ++ y))
-        ≡ pick t (record { offset = o; code = fourth (b ∷ x) } ∷ codesFrom (suc o) 3 x) (codesFrom (suc o) 0 x) ++ codesFrom (suc o + length x) 0 y
-    go ih true q = rw (fourth-append b x y q, ih 3 (starts-long b x q))
+        → pick t (record { offset = o; code = getD (b ∷ (x ++ y)) 3 0 } ∷ codesFrom (suc o) 3 (x ++ y)) (codesFrom (suc o) 0 (x ++ y))
+        ≡ pick t (record { offset = o; code = getD (b ∷ x) 3 0 } ∷ codesFrom (suc o) 3 x) (codesFrom (suc o) 0 x) ++ codesFrom (suc o + length x) 0 y
+    go ih true q = rw (fourth-append b x y q, ih 3 (omega (arith, starts-long (b ∷ x) q)))
     go ih false q = ih 0 (omega arith)
 
 -- ---- moved on
+
+-- a code moved on by d bytes
+unfoldable pub moved : ℕ → Code → Code
+moved d c = record { offset = d + c .offset; code = c .code }
 
 pub codesFrom-moved : (d o k : ℕ) (s : List ℕ) → codesFrom (d + o) k s ≡ map (moved d) (codesFrom o k s)
 unfolding codesFrom moved
@@ -95,8 +87,8 @@ codesFrom-moved d o zero (b ∷ s) = rw (← add-suc d o) (go (codesFrom-moved d
   where
     go : codesFrom (d + suc o) 3 s ≡ map (moved d) (codesFrom (suc o) 3 s) → codesFrom (d + suc o) 0 s ≡ map (moved d) (codesFrom (suc o) 0 s)
         → (t : Bool)
-        → pick t (record { offset = d + o; code = fourth (b ∷ s) } ∷ codesFrom (d + suc o) 3 s) (codesFrom (d + suc o) 0 s)
-        ≡ map (moved d) (pick t (record { offset = o; code = fourth (b ∷ s) } ∷ codesFrom (suc o) 3 s) (codesFrom (suc o) 0 s))
+        → pick t (record { offset = d + o; code = getD (b ∷ s) 3 0 } ∷ codesFrom (d + suc o) 3 s) (codesFrom (d + suc o) 0 s)
+        ≡ map (moved d) (pick t (record { offset = o; code = getD (b ∷ s) 3 0 } ∷ codesFrom (suc o) 3 s) (codesFrom (suc o) 0 s))
     go i3 i0 true = rw i3
     go i3 i0 false = i0
 
@@ -121,31 +113,22 @@ fresh-zeros (suc (suc n)) s f = refl
 
 -- ---- the conditions hold of longer parts
 
-prefix-append : (b : ℕ) (x y : List ℕ) → isPrefix (b ∷ x) ≡ false → fresh y ≡ true → isPrefix (b ∷ (x ++ y)) ≡ false
-unfolding isPrefix
-prefix-append b [] [] p f = refl
-prefix-append b [] (q ∷ []) p f = refl
-prefix-append b [] (q ∷ r ∷ []) p f = rw (fresh-2 q r [] f, and-false)
-prefix-append b [] (q ∷ r ∷ t ∷ y) p f = refl
-prefix-append b (c ∷ []) [] p f = refl
-prefix-append b (c ∷ []) (q ∷ []) p f = rw (fresh-1 q [] f, and-false, and-false)
-prefix-append b (c ∷ []) (q ∷ r ∷ y) p f = refl
-prefix-append b (c ∷ d ∷ []) [] p f = p
-prefix-append b (c ∷ d ∷ []) (q ∷ y) p f = refl
-prefix-append b (c ∷ d ∷ e ∷ x) y p f = refl
+prefix-append : (b : ℕ) (x y : List ℕ) → sameBytes (b ∷ x) startCodePrefix ≡ false → fresh y ≡ true → sameBytes (b ∷ (x ++ y)) startCodePrefix ≡ false
+unfolding fresh
+prefix-append b x y p f = same-not (b ∷ (x ++ y)) startCodePrefix (go x p)
+  where
+    go : (x : List ℕ) → sameBytes (b ∷ x) startCodePrefix ≡ false → b ∷ (x ++ y) ≡ startCodePrefix → ⊥
+    go [] p e = let q : y ≡ 0 ∷ 1 ∷ [] = cc in false≢true (rw q at (f))
+    go (c ∷ []) p e = let q : y ≡ 1 ∷ [] = cc in false≢true (rw q at (f))
+    go (c ∷ d ∷ []) p e = let q : b ∷ c ∷ d ∷ [] ≡ startCodePrefix = cc in false≢true (sym p ∙ rw q (same-self startCodePrefix))
+    go (c ∷ d ∷ a ∷ x) p e = let z : _≡_ {A = ℕ} 0 1 = cc in absurd (omega arith)
 
 pub ends-append : (x y : List ℕ) → endsPrefix x ≡ false → fresh y ≡ true → endsPrefix y ≡ false → endsPrefix (x ++ y) ≡ false
-unfolding endsPrefix
 ends-append [] y p f q = q
 ends-append (b ∷ x) y p f q =
-    rw (prefix-append b x y (ends-here b x p) f) (ends-append x y (ends-tail b x p) f q)
+    ends-neither b (x ++ y) (prefix-append b x y (ends-here b x p) f) (ends-append x y (ends-tail b x p) f q)
 
-pub fresh-append : (x y : List ℕ) → fresh x ≡ true → fresh y ≡ true → fresh (x ++ y) ≡ true
-unfolding fresh
-fresh-append [] y f g = g
-fresh-append (a ∷ []) [] f g = f
-fresh-append (a ∷ []) (q ∷ y) f g = rw (fresh-1 a [] f, fresh-1 q y g, and-false)
-fresh-append (a ∷ b ∷ x) y f g = f
+-- ---- zeros
 
 pub codesFrom-zeros : (n o k : ℕ) → codesFrom o k (replicate n 0) ≡ []
 unfolding codesFrom
@@ -156,13 +139,13 @@ codesFrom-zeros (suc n) o zero = rw (starts-zeros n) (codesFrom-zeros n (suc o) 
     starts-zeros : (n : ℕ) → starts (0 ∷ replicate n 0) ≡ false
     starts-zeros zero = refl
     starts-zeros (suc zero) = refl
-    starts-zeros (suc (suc zero)) = refl
-    starts-zeros (suc (suc (suc n))) = refl
+    starts-zeros (suc (suc n)) = starts-before 0 0 (replicate n 0)
 
 pub ends-zeros : (n : ℕ) → endsPrefix (replicate n 0) ≡ false
-unfolding endsPrefix isPrefix
-ends-zeros zero = refl
-ends-zeros (suc zero) = refl
-ends-zeros (suc (suc zero)) = refl
-ends-zeros (suc (suc (suc zero))) = refl
-ends-zeros (suc (suc (suc (suc n)))) = ends-zeros (suc (suc (suc n)))
+ends-zeros zero = sym (ends-few [] (omega arith))
+ends-zeros (suc n) = ends-neither 0 (replicate n 0) (no-prefix n) (ends-zeros n)
+  where
+    no-prefix : (n : ℕ) → sameBytes (0 ∷ replicate n 0) startCodePrefix ≡ false
+    no-prefix zero = same-not _ _ (λ e. let z : _≡_ {A = ℕ} 0 1 = cc in absurd (omega arith))
+    no-prefix (suc zero) = same-not _ _ (λ e. let z : _≡_ {A = ℕ} 0 1 = cc in absurd (omega arith))
+    no-prefix (suc (suc n)) = rw (same-more, same-more, same-more)

@@ -5,31 +5,32 @@ use Prim.Native.Nat.{ℕ}
 use mathlib.Core.List.{List, [], _∷_, _++_}
 use mathlib.Core.Bool.{true}
 use lib.ListN.{length, replicate}
-use Rattle.scan.specs.Codes.{Code, codes, endsPrefix}
+use Rattle.scan.specs.Codes.{Code, codes, every, endsPrefix, sequenceEndCode}
 use Rattle.scan.specs.Pictures.{Pic, pictures, isSlice, notSlice, notPicture}
-use Rattle.scan.specs.Laid.{every, Opened, Piece, none, more, laid, laidPics, ending}
-use Rattle.scan.proofs.Laid.{laid-pictures, tail-ending}
+use Rattle.bits.proofs.Reading.{same-more, same-none}
+use Rattle.scan.proofs.Laying.{Opened, Piece, none, more, laid, laidPics}
+use Rattle.scan.proofs.Laid.{laid-pictures, tail-end}
 use Rattle.scan.proofs.Pieces.{piece-behind, piece-zeros}
 
 -- after a code the scan goes on four bytes later
 overlap : codes (0 ∷ 0 ∷ 1 ∷ 0 ∷ 0 ∷ 1 ∷ 5 ∷ []) ≡ record { offset = 0; code = 0 } ∷ []
 unfolding codes
-overlap = refl
+overlap = simp (same-more, same-none)
 
 -- zeros before a code
 zeros : codes (7 ∷ 0 ∷ 0 ∷ 0 ∷ 1 ∷ 0xB3 ∷ []) ≡ record { offset = 2; code = 0xB3 } ∷ []
 unfolding codes
-zeros = refl
+zeros = simp (same-more, same-none)
 
 -- a picture, a slice, the end
 one : pictures (0 ∷ 0 ∷ 1 ∷ 0 ∷ 9 ∷ 0 ∷ 0 ∷ 1 ∷ 1 ∷ 8 ∷ 0 ∷ 0 ∷ 1 ∷ 0xB7 ∷ []) ≡ record { start = 0; end = 14 } ∷ []
 unfolding pictures
-one = refl
+one = simp (same-more, same-none)
 
 -- a picture without slices swallows what follows
 swallowed : length (pictures (0 ∷ 0 ∷ 1 ∷ 0 ∷ 0 ∷ 0 ∷ 1 ∷ 0xB3 ∷ 0 ∷ 0 ∷ 1 ∷ 0 ∷ [])) ≡ 1
 unfolding pictures
-swallowed = refl
+swallowed = simp (same-more, same-none)
 
 -- the theorem on pieces speaks of something: a sequence header's code; and a picture's, an extension's and two slices'
 header : List ℕ
@@ -40,24 +41,24 @@ layer = 0 ∷ 0 ∷ 1 ∷ 0 ∷ 9 ∷ 0 ∷ 0 ∷ 1 ∷ 0xB5 ∷ 7 ∷ 0 ∷ 0 �
 
 header-opened : Opened header
 unfolding header endsPrefix isSlice
-header-opened = record { first = 0xB3; rest = 4 ∷ []; opens = refl; opens-slice = refl; opens-end = refl; closed = refl }
+header-opened = record { first = 0xB3; rest = 4 ∷ []; opens = refl; opens-slice = refl; opens-end = refl; closed = simp same-more }
 
 no-picture : every notPicture (codes header) ≡ true
 unfolding header codes every notPicture
-no-picture = refl
+no-picture = simp (same-more, same-none)
 
 layer-piece : Piece layer 0
 unfolding layer codes endsPrefix isSlice notSlice notPicture every
 layer-piece =
     record {
-      opened = record { first = 0; rest = _; opens = refl; opens-slice = refl; opens-end = refl; closed = refl };
+      opened = record { first = 0; rest = _; opens = refl; opens-slice = refl; opens-end = refl; closed = simp same-more };
       one =
           record {
             headers = [];
             extensions = record { offset = 5; code = 0xB5 } ∷ [];
             slice = record { offset = 10; code = 1 };
             slices = record { offset = 15; code = 2 } ∷ [];
-            shape = refl;
+            shape = simp (same-more, same-none);
             no-picture = refl;
             no-slice = refl;
             a-slice = refl;
@@ -66,9 +67,9 @@ layer-piece =
     }
 
 -- a header, a picture and three zeros; a picture; the sequence's end
-two : pictures (((header ++ layer) ++ replicate 3 0) ++ (layer ++ ending)) ≡ record { start = 5; end = 28 } ∷ record { start = 28; end = 52 } ∷ []
-unfolding laid laidPics header layer ending
+two : pictures (((header ++ layer) ++ replicate 3 0) ++ (layer ++ sequenceEndCode)) ≡ record { start = 5; end = 28 } ∷ record { start = 28; end = 52 } ∷ []
+unfolding laid laidPics header layer
 two =
     laid-pictures
     (more _ 5 (piece-zeros (header ++ layer) 5 3 (piece-behind header layer 0 header-opened no-picture layer-piece)) (more layer 0 layer-piece none))
-    ending tail-ending
+    sequenceEndCode tail-end

@@ -10,10 +10,12 @@ use lib.ListN.{length, length-append, length-map}
 use lib.Dec.{eqb}
 use Rattle.bits.specs.Bits.{pick}
 use Rattle.bits.proofs.Reading.{both-true}
-use Rattle.scan.specs.Codes.{Code, codes, codesFrom, starts, fourth, moved, fresh}
+use Rattle.scan.specs.Codes.{Code, codes, codesFrom, every, sequenceEndCode}
 use Rattle.scan.specs.Pictures.{Pic, skip, isSlice, notSlice, notPicture, afterSlices, endAt, picturesF, picturesOf, pictures}
-use Rattle.scan.specs.Laid.{every, movedPic, OnePicture, Opened, Piece, Pieces, none, more, laid, laidPics, ending}
-use Rattle.scan.proofs.Codes.{codes-append}
+use Rattle.scan.proofs.Codes.{fresh, fresh-code, moved, codes-append}
+use Rattle.scan.proofs.PictureCodes.{codes-opened}
+use Rattle.scan.proofs.Sorts.{skip-stops}
+use Rattle.scan.proofs.Laying.{OnePicture, Opened, Piece, Pieces, none, more, laid, laidPics}
 use Rattle.scan.proofs.Pictures.{pictures-other, pictures-picture}
 
 -- ---- lists of codes
@@ -37,8 +39,8 @@ unfolding notPicture
 picture-0 = refl
 
 slice-stops : (c : Code) (cs : List Code) → isSlice (c .code) ≡ true → skip notSlice (c ∷ cs) ≡ c ∷ cs
-unfolding skip pick notSlice
-slice-stops c cs h = rw h
+unfolding notSlice
+slice-stops c cs h = skip-stops notSlice c cs (rw h)
 
 slice-passes : (c : Code) (cs : List Code) → isSlice (c .code) ≡ true → skip isSlice (c ∷ cs) ≡ skip isSlice cs
 unfolding skip pick
@@ -64,6 +66,10 @@ one-then e cs at o ds h =
     ∙ ap (λ l. record { start = at; end = endAt e l } ∷ picturesOf e l) (after-all cs at o ds h)
 
 -- ---- moved on
+
+-- a picture moved on by d bytes
+unfoldable movedPic : ℕ → Pic → Pic
+movedPic d p = record { start = d + p .start; end = d + p .end }
 
 skip-moved : (p : ℕ → Bool) (d : ℕ) (cs : List Code) → skip p (map (moved d) cs) ≡ map (moved d) (skip p cs)
 unfolding skip pick moved
@@ -101,14 +107,14 @@ picturesF-moved d e (suc n) (c ∷ cs) =
     rw (after-moved d cs, endAt-moved d e (afterSlices cs), picturesF-moved d e n (afterSlices cs), picturesF-moved d e n cs)
     (sym (map-pick (movedPic d) (eqb (c .code) 0) _ _))
 
-pub picturesOf-moved : (d e : ℕ) (cs : List Code) → picturesOf (d + e) (map (moved d) cs) ≡ map (movedPic d) (picturesOf e cs)
+picturesOf-moved : (d e : ℕ) (cs : List Code) → picturesOf (d + e) (map (moved d) cs) ≡ map (movedPic d) (picturesOf e cs)
 unfolding picturesOf
 picturesOf-moved d e cs = rw length-map (picturesF-moved d e (length cs) cs)
 
 -- ---- a piece before a stream
 
 module _ (x : List ℕ) (at : ℕ) (p : Piece x at) (y : List ℕ) (f : fresh y ≡ true) (s : skip isSlice (codes y) ≡ codes y) where
-  pub piece-then : pictures (x ++ y) ≡ record { start = at; end = length x + endAt (length y) (codes y) } ∷ map (movedPic (length x)) (pictures y)
+  piece-then : pictures (x ++ y) ≡ record { start = at; end = length x + endAt (length y) (codes y) } ∷ map (movedPic (length x)) (pictures y)
   unfolding pictures
   piece-then =
       rw (codes-append x y (p .opened .closed) f, length-append x y)
@@ -126,8 +132,9 @@ pub record Tail (t : List ℕ) : Type 0 where
   pub none-left : pictures t ≡ []
 
 opens-follows : (first : ℕ) (rest : List ℕ) → isSlice first ≡ false → eqb first 0xB7 ≡ false → Follows (0 ∷ 0 ∷ 1 ∷ first ∷ rest) 0
-unfolding codes codesFrom starts fourth pick fresh skip endAt
-opens-follows first rest s e = record { fresh-y = refl; no-slice-first = rw s; ends = rw e }
+unfolding pick skip endAt
+opens-follows first rest s e =
+    record { fresh-y = fresh-code (first ∷ rest); no-slice-first = rw (codes-opened first rest, s); ends = rw (codes-opened first rest, e) }
 
 opened-follows : (x : List ℕ) → Opened x → (y : List ℕ) → Follows (x ++ y) 0
 opened-follows x o y = rw (o .opens) (opens-follows (o .first) (o .rest ++ y) (o .opens-slice) (o .opens-end))
@@ -154,11 +161,9 @@ pub tail-none : Tail []
 unfolding codes codesFrom fresh skip endAt pictures picturesOf picturesF
 tail-none = record { follows = record { fresh-y = refl; no-slice-first = refl; ends = refl }; none-left = refl }
 
--- its four bytes
-pub ending-is : ending ≡ 0 ∷ 0 ∷ 1 ∷ 0xB7 ∷ []
-unfolding ending
-ending-is = refl
-
-pub tail-ending : Tail ending
-unfolding ending codes codesFrom starts fourth pick fresh skip isSlice endAt pictures picturesOf picturesF
-tail-ending = record { follows = record { fresh-y = refl; no-slice-first = refl; ends = refl }; none-left = refl }
+pub tail-end : Tail sequenceEndCode
+unfolding codesFrom pick skip isSlice endAt picturesOf picturesF pictures
+tail-end = record {
+  follows = record { fresh-y = fresh-code (0xB7 ∷ []); no-slice-first = rw (codes-opened 0xB7 []); ends = rw (codes-opened 0xB7 []) };
+  none-left = rw (codes-opened 0xB7 []);
+}

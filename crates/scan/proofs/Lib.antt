@@ -1,3 +1,4 @@
+pub mod Prefix
 pub mod NextCode
 pub mod Codes
 pub mod Walk

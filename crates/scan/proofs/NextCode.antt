@@ -13,28 +13,10 @@ use lib.Dec.{eqb, leb}
 use borrow.Author.Tests.{ne-eqb, le-leb}
 use Rattle.bits.specs.Bits.{pick}
 use Rattle.scan.specs.declared.Found.the-variants.{At, Nothing}
-use Rattle.scan.specs.Codes.{starts, fourth, firstFrom, nextCode}
+use Rattle.scan.specs.Codes.{starts, firstFrom, nextCode}
+use Rattle.scan.proofs.Prefix.{starts-is}
 
 -- ---- over a list
-
--- the test, and the fourth byte, by index
-starts-is : (l : List ℕ) → starts l ≡ (leb 4 (length l) && (eqb (getD l 0 0) 0 && (eqb (getD l 1 0) 0 && eqb (getD l 2 0) 1)))
-unfolding starts
-starts-is [] = refl
-starts-is (a ∷ []) = refl
-starts-is (a ∷ b ∷ []) = refl
-starts-is (a ∷ b ∷ c ∷ []) = refl
-starts-is (a ∷ b ∷ c ∷ d ∷ l) =
-    let h : 4 ≤ length (a ∷ b ∷ c ∷ d ∷ l) = omega arith in
-    rw (le-leb 4 (length (a ∷ b ∷ c ∷ d ∷ l)) h)
-
-fourth-is : (l : List ℕ) → fourth l ≡ getD l 3 0
-unfolding fourth
-fourth-is [] = refl
-fourth-is (a ∷ []) = refl
-fourth-is (a ∷ b ∷ []) = refl
-fourth-is (a ∷ b ∷ c ∷ []) = refl
-fourth-is (a ∷ b ∷ c ∷ d ∷ l) = refl
 
 short : (l : List ℕ) (o : ℕ) → length l < 4 → firstFrom o l ≡ Nothing
 unfolding firstFrom starts pick
@@ -49,7 +31,7 @@ unfolding firstFrom pick
 first-on o [] e = refl
 first-on o (b ∷ l) e = rw (add-one o, e)
 
-first-here : (o : ℕ) (l : List ℕ) → starts l ≡ true → At o (fourth l) ≡ firstFrom o l
+first-here : (o : ℕ) (l : List ℕ) → starts l ≡ true → At o (getD l 3 0) ≡ firstFrom o l
 unfolding firstFrom pick starts
 first-here o [] e = cc
 first-here o (b ∷ l) e = rw e
@@ -69,8 +51,7 @@ pub next-here : (s : List ℕ) (i : ℕ) → i + 4 ≤ length s → getD s i 0 �
 unfolding nextCode
 next-here s i h a b c =
     let l : 4 ≤ length s - i = omega arith in
-    let f : fourth (drop i s) ≡ getD s (i + 3) 0 = fourth-is (drop i s) ∙ getD-drop i s 3 0 in
-    rw (← f) (first-here i (drop i s) (starts-at s i ∙ rw (le-leb 4 (length s - i) l, a, b, c)))
+    rw (← getD-drop i s 3 0) (first-here i (drop i s) (starts-at s i ∙ rw (le-leb 4 (length s - i) l, a, b, c)))
 
 -- no code at i
 next-on : (s : List ℕ) (i : ℕ) → starts (drop i s) ≡ false → nextCode s (i + 1) ≡ nextCode s i

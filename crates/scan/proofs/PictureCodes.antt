@@ -1,35 +1,15 @@
--- The start codes of bytes that begin with a picture header, of none, and of bytes that begin with any code; and which bytes end 00 00 01.
+-- The start codes of bytes that begin with a picture header, of none, and of bytes that begin with any code.
 -- Assumes nothing.
 use mathlib.Core.Path.{_≡_, refl}
-use Prim.Native.Nat.{ℕ, zero, suc, _+_, _≤_}
+use Prim.Native.Nat.{ℕ, _≤_}
 use mathlib.Core.List.{List, [], _∷_}
-use mathlib.Core.Bool.{true, false, and-false}
+use mathlib.Core.Bool.{false}
 use mathlib.Core.Logic.{_⊎_, ⊎-elim}
 use native.Mathlib.Omega.{arith}
 use lib.ListN.{length, getD, take, drop}
-use borrow.Author.Tests.{ne-eqb}
 use Rattle.bits.specs.Bits.{pick}
-use Rattle.scan.specs.Codes.{starts, fourth, codesFrom, codes, isPrefix, endsPrefix}
-
--- no code begins at a byte whose next is not zero, or which is not zero itself
-starts-second : (a b : ℕ) (s : List ℕ) → (b ≡ 0 → ⊥) → starts (a ∷ b ∷ s) ≡ false
-unfolding starts
-starts-second a b [] n = refl
-starts-second a b (c ∷ []) n = refl
-starts-second a b (c ∷ d ∷ s) n = rw (ne-eqb b 0 n, and-false)
-
-starts-first : (a : ℕ) (s : List ℕ) → (a ≡ 0 → ⊥) → starts (a ∷ s) ≡ false
-unfolding starts
-starts-first a [] n = refl
-starts-first a (b ∷ []) n = refl
-starts-first a (b ∷ c ∷ []) n = refl
-starts-first a (b ∷ c ∷ d ∷ s) n = rw (ne-eqb a 0 n)
-
--- none begins before two zero bytes
-starts-before : (a b : ℕ) (s : List ℕ) → starts (a ∷ b ∷ 0 ∷ s) ≡ false
-unfolding starts
-starts-before a b [] = refl
-starts-before a b (c ∷ s) = simp and-false
+use Rattle.scan.specs.Codes.{starts, codesFrom, codes}
+use Rattle.scan.proofs.Prefix.{starts-four, starts-first, starts-second, starts-before}
 
 -- the last byte of eight is not zero, or two zero bytes follow it
 abbrev pub Clear : ℕ → List ℕ → Type 0
@@ -53,17 +33,9 @@ starts-eighth d s k = ⊎-elim (starts-first d s) (go s) k
 -- behind the picture's code the scan finds nothing before byte 8
 pub codes-eight : (a b c d : ℕ) (s : List ℕ) → (b ≡ 0 → ⊥) → Clear d s
     → codes (0 ∷ 0 ∷ 1 ∷ 0 ∷ a ∷ b ∷ c ∷ d ∷ s) ≡ record { offset = 0; code = 0 } ∷ codesFrom 8 0 s
-unfolding codes codesFrom starts fourth pick
+unfolding codes codesFrom pick
 codes-eight a b c d s n k =
-    rw (starts-second a b (c ∷ d ∷ s) n, starts-first b (c ∷ d ∷ s) n, starts-seventh c d s k, starts-eighth d s k)
-
--- a list that begins with four given bytes
-pub opens-four : (s : List ℕ) (a b c d : ℕ) → take 4 s ≡ a ∷ b ∷ c ∷ d ∷ [] → s ≡ a ∷ b ∷ c ∷ d ∷ drop 4 s
-opens-four [] a b c d e = cc
-opens-four (p ∷ []) a b c d e = cc
-opens-four (p ∷ q ∷ []) a b c d e = cc
-opens-four (p ∷ q ∷ r ∷ []) a b c d e = cc
-opens-four (p ∷ q ∷ r ∷ t ∷ s) a b c d e = cc
+    rw (starts-four 0 0 1 0 (a ∷ b ∷ c ∷ d ∷ s), starts-second a b (c ∷ d ∷ s) n, starts-first b (c ∷ d ∷ s) n, starts-seventh c d s k, starts-eighth d s k)
 
 -- a picture's code at byte 0, no zero in byte 5, and byte 7 not zero or two zeros behind it
 pub record PictureHead (s : List ℕ) : Type 0 where
@@ -91,25 +63,11 @@ codes-picture (a ∷ b ∷ c ∷ d ∷ e ∷ f ∷ g ∷ i ∷ j ∷ k ∷ s) h 
     let qd : d ≡ 0 = cc in
     rw (qa, qb, qc, qd) (codes-eight e f g i (j ∷ k ∷ s) (h .fifth) (h .clear))
 
--- whether bytes end 00 00 01 is told by the last three
-pub ends-drop : (n : ℕ) (s : List ℕ) → n + 3 ≤ length s → endsPrefix s ≡ endsPrefix (drop n s)
-unfolding endsPrefix isPrefix
-ends-drop zero s h = refl
-ends-drop (suc n) [] h = refl
-ends-drop (suc n) (a ∷ []) h = absurd (omega arith)
-ends-drop (suc n) (a ∷ b ∷ []) h = absurd (omega arith)
-ends-drop (suc n) (a ∷ b ∷ c ∷ []) h = absurd (omega arith)
-ends-drop (suc n) (a ∷ b ∷ c ∷ d ∷ s) h = ends-drop n (b ∷ c ∷ d ∷ s) (omega arith)
-
-pub ends-prefix : endsPrefix (0x00 ∷ 0x00 ∷ 0x01 ∷ []) ≡ true
-unfolding endsPrefix isPrefix
-ends-prefix = refl
-
 -- no bytes, and bytes that begin with a code
 pub codes-none : codes [] ≡ []
 unfolding codes codesFrom
 codes-none = refl
 
 pub codes-opened : (f : ℕ) (s : List ℕ) → codes (0x00 ∷ 0x00 ∷ 0x01 ∷ f ∷ s) ≡ record { offset = 0; code = f } ∷ codesFrom 4 0 s
-unfolding codes codesFrom starts fourth pick
-codes-opened f s = refl
+unfolding codes codesFrom pick
+codes-opened f s = rw starts-four

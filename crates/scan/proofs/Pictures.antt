@@ -16,7 +16,8 @@ use Rattle.scan.specs.declared.Next.the-variants.{Picture, Done}
 use Rattle.scan.specs.declared.Stop.the-variants.{AtPicture, AtSlice, AfterSlices}
 use Rattle.scan.specs.Codes.{Code, codesFrom, codes, codesAt}
 use Rattle.scan.specs.Pictures.{Pic, skip, isSlice, notSlice, notPicture, notSequence, afterSlices, endAt, picturesF, picturesOf, pictures}
-use Rattle.scan.specs.Walk.{found, passed, goOn, nextIn, nextPicture, picturesAt}
+use Rattle.scan.specs.Walk.{found, goOn, nextIn, nextPicture}
+use Rattle.scan.specs.Steps.{passed}
 use Rattle.scan.proofs.Walk.{Sought, sought, unsought}
 
 -- ---- the definition's equations, without the count
@@ -199,6 +200,10 @@ after s k h = go (found (afterSlices (codesAt s k))) refl
         turn m false q =
             record { same = m .list ∙ sym (m .again); low = m .from; on = omega arith; high = omega (arith, m .room); clear = next-low s g }
 
+-- the pictures that a walk from offset `i` finds
+unfoldable pub picturesAt : List ℕ → ℕ → List Pic
+picturesAt s i = picturesOf (length s) (codesAt s i)
+
 -- a walk from i finds a picture from a to b, and goes on at n
 pub record Walked (s : List ℕ) (i a b n : ℕ) : Type 0 where
   pub from : i ≤ a
@@ -228,9 +233,6 @@ walked s i a b n h =
     }
 
 -- ---- the pictures are what the walk finds
-
-pub pictures-step : (s : List ℕ) (i a b n : ℕ) → nextPicture s i ≡ Picture a b n → picturesAt s i ≡ record { start = a; end = b } ∷ picturesAt s n
-pictures-step s i a b n h = walked s i a b n h .list
 
 pub pictures-done : (s : List ℕ) (i : ℕ) → nextPicture s i ≡ Done → picturesAt s i ≡ []
 unfolding picturesAt passed

@@ -6,10 +6,10 @@ use mathlib.Core.List.{List, [], _∷_, _++_, map, map-append, append-assoc, app
 use mathlib.Core.Bool.{Bool, true, false}
 use lib.ListN.{length, replicate}
 use Rattle.bits.proofs.Reading.{both-true}
-use Rattle.scan.specs.Codes.{Code, codes, moved, endsPrefix, fresh}
+use Rattle.scan.specs.Codes.{Code, codes, every, endsPrefix}
 use Rattle.scan.specs.Pictures.{isSlice, notSlice, notPicture}
-use Rattle.scan.specs.Laid.{every, OnePicture, Opened, Piece}
-use Rattle.scan.proofs.Codes.{codes-append, codesFrom-zeros, ends-append, ends-zeros, fresh-code, fresh-zeros}
+use Rattle.scan.proofs.Codes.{fresh, fresh-code, fresh-zeros, moved, codes-append, codesFrom-zeros, ends-append, ends-zeros}
+use Rattle.scan.proofs.Laying.{OnePicture, Opened, Piece}
 
 -- ---- codes
 

@@ -7,9 +7,8 @@ use mathlib.Core.Bool.{Bool, true, false, and-false}
 use borrow.Author.Tests.{lt-leb, ne-eqb}
 use Rattle.bits.specs.Bits.{pick}
 use Rattle.bits.proofs.Reading.{both-true}
-use Rattle.scan.specs.Codes.{Code}
+use Rattle.scan.specs.Codes.{Code, every}
 use Rattle.scan.specs.Pictures.{isSlice, notSlice, notPicture, notSequence, skip}
-use Rattle.scan.specs.Laid.{every}
 use Rattle.scan.specs.Walk.{found}
 use Rattle.scan.specs.declared.Found.the-variants.{At}
 
@@ -45,10 +44,6 @@ every-by p q f (c ∷ cs) h =
 pub every-empty : (p : ℕ → Bool) → every p [] ≡ true
 unfolding every
 every-empty p = refl
-
-pub every-first : (p : ℕ → Bool) (c : Code) (cs : List Code) → every p (c ∷ cs) ≡ true → (p (c .code) ≡ true) × (every p cs ≡ true)
-unfolding every
-every-first p c cs h = both-true (p (c .code)) (every p cs) h
 
 -- a code that the search does not pass over
 pub skip-stops : (p : ℕ → Bool) (c : Code) (cs : List Code) → p (c .code) ≡ false → skip p (c ∷ cs) ≡ c ∷ cs

@@ -6,14 +6,14 @@ use mathlib.Core.List.{List, [], _∷_}
 use mathlib.Core.Bool.{Bool, true, false}
 use native.Mathlib.Omega.{arith}
 use native.Mathlib.Nat.{add-suc, add-zero, suc-add}
-use lib.ListN.{length, drop, length-drop}
+use lib.ListN.{length, getD, drop, length-drop}
 use lib.Seq.{drop-drop}
 use Rattle.bits.specs.Bits.{pick}
 use Rattle.scan.specs.declared.Found.the-variants.{At, Nothing}
-use Rattle.scan.specs.Codes.{Code, starts, fourth, codesFrom, codesAt, firstFrom, nextCode}
+use Rattle.scan.specs.Codes.{Code, starts, codesFrom, codesAt, firstFrom, nextCode}
 use Rattle.scan.specs.Pictures.{skip}
 use Rattle.scan.specs.Walk.{found}
-use Rattle.scan.proofs.Codes.{starts-long}
+use Rattle.scan.proofs.Prefix.{starts-long}
 
 -- ---- over a list
 
@@ -25,7 +25,7 @@ passing (suc k) o [] = refl
 passing (suc k) o (b ∷ l) = rw (add-suc, ← suc-add o k) (passing k (suc o) l)
 
 code-here : (b : ℕ) (l : List ℕ) (o : ℕ) → starts (b ∷ l) ≡ true
-    → codesFrom o 0 (b ∷ l) ≡ record { offset = o; code = fourth (b ∷ l) } ∷ codesFrom (o + 4) 0 (drop 4 (b ∷ l))
+    → codesFrom o 0 (b ∷ l) ≡ record { offset = o; code = getD (b ∷ l) 3 0 } ∷ codesFrom (o + 4) 0 (drop 4 (b ∷ l))
 unfolding codesFrom pick
 code-here b l o q =
     let e : o + 4 ≡ suc o + 3 = omega arith in
@@ -37,8 +37,8 @@ first-is o [] = refl
 first-is o (b ∷ l) = go (first-is (suc o) l) (starts (b ∷ l))
   where
     go : firstFrom (suc o) l ≡ found (codesFrom (suc o) 0 l) → (t : Bool)
-        → pick t (At o (fourth (b ∷ l))) (firstFrom (suc o) l)
-        ≡ found (pick t (record { offset = o; code = fourth (b ∷ l) } ∷ codesFrom (suc o) 3 l) (codesFrom (suc o) 0 l))
+        → pick t (At o (getD (b ∷ l) 3 0)) (firstFrom (suc o) l)
+        ≡ found (pick t (record { offset = o; code = getD (b ∷ l) 3 0 } ∷ codesFrom (suc o) 3 l) (codesFrom (suc o) 0 l))
     go ih true = refl
     go ih false = ih
 
@@ -74,24 +74,24 @@ hit p (b ∷ l) o (suc k) q c e = hit-later (hit p l (suc o) k q c e) b (suc k) 
 hit p (b ∷ l) o zero q c e = go (λ k. hit p l (suc o) k q c) (starts (b ∷ l)) refl e
   where
     go : ((k : ℕ) → found (skip p (codesFrom (suc o) k l)) ≡ At q c → Hit p l (suc o) k q c) → (t : Bool) → starts (b ∷ l) ≡ t
-        → found (skip p (pick t (record { offset = o; code = fourth (b ∷ l) } ∷ codesFrom (suc o) 3 l) (codesFrom (suc o) 0 l))) ≡ At q c
+        → found (skip p (pick t (record { offset = o; code = getD (b ∷ l) 3 0 } ∷ codesFrom (suc o) 3 l) (codesFrom (suc o) 0 l))) ≡ At q c
         → Hit p (b ∷ l) o 0 q c
     go ih false s e = hit-later (ih 0 e) b 0 (rw s)
-    go ih true s e = turn (p (fourth (b ∷ l))) refl e
+    go ih true s e = turn (p (getD (b ∷ l) 3 0)) refl e
       where
-        turn : (t : Bool) → p (fourth (b ∷ l)) ≡ t
-            → found (pick t (skip p (codesFrom (suc o) 3 l)) (record { offset = o; code = fourth (b ∷ l) } ∷ codesFrom (suc o) 3 l)) ≡ At q c
+        turn : (t : Bool) → p (getD (b ∷ l) 3 0) ≡ t
+            → found (pick t (skip p (codesFrom (suc o) 3 l)) (record { offset = o; code = getD (b ∷ l) 3 0 } ∷ codesFrom (suc o) 3 l)) ≡ At q c
             → Hit p (b ∷ l) o 0 q c
         turn true r e = hit-later (ih 3 e) b 0 (rw (s, r))
         turn false r e =
             let eq : o ≡ q = cc in
-            let ec : fourth (b ∷ l) ≡ c = cc in
+            let ec : getD (b ∷ l) 3 0 ≡ c = cc in
             let h : codesFrom q 0 (b ∷ l) ≡ record { offset = q; code = c } ∷ codesFrom (q + 4) 0 (drop 4 (b ∷ l))
             = rw (← eq, ← ec) (code-here b l o s) in
             record {
               j = 0;
               place = omega arith;
-              room = omega (arith, starts-long b l s);
+              room = omega (arith, starts-long (b ∷ l) s);
               list = rw eq (ap (skip p) h ∙ rw (← ec, r));
               again = h;
               stops = rw (← ec) r;

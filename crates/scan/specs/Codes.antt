@@ -1,11 +1,12 @@
 -- Start codes of a stream (ISO/IEC 13818-2 6.2.1; paper 01, 'The buffer report'): 00 00 01 and one more byte, found left to right; after one the scan goes on 4 bytes later.
 -- Assumes nothing.
-use Prim.Native.Nat.{ℕ, zero, suc, _+_}
+use Prim.Native.Nat.{ℕ, zero, suc, _-_}
 use mathlib.Core.List.{List, [], _∷_}
-use mathlib.Core.Bool.{Bool, true, false, not, _&&_, _||_}
-use lib.ListN.{drop}
-use lib.Dec.{eqb}
+use mathlib.Core.Bool.{Bool, true, _&&_}
+use lib.Dec.{leb}
+use lib.ListN.{length, getD, take, drop}
 use Rattle.bits.specs.Bits.{pick}
+use Rattle.bits.specs.Fields.{sameBytes, startCodePrefix}
 use Rattle.scan.specs.declared.Found.{Found}
 use Rattle.scan.specs.declared.Found.the-variants.{At, Nothing}
 
@@ -16,28 +17,16 @@ pub record Code : Type 0 where
 
 -- the bytes begin with a start code: 00 00 01 and one more byte
 unfoldable pub starts : List ℕ → Bool
-starts [] = false
-starts (a ∷ []) = false
-starts (a ∷ b ∷ []) = false
-starts (a ∷ b ∷ c ∷ []) = false
-starts (a ∷ b ∷ c ∷ d ∷ s) = eqb a 0 && (eqb b 0 && eqb c 1)
-
--- the fourth byte
-unfoldable pub fourth : List ℕ → ℕ
-fourth [] = 0
-fourth (a ∷ []) = 0
-fourth (a ∷ b ∷ []) = 0
-fourth (a ∷ b ∷ c ∷ []) = 0
-fourth (a ∷ b ∷ c ∷ d ∷ s) = d
+starts s = leb 4 (length s) && sameBytes (take 3 s) startCodePrefix
 
 -- the start codes of the bytes `s`, which stand at offset `o` of the stream; the first `k` bytes are passed over
 unfoldable pub codesFrom : ℕ → ℕ → List ℕ → List Code
-unfolding pick starts fourth
+unfolding pick starts
 codesFrom o k [] = []
 codesFrom o (suc k) (b ∷ s) = codesFrom (suc o) k s
 codesFrom o zero (b ∷ s) =
     pick (starts (b ∷ s))
-    (record { offset = o; code = fourth (b ∷ s) } ∷ codesFrom (suc o) 3 s)
+    (record { offset = o; code = getD (b ∷ s) 3 0 } ∷ codesFrom (suc o) 3 s)
     (codesFrom (suc o) 0 s)
 
 unfoldable pub codes : List ℕ → List Code
@@ -49,37 +38,26 @@ unfoldable pub codesAt : List ℕ → ℕ → List Code
 unfolding codesFrom
 codesAt s i = codesFrom i 0 (drop i s)
 
+-- every code passes the test
+unfoldable pub every : (ℕ → Bool) → List Code → Bool
+every p [] = true
+every p (c ∷ cs) = p (c .code) && every p cs
+
 -- the first start code of the bytes `s`, which stand at offset `o` of the stream
 unfoldable pub firstFrom : ℕ → List ℕ → Found
-unfolding pick starts fourth
+unfolding pick starts
 firstFrom o [] = Nothing
-firstFrom o (b ∷ s) = pick (starts (b ∷ s)) (At o (fourth (b ∷ s))) (firstFrom (suc o) s)
+firstFrom o (b ∷ s) = pick (starts (b ∷ s)) (At o (getD (b ∷ s) 3 0)) (firstFrom (suc o) s)
 
 -- the first start code of `s` at or after `from`
 unfoldable pub nextCode : List ℕ → ℕ → Found
 unfolding firstFrom
 nextCode s from = firstFrom from (drop from s)
 
--- a code moved on by d bytes
-unfoldable pub moved : ℕ → Code → Code
-moved d c = record { offset = d + c .offset; code = c .code }
-
--- the bytes are 00 00 01 and no more
-unfoldable pub isPrefix : List ℕ → Bool
-isPrefix [] = false
-isPrefix (a ∷ []) = false
-isPrefix (a ∷ b ∷ []) = false
-isPrefix (a ∷ b ∷ c ∷ []) = eqb a 0 && (eqb b 0 && eqb c 1)
-isPrefix (a ∷ b ∷ c ∷ d ∷ s) = false
-
 -- the bytes end 00 00 01
 unfoldable pub endsPrefix : List ℕ → Bool
-unfolding isPrefix
-endsPrefix [] = false
-endsPrefix (b ∷ s) = isPrefix (b ∷ s) || endsPrefix s
+endsPrefix s = sameBytes (drop (length s - 3) s) startCodePrefix
 
--- the bytes begin with neither 01 nor 00 01, so they complete no prefix that another part began
-unfoldable pub fresh : List ℕ → Bool
-fresh [] = true
-fresh (a ∷ []) = not (eqb a 1)
-fresh (a ∷ b ∷ s) = not (eqb a 1) && not (eqb a 0 && eqb b 1)
+-- sequence_end_code (Table 6-1)
+abbrev pub sequenceEndCode : List ℕ
+sequenceEndCode = 0x00 ∷ 0x00 ∷ 0x01 ∷ 0xB7 ∷ []

@@ -1,5 +1,4 @@
 pub mod Codes
-pub mod Blocks
 pub mod Pictures
 pub mod Walk
-pub mod Laid
+pub mod Steps

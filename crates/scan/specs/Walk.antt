@@ -1,28 +1,19 @@
--- The walk from picture to picture, as the code goes it: what a search finds, and one step. proofs/Pictures.antt says that its steps come to specs/Pictures.antt.
+-- One step of the walk from picture to picture: what a search finds, the next picture, and where the walk goes on. proofs/Pictures.antt: the steps come to specs/Pictures.antt.
 -- Assumes nothing.
 use Prim.Native.Nat.{ℕ}
 use mathlib.Core.List.{List, [], _∷_}
-use mathlib.Core.Bool.{Bool}
 use lib.ListN.{length}
 use Rattle.scan.specs.declared.Found.{Found}
 use Rattle.scan.specs.declared.Found.the-variants.{At, Nothing}
 use Rattle.scan.specs.declared.Next.{Next}
 use Rattle.scan.specs.declared.Next.the-variants.{Picture, Done}
-use Rattle.scan.specs.declared.Stop.{Stop}
-use Rattle.scan.specs.declared.Stop.the-variants.{AtSequence, AtPicture, AtSlice, AfterSlices}
 use Rattle.scan.specs.Codes.{Code, codesAt}
-use Rattle.scan.specs.Pictures.{Pic, isSlice, notSlice, notPicture, notSequence, skip, afterSlices, endAt, picturesOf}
+use Rattle.scan.specs.Pictures.{notPicture, skip, afterSlices, endAt}
 
+-- the first of the codes
 unfoldable pub found : List Code → Found
 found [] = Nothing
 found (c ∷ cs) = At (c .offset) (c .code)
-
--- which codes a search passes over
-unfoldable pub passed : Stop → ℕ → Bool
-passed AtSequence = notSequence
-passed AtPicture = notPicture
-passed AtSlice = notSlice
-passed AfterSlices = isSlice
 
 -- where the walk goes on
 unfoldable pub goOn : ℕ → List Code → ℕ
@@ -38,8 +29,3 @@ nextIn e (c ∷ cs) = Picture (c .offset) (endAt e (afterSlices cs)) (goOn e (af
 unfoldable pub nextPicture : List ℕ → ℕ → Next
 unfolding nextIn skip notPicture codesAt
 nextPicture s from = nextIn (length s) (skip notPicture (codesAt s from))
-
--- the pictures that a walk from offset `i` finds
-unfoldable pub picturesAt : List ℕ → ℕ → List Pic
-unfolding picturesOf codesAt
-picturesAt s i = picturesOf (length s) (codesAt s i)

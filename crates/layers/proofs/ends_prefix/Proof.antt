@@ -1,4 +1,4 @@
-use Rattle.scan.proofs.Search.{ends-few}
+use Rattle.scan.proofs.Prefix.{ends-few}
 use Rattle.layers.proofs.Ways.{ends-by}
 use mathlib.Core.Path.{_∙_}
 use native.Mathlib.Omega.{arith}

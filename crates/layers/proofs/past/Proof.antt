@@ -8,13 +8,13 @@ use Rattle.scan.specs.Codes.{nextCode, codesAt}
 use Rattle.scan.specs.Pictures.{skip}
 use Rattle.scan.specs.Walk.{found}
 use Rattle.scan.proofs.Walk.{seen, pass-on, stop-here, none-here}
-use Rattle.layers.specs.Steps.{within}
+use Rattle.layers.specs.Steps.{inSet}
 use borrow.Author.Needs.{needs}
 use Rattle.layers.proofs.past.Statement.{statement}
 use Rattle.layers.proofs.past.Tie as tie
 
 abbrev Inv-loop : tie.InvT-loop
-Inv-loop s from set i₀ i = found (skip (within set) (codesAt s i)) ≡ found (skip (within set) (codesAt s from))
+Inv-loop s from set i₀ i = found (skip (inSet set) (codesAt s i)) ≡ found (skip (inSet set) (codesAt s from))
 
 abbrev μ-loop : tie.MeasureT-loop
 μ-loop s from set i₀ i = length s - i
@@ -28,8 +28,8 @@ next-code-requires c κs = search needs
 enum-known-offset : tie.Need-enum-known-offset Inv-loop μ-loop
 enum-known-offset c = search needs
 
-is-within-requires : tie.Need-is-within-requires Inv-loop μ-loop
-is-within-requires c κs = search needs
+in-set-requires : tie.Need-in-set-requires Inv-loop μ-loop
+in-set-requires c κs = search needs
 
 -- the next code, where it is passed over
 at-code : (c : tie.Then1 Inv-loop μ-loop)
@@ -46,13 +46,13 @@ loop-less c = omega (arith, seen _ _ _ _ (at-code c) .from, seen _ _ _ _ (at-cod
 loop-again : tie.Need-loop-again Inv-loop μ-loop
 loop-again c =
     let r = c .before .before .before .before .before .before in
-    pass-on (within (r .before .before .args .set)) _ _ _ _ (at-code c) (sym (c .before .is-within .ensures) ∙ c .if1 .taken) ∙ r .loop .inv
+    pass-on (inSet (r .before .before .args .set)) _ _ _ _ (at-code c) (sym (c .before .in-set .ensures) ∙ c .if1 .taken) ∙ r .loop .inv
 
 returns : tie.Need-returns Inv-loop μ-loop
 returns c =
     let r = c .before .before .before .before .before .before in
     stop-here _ _ _ _ _ (sym (c .before .before .before .before .before .next-code .ensures) ∙ c .before .before .before .offset .given .1)
-    (sym (c .before .is-within .ensures) ∙ c .if1 .left)
+    (sym (c .before .in-set .ensures) ∙ c .if1 .left)
     ∙ r .loop .inv
 
 enum-told : tie.Need-enum-told Inv-loop μ-loop
@@ -70,7 +70,7 @@ past-spec =
     loop-holds
     next-code-requires
     enum-known-offset
-    is-within-requires
+    in-set-requires
     add-i
     loop-less
     loop-again

@@ -1,6 +1,6 @@
 use Rattle.layers.proofs.Ways.{first-none, first-some}
 use Rattle.scan.proofs.Walk.{seen}
-use Rattle.layers.specs.Steps.{within}
+use Rattle.layers.specs.Steps.{inSet}
 use native.Mathlib.Omega.{arith}
 use mathlib.Core.Path.{sym, _∙_}
 use borrow.Author.Needs.{needs}
@@ -13,18 +13,18 @@ next-code-requires c κs = search needs
 enum-known-offset : tie.Need-enum-known-offset
 enum-known-offset c = search needs
 
-add-all-within : tie.Need-add-all-within
-add-all-within c = omega (arith, seen _ _ _ _ (sym (c .before .before .before .next-code .ensures) ∙ c .before .offset .given .1) .room)
+add-all-in-set : tie.Need-add-all-in-set
+add-all-in-set c = omega (arith, seen _ _ _ _ (sym (c .before .before .before .next-code .ensures) ∙ c .before .offset .given .1) .room)
 
-all-within-requires : tie.Need-all-within-requires
-all-within-requires c κs = search needs
+all-in-set-requires : tie.Need-all-in-set-requires
+all-in-set-requires c κs = search needs
 
 enum-told : tie.Need-enum-told
 enum-told c = search needs
 
 returns : tie.Need-returns
-unfolding within
-returns c = rw (c .all-within .ensures) (first-some _ _ _ (sym (c .before .before .before .before .next-code .ensures) ∙ c .before .before .offset .given .1))
+unfolding inSet
+returns c = rw (c .all-in-set .ensures) (first-some _ _ _ (sym (c .before .before .before .before .next-code .ensures) ∙ c .before .before .offset .given .1))
 
 returns-2 : tie.Need-returns-2
 returns-2 c = first-none _ (sym (c .before .before .next-code .ensures) ∙ c .enum-told .given .1)
@@ -35,8 +35,8 @@ sequence-first-spec =
     (tie.spec
     next-code-requires
     enum-known-offset
-    add-all-within
-    all-within-requires
+    add-all-in-set
+    all-in-set-requires
     enum-told
     returns
     returns-2)

@@ -1,5 +1,5 @@
 use Rattle.layers.proofs.Ways.{slices-none, slices-some}
-use Rattle.layers.specs.Steps.{within}
+use Rattle.layers.specs.Steps.{inSet}
 use mathlib.Core.Path.{sym, _∙_}
 use borrow.Author.Needs.{needs}
 use Rattle.layers.proofs.slices_behind.Statement.{statement}
@@ -11,21 +11,21 @@ past-requires c κs = search needs
 enum-known-offset : tie.Need-enum-known-offset
 enum-known-offset c = search needs
 
-all-within-requires : tie.Need-all-within-requires
-all-within-requires c κs = search needs
+all-in-set-requires : tie.Need-all-in-set-requires
+all-in-set-requires c κs = search needs
 
 enum-told : tie.Need-enum-told
 enum-told c = search needs
 
 returns : tie.Need-returns
-unfolding within
-returns c = c .all-within .ensures ∙ slices-some _ _ _ _ (sym (c .before .before .before .before .past .ensures) ∙ c .before .before .offset .given .1)
+unfolding inSet
+returns c = c .all-in-set .ensures ∙ slices-some _ _ _ _ (sym (c .before .before .before .before .past .ensures) ∙ c .before .before .offset .given .1)
 
 returns-2 : tie.Need-returns-2
-unfolding within
+unfolding inSet
 returns-2 c = slices-none _ _ (sym (c .before .before .past .ensures) ∙ c .enum-told .given .1)
 
 pub slices-behind-spec : {M : Type 1} → statement M
 slices-behind-spec =
     tie.close
-    (tie.spec past-requires enum-known-offset all-within-requires enum-told returns returns-2)
+    (tie.spec past-requires enum-known-offset all-in-set-requires enum-told returns returns-2)

@@ -1,6 +1,6 @@
 use borrow.Author.Needs.{needs}
 use Rattle.scan.specs.Codes.{codes, codesAt}
-use Rattle.scan.specs.Walk.{passed}
+use Rattle.scan.specs.Steps.{passed}
 use Rattle.scan.proofs.first_sequence.Statement.{statement}
 use Rattle.scan.proofs.first_sequence.Tie as tie
 

@@ -2,7 +2,7 @@
 use mathlib.Core.Path.{_≡_, _∙_}
 use Prim.Native.Nat.{_-_, _≤_}
 use native.Mathlib.Omega.{arith}
-use Rattle.scan.specs.Blocks.{zeroOne}
+use Rattle.scan.specs.Steps.{zeroOne}
 use Rattle.scan.proofs.Blocks.{no-place, one-more, all-places}
 use Rattle.scan.proofs.has_zero_one.Statement.{statement}
 use Rattle.scan.proofs.has_zero_one.Tie as tie

@@ -5,7 +5,7 @@ use Prim.Native.Nat.{_-_}
 use native.Mathlib.Omega.{arith}
 use lib.ListN.{length}
 use Rattle.scan.specs.Codes.{nextCode}
-use Rattle.scan.specs.Blocks.{before}
+use Rattle.scan.specs.Steps.{before}
 use Rattle.scan.proofs.NextCode.{next-here, not-third, far-first, far-second, far-third}
 use Rattle.scan.proofs.Blocks.{told, none-before}
 use Rattle.scan.proofs.next_before.Statement.{statement}

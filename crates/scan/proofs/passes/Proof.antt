@@ -1,6 +1,6 @@
 use borrow.Author.Needs.{needs}
 use Rattle.scan.specs.Pictures.{notSequence, notPicture, notSlice, isSlice}
-use Rattle.scan.specs.Walk.{passed}
+use Rattle.scan.specs.Steps.{passed}
 use Rattle.scan.proofs.passes.Statement.{statement}
 use Rattle.scan.proofs.passes.Tie as tie
 

@@ -1,4 +1,4 @@
--- What the two parts of the search for the next start code answer; no public promise names these.
+-- The promises of private functions: the two parts of the search for the next start code, and what a search passes over.
 -- Assumes nothing.
 use Prim.Native.Nat.{ℕ, zero, suc, _+_}
 use mathlib.Core.List.{List}
@@ -8,6 +8,9 @@ use lib.Dec.{eqb, ltb}
 use Rattle.bits.specs.Bits.{pick}
 use Rattle.scan.specs.declared.Found.{Found}
 use Rattle.scan.specs.declared.Found.the-variants.{At, Nothing}
+use Rattle.scan.specs.declared.Stop.{Stop}
+use Rattle.scan.specs.declared.Stop.the-variants.{AtSequence, AtPicture, AtSlice, AfterSlices}
+use Rattle.scan.specs.Pictures.{isSlice, notSlice, notPicture, notSequence}
 
 -- at one of the first k places from `at` on, 00 01 stands as the second and third byte from there
 unfoldable pub zeroOne : List ℕ → ℕ → ℕ → Bool
@@ -19,3 +22,10 @@ unfoldable pub before : ℕ → Found → Found
 unfolding pick
 before end (At offset code) = pick (ltb offset end) (At offset code) Nothing
 before end Nothing = Nothing
+
+-- which codes a search passes over
+unfoldable pub passed : Stop → ℕ → Bool
+passed AtSequence = notSequence
+passed AtPicture = notPicture
+passed AtSlice = notSlice
+passed AfterSlices = isSlice
