@@ -19,7 +19,8 @@ use Rattle.vbv.specs.declared.VbvError.{VbvError}
 use Rattle.vbv.specs.declared.VbvError.the-variants.{Params}
 use Rattle.vbv.specs.declared.VbvModel.{VbvModel}
 use Rattle.vbv.specs.declared.VbvModel.the-variants.{Model, Refused as NoModel}
-use Rattle.vbv.proofs.Fitting.{and-l, params-fit}
+use Rattle.bits.proofs.Flags.{and-left as and-l}
+use Rattle.vbv.proofs.Fitting.{params-fit}
 use Rattle.vbv.proofs.Laws.{made}
 use Rattle.rate_control.specs.Create.{within, configFits, freshWriter, notCreated, withModel, withRate, create}
 use Rattle.rate_control.specs.Steps.{ConfigFits, Shares}

@@ -9,7 +9,7 @@ use lib.ListN.{length}
 use borrow.Author.Tests.{ltb-true, ltb-false, lt-ltb, le-ltb}
 use Rattle.bits.specs.Bits.{pick}
 use Rattle.vbv.specs.Annex.{firstDelivered, overflows, underflows, early, expectedDelay, greatestEnd, leastEnd}
-use Rattle.vbv.specs.Fits.{EndFits}
+use Rattle.vbv.specs.Steps.{EndFits}
 use Rattle.vbv.specs.Model.{paramsFit, delivered, modelFits, atDelivered, afterRemoval, nextDelivered, delayForPicture, removePicture, maxEndBits, minEndBits}
 use Rattle.vbv.specs.declared.RemovalInterval.{RemovalInterval}
 use Rattle.vbv.specs.declared.VbvParams.{VbvParams}

@@ -11,7 +11,7 @@ use borrow.Author.Tests.{leb-true, lt-ltb, le-ltb, ltb-false, not-false}
 use Rattle.bits.specs.Bits.{pick}
 use Rattle.bits.specs.Answers.{over}
 use Rattle.bits.proofs.Reading.{both-true}
-use Rattle.vbv.specs.Fits.{ModelFits}
+use Rattle.vbv.specs.Steps.{ModelFits}
 use Rattle.vbv.specs.Patch.{patched}
 use Rattle.vbv.specs.declared.RemovalInterval.{RemovalInterval}
 use Rattle.vbv.specs.declared.VbvError.the-variants.{Params}

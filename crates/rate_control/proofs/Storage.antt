@@ -13,7 +13,6 @@ use Rattle.bits.specs.Answers.{over}
 use Rattle.bits.proofs.Over.{over-sets}
 use Rattle.vbv.specs.Patch.{patched}
 use Rattle.vbv.proofs.After.{patched-size}
-use Rattle.scan.proofs.Laid.{ending-is}
 use Rattle.rate_control.specs.Offer.{tail}
 
 -- one byte more
@@ -43,7 +42,7 @@ zeros-end out k (suc left) h = absurd (omega arith)
 -- the sequence's end
 pub end-put : (o out : List ℕ) (at : ℕ) (last : Bool) → last ≡ true → o ≡ sets out at (0 ∷ 0 ∷ 1 ∷ 0xB7 ∷ []) → o ≡ sets out at (tail last)
 unfolding tail
-end-put o out at last h e = rw (h, ending-is) e
+end-put o out at last h e = rw h e
 
 pub end-none : (out : List ℕ) (at : ℕ) (last : Bool) → last ≡ false → out ≡ sets out at (tail last)
 unfolding tail
@@ -51,7 +50,7 @@ end-none out at last h = rw h
 
 pub end-size : (last : Bool) → last ≡ true → length (tail last) ≡ 4
 unfolding tail
-end-size last h = rw (h, ending-is)
+end-size last h = rw h
 
 -- one run behind another
 sets-append : (x y out : List ℕ) (k : ℕ) → sets out k (x ++ y) ≡ sets (sets out k x) (k + length x) y

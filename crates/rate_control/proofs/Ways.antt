@@ -8,7 +8,7 @@ use native.Mathlib.Nat.{div-lt-iff-lt-mul}
 use lib.ListN.{length}
 use borrow.Author.Tests.{lt-ltb, le-ltb}
 use Rattle.bits.specs.Bits.{pick}
-use Rattle.vbv.specs.Fits.{ParamsFit}
+use Rattle.vbv.specs.Steps.{ParamsFit}
 use Rattle.vbv.specs.Model.{startModel, delayForPicture, removePicture, maxEndBits, minEndBits}
 use Rattle.vbv.specs.declared.RemovalInterval.{RemovalInterval}
 use Rattle.vbv.specs.declared.VbvParams.{VbvParams}
@@ -25,7 +25,6 @@ use Rattle.vbv.specs.declared.VbvDelay.{VbvDelay}
 use Rattle.vbv.specs.declared.VbvDelay.the-variants as dl
 use Rattle.vbv.specs.declared.VbvBits.{VbvBits}
 use Rattle.vbv.specs.declared.VbvBits.the-variants as bt
-use Rattle.scan.proofs.Laid.{ending-is}
 use Rattle.rate_control.specs.Offer.{firstDelay, tail}
 use Rattle.rate_control.specs.Steps.{startedAt, zeros, byDelay, byEnd, violated, bySize, byMost, withZeros, byLeast, byStart, extentOf, within14, measured}
 use Rattle.rate_control.specs.declared.CbrError.the-variants.{Model, Violation, Stuffing}
@@ -149,7 +148,7 @@ module _ (m : VbvCbrModel) (x : Extent) (i : RemovalInterval) (last : Bool) (r v
 
 pub tail-ends : (last : Bool) → last ≡ true → (4 ≡ length (tail last)) × (4 ≤ 4)
 unfolding tail
-tail-ends last h = (rw (h, ending-is), omega arith)
+tail-ends last h = (rw h, omega arith)
 
 pub tail-open : (last : Bool) → last ≡ false → (0 ≡ length (tail last)) × (0 ≤ 4)
 unfolding tail

@@ -1,9 +1,9 @@
 -- An offer and a withdrawal (paper 01, 'A placed picture'): in this order 12 for the state, then 17, 18, 20, 14, 7, 9, size, 22, 19; else the picture is placed.
 -- Assumes nothing.
 use Prim.Native.Nat.{ℕ, _+_, _-_, _*_, _/_, _^_}
-use mathlib.Core.List.{List, [], _∷_, _++_}
+use mathlib.Core.List.{List, [], _++_}
 use mathlib.Core.Bool.{Bool, true, false, not, _||_}
-use lib.Dec.{leb, ltb, eqb}
+use lib.Dec.{ltb, eqb}
 use lib.ListN.{length, replicate, set}
 use Rattle.bits.specs.Bits.{pick}
 use Rattle.bits.specs.Answers.{over}
@@ -14,7 +14,7 @@ use Rattle.vbv.specs.declared.RemovalInterval.{RemovalInterval}
 use Rattle.vbv.specs.declared.VbvParams.{VbvParams}
 use Rattle.vbv.specs.declared.VbvError.the-variants.{Early, Params, Range}
 use Rattle.vbv.specs.declared.VbvViolation.the-variants.{Overflow}
-use Rattle.scan.specs.Laid.{ending}
+use Rattle.scan.specs.Codes.{sequenceEndCode}
 use Rattle.layers.specs.declared.PictureKind.{PictureKind}
 use Rattle.layers.specs.Headers.{headersFit}
 use Rattle.layers.specs.Layer.{layerFits}
@@ -47,7 +47,7 @@ position w o = w .model .«prev_end_bits» + 8 * (length (o .headers) + 4)
 
 -- the sequence's end follows the last picture
 unfoldable pub tail : Bool → List ℕ
-tail true = ending
+tail true = sequenceEndCode
 tail false = []
 
 -- where headers, layer and the sequence's end come to

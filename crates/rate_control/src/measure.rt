@@ -2,7 +2,7 @@
 ghost use mathlib.Core.Path.{_≡_};
 ghost use Prim.Native.Nat.{_+_, _*_, _^_, _≤_, max};
 ghost use lib.ListN.{length};
-ghost use Rattle.vbv.specs.Fits.{ParamsFit, ModelFits};
+ghost use Rattle.vbv.specs.Steps.{ParamsFit, ModelFits};
 ghost use Rattle.vbv.specs.Model.{delayForPicture, removePicture, maxEndBits, minEndBits};
 ghost use Rattle.rate_control.specs.Offer.{firstDelay, tail};
 ghost use Rattle.rate_control.specs.Steps.{ExtentFits, startedAt, zeros, violated as violatedOf, byDelay, byEnd, byMost, byLeast, measured as measuredOf};
