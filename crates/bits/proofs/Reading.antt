@@ -260,9 +260,6 @@ module _ (fs : List Field) (s : List ℕ) (i : ℕ) (vs : List ℕ) (e : readFie
   pub read-above : getD fs k (field 0 0 0) .low ≤ getD vs k 0
   read-above = read-range fs s i vs e k .0
 
-  pub read-within : getD vs k 0 ≤ getD fs k (field 0 0 0) .high
-  read-within = read-range fs s i vs e k .1
-
 -- two tests of the same fact
 leb-same : (a b c d : ℕ) → (a ≤ b → c ≤ d) → (c ≤ d → a ≤ b) → leb a b ≡ leb c d
 leb-same a b c d f g = case (leb a b) (leb c d) refl refl

@@ -15,10 +15,10 @@ use Rattle.bits.specs.Bits.{pick, num, bitAt, bitsAt, digits, bitList, p
 use Rattle.bits.specs.Fields.{Field, got, after, readFields, readHeader, fieldBits, writeFields, writeHeader, fitsAll, total}
 use Rattle.bits.specs.Answers.{over, writeAnswer, writeResult}
 use Rattle.bits.specs.declared.Wrote.the-variants.{Unfit, Full, Bytes}
-use Rattle.bits.proofs.Laws.{num-same, bit-append, bit-drop, length-digits, digits-num, bit-list-length, bit-list-append}
-use Rattle.bits.proofs.Reading.{there-is, there-true, obeys-is, read-more, step, read-drop, same-self, four, header-more, header-got}
+use Rattle.bits.proofs.Laws.{num-same, bits-bound, bit-append, bit-drop, length-digits, digits-num, bit-list-length, bit-list-append}
+use Rattle.bits.proofs.Reading.{there-is, there-true, obeys-is, obeys-true, read-more, step, read-drop, same-self, four, header-more, header-got}
 use Rattle.bits.proofs.Appending.{Below, lt-or-le, digits-bits, below-append, below-front, below-drop, length-pack, pack-bit, pack-take, pack-bytes, append-zero}
-use Rattle.bits.proofs.Checking.{Fits, fits-none, fits-more, fits-of, fits-length}
+use Rattle.bits.proofs.Checking.{Fits, fits-none, fits-more, fits-of, fits-all, fits-length}
 use Rattle.bits.proofs.Putting.{field-bits-bound, length-field-bits}
 
 -- how long the bytes are
@@ -216,6 +216,20 @@ pub write-read : (fs : List Field) (s vs : List ℕ) → Below 256 s → readFie
 unfolding writeFields
 write-read fs s vs b e z =
     ap pack (writes-back fs s 0 vs zero-le e) ∙ pack-take s (total fs) b (omega (arith, read-room fs s 0 vs zero-le e)) z
+
+-- values that were read fit their table
+read-fit : (fs : List Field) (s : List ℕ) (i : ℕ) (vs : List ℕ) → readFields fs s i ≡ got vs → Fits fs vs
+unfolding readFields
+read-fit [] s i [] e = fits-none
+read-fit [] s i (v ∷ vs) e = let z : _≡_ {A = ℕ} 0 1 = cc in absurd (omega arith)
+read-fit (f ∷ fs) s i vs e =
+    let w = f .width in
+    let t = step f fs s i vs e in
+    let o = obeys-true f (bitsAt s i w) (t .obeyed) in
+    rw (t .all) (fits-more (there-true s i w (t .is-there) .0) (bits-bound s i w) (o .0) (o .1) (read-fit fs s (i + w) (t .rest) (t .then)))
+
+pub read-fits : (fs : List Field) (s : List ℕ) (i : ℕ) (vs : List ℕ) → readFields fs s i ≡ got vs → fitsAll fs vs ≡ true
+read-fits fs s i vs e = fits-all (read-fit fs s i vs e)
 
 pub header-write-read : (code : List ℕ) (fs : List Field) (s vs : List ℕ) → Below 256 s → readHeader code fs s ≡ got vs
     → ((k : ℕ) → 32 + total fs ≤ k → k < 32 + 8 * ((total fs + 7) / 8) → bitAt s k ≡ 0)

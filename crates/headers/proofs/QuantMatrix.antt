@@ -152,6 +152,14 @@ module _ (s : List ℕ) (i : ℕ) (vs : List ℕ) (e : readMatrix s i ≡ got vs
       case (none h) = refl
       case (one bytes l h) = refl
 
+  pub matrix-places : length (matrixOf vs .bytes) ≡ 64
+  unfolding matrixOf noMatrix pick
+  matrix-places = case (rw e at (matrix-seen s i))
+    where
+      case : {ws : List ℕ} → Matrix s i (got ws) → length (matrixOf ws .bytes) ≡ 64
+      case (none h) = refl
+      case (one bytes l h) = l
+
 -- a matrix that was written is read again
 module _ (m : QuantiserMatrix) where
   pub matrix-read-back : (s : List ℕ) (i : ℕ) → readFields (matrixFields m) s i ≡ got (matrixValues m) → readMatrix s i ≡ got (matrixValues m)

@@ -12,7 +12,7 @@ use Rattle.bits.specs.Fields.{Field, Parsed, short, bad, got, readHeader, write
 use Rattle.bits.specs.Answers.{places}
 use Rattle.bits.proofs.Reading.{places-at, header-got, read-range, read-length, header-append, header-short-cut, total-none, total-more}
 use Rattle.bits.proofs.Checking.{Fits, fits-none, fits-more, fits-all}
-use Rattle.bits.proofs.Writing.{header-read-written, header-write-read}
+use Rattle.bits.proofs.Writing.{header-read-written, header-write-read, read-fits}
 use Rattle.headers.specs.Answers.{flagOf}
 use Rattle.headers.specs.SequenceExtension.{extensionStartCode, sequenceExtensionFields, chromaFormat, chromaCode, extensionOf, extensionRead, sequenceExtension, extensionValues}
 use Rattle.headers.specs.StreamWriter.{plainExtension}
@@ -157,6 +157,8 @@ pub extension-write-back : ExtensionReadWrites
 extension-write-back s e b q =
     let g = extension-got s e q in
     let n : total sequenceExtensionFields ≡ 48 = simp (total-more, total-none) in
-    ap (λ (x : Mpeg2SequenceExtension). writeHeader extensionStartCode sequenceExtensionFields (extensionValues x)) (g .2)
-    ∙ ap (writeHeader extensionStartCode sequenceExtensionFields) (values-same s (g .0) (g .1))
-    ∙ rw n at (header-write-read extensionStartCode sequenceExtensionFields s (g .0) b (g .1) (λ k l h. omega arith))
+    let v : extensionValues e ≡ g .0 = ap extensionValues (g .2) ∙ values-same s (g .0) (g .1) in (
+      rw v (read-fits sequenceExtensionFields s 32 (g .0) (header-got extensionStartCode sequenceExtensionFields s (g .0) (g .1) .fields-read)),
+      ap (writeHeader extensionStartCode sequenceExtensionFields) v
+          ∙ rw n at (header-write-read extensionStartCode sequenceExtensionFields s (g .0) b (g .1) (λ k l h. omega arith)),
+    )

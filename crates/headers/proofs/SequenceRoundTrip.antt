@@ -9,21 +9,22 @@ use lib.Dec.{eqb}
 use lib.ListN.{getD, take}
 use borrow.Author.Tests.{eqb-true, eqb-false}
 use Rattle.bits.specs.Bits.{pick}
-use Rattle.bits.specs.Fields.{got, writeHeader, total}
+use Rattle.bits.specs.Fields.{Field, got, readFields, writeHeader, total}
 use Rattle.bits.proofs.Reading.{read-both, read-split, read-range, read-length, header-got, header-of}
 use Rattle.bits.proofs.Appending.{Below}
 use Rattle.bits.proofs.Putting.{total-append}
-use Rattle.bits.proofs.Writing.{header-read-written, header-write-read}
+use Rattle.bits.proofs.Writing.{header-read-written, header-write-read, read-fits}
 use Rattle.headers.specs.Answers.{flagOf}
 use Rattle.headers.specs.QuantMatrix.{readMatrix, matrixOf, matrixFields, matrixValues}
 use Rattle.headers.specs.SequenceHeader.{sequenceHeaderCode, sequenceHeaderFields, aspectRatio, headerOf, sequenceHeaderBytes}
 use Rattle.headers.specs.StreamWriter.{paramsFields, baseValues, paramsValues, headerOfParams, aspectCode, paramsOf}
-use Rattle.headers.specs.RoundTrips.{WrittenReads, ReadWrites}
+use Rattle.headers.specs.RoundTrips.{sequenceWritten, Writable, WrittenReads, ReadWrites}
+use Rattle.headers.specs.declared.quant_matrix_extension.QuantiserMatrix.{QuantiserMatrix}
 use Rattle.headers.specs.declared.sequence_header.AspectRatio.{AspectRatio}
 use Rattle.headers.specs.declared.sequence_header.AspectRatio.the-variants.{Reserved}
 use Rattle.headers.specs.declared.sequence_header.SequenceHeaderRead.{SequenceHeaderRead}
 use Rattle.headers.proofs.Answers.{spread, spread-is}
-use Rattle.headers.proofs.QuantMatrix.{matrix-flag, matrix-fields-back, matrix-values-back, matrix-read-back, matrix-of-values, matrix-count, matrix-total}
+use Rattle.headers.proofs.QuantMatrix.{matrix-flag, matrix-fields-back, matrix-values-back, matrix-read-back, matrix-of-values, matrix-count, matrix-places, matrix-total}
 use Rattle.headers.proofs.SequenceHeader.{fixedFields, header-parsed, header-parts}
 use Rattle.headers.proofs.StreamWriter.{total-fixed}
 
@@ -73,16 +74,36 @@ fixed-back s h intra nonIntra e c =
 -- what was read is written again, byte for byte
 module _ (s h i n : List ℕ) (b : Below 256 s) (e : fixedFields s ≡ got h) (f : readMatrix s 94 ≡ got i)
     (g : readMatrix s (95 + 512 * getD i 0 0) ≡ got n) (c : eqb (getD h 7 0) 1 ≡ false) where
-  parts-back : writeHeader sequenceHeaderCode (paramsFields (paramsOf (headerOf h i n))) (paramsValues (paramsOf (headerOf h i n)))
-      ≡ take (sequenceHeaderBytes (headerOf h i n)) s
-  unfolding paramsFields paramsValues paramsOf headerOf sequenceHeaderBytes
-  parts-back =
-      let r = header-got sequenceHeaderCode sequenceHeaderFields s h e in
-      let mi = matrixOf i in
-      let mn = matrixOf n in
-      let fs = sequenceHeaderFields ++ (matrixFields mi ++ matrixFields mn) in
+  abbrev mi : QuantiserMatrix
+  mi = matrixOf i
+
+  abbrev mn : QuantiserMatrix
+  mn = matrixOf n
+
+  abbrev fs : List Field
+  fs = sequenceHeaderFields ++ (matrixFields mi ++ matrixFields mn)
+
+  -- the whole table was read
+  all-read : readFields fs s 32 ≡ got (h ++ (i ++ n))
+  all-read =
       let x : 94 ≡ 32 + total sequenceHeaderFields = omega (arith, total-fixed) in
       let y : 95 + 512 * getD i 0 0 ≡ 32 + total sequenceHeaderFields + total (matrixFields mi) = omega (arith, total-fixed, matrix-total mi, matrix-flag s 94 i f) in
+      let m = read-both (matrixFields mi) (matrixFields mn) s _ i n (rw x at (matrix-fields-back s 94 i f)) (rw y at (matrix-fields-back s _ n g)) in
+      read-both sequenceHeaderFields _ s 32 h (i ++ n) (header-got sequenceHeaderCode sequenceHeaderFields s h e .fields-read) m
+
+  writable : Writable (paramsOf (headerOf h i n))
+  unfolding paramsFields paramsValues paramsOf headerOf
+  writable =
+      record {
+        fields-fit = rw (fixed-back s h i n e c, matrix-values-back s 94 i f, matrix-values-back s _ n g) (read-fits fs s 32 _ all-read);
+        intra-places = matrix-places s 94 i f;
+        non-intra-places = matrix-places s _ n g;
+      }
+
+  written : sequenceWritten (paramsOf (headerOf h i n)) ≡ take (sequenceHeaderBytes (headerOf h i n)) s
+  unfolding paramsFields paramsValues paramsOf headerOf sequenceHeaderBytes
+  written =
+      let r = header-got sequenceHeaderCode sequenceHeaderFields s h e in
       let z : total fs ≡ 64 + 512 * flagOf (mi .load) + 512 * flagOf (mn .load) =
       omega (
         arith,
@@ -93,8 +114,7 @@ module _ (s h i n : List ℕ) (b : Below 256 s) (e : fixedFields s ≡ got h) (f
         matrix-total mn,
       ) in
       let w : 4 + (total fs + 7) / 8 ≡ sequenceHeaderBytes (headerOf h i n) = omega arith in
-      let m = read-both (matrixFields mi) (matrixFields mn) s _ i n (rw x at (matrix-fields-back s 94 i f)) (rw y at (matrix-fields-back s _ n g)) in
-      let q = header-of record { long = r .long; code-first = r .code-first; fields-read = read-both sequenceHeaderFields _ s 32 h (i ++ n) (r .fields-read) m } in
+      let q = header-of record { long = r .long; code-first = r .code-first; fields-read = all-read } in
       rw (fixed-back s h i n e c, matrix-values-back s 94 i f, matrix-values-back s _ n g)
       (header-write-read sequenceHeaderCode fs s (h ++ (i ++ n)) b q (λ k l u. absurd (omega arith)) ∙ ap (λ (k : ℕ). take k s) w)
 
@@ -103,4 +123,7 @@ unfolding headerOf
 sequence-write-back s h b e c =
     let p = header-parts s (ap (λ (r : SequenceHeaderRead). r .answer) e) in
     let x : h ≡ headerOf (p .fields) (p .intra) (p .nonIntra) = sym (ap (λ (r : SequenceHeaderRead). r .header) e) ∙ p .header-is in
-    rw x (parts-back s (p .fields) (p .intra) (p .nonIntra) b (p .fields-read) (p .intra-read) (p .non-intra-read) (rw x at (c)))
+    rw x (
+      writable s (p .fields) (p .intra) (p .nonIntra) b (p .fields-read) (p .intra-read) (p .non-intra-read) (rw x at (c)),
+      written s (p .fields) (p .intra) (p .nonIntra) b (p .fields-read) (p .intra-read) (p .non-intra-read) (rw x at (c)),
+    )

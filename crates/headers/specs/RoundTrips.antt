@@ -37,10 +37,10 @@ abbrev pub WrittenReads : Type 0
 WrittenReads = (p : SequenceHeaderParams) (behind : List ℕ) → Writable p
     → sequenceHeader (sequenceWritten p ++ behind) ≡ record { answer = Parsed; header = headerOfParams p }
 
--- a parsed one with constrained_parameters_flag 0 writes back to its own bytes
+-- a parsed one with constrained_parameters_flag 0 is not refused, and writes back to its own bytes
 abbrev pub ReadWrites : Type 0
 ReadWrites = (s : List ℕ) (h : Mpeg2SequenceHeader) → Bytes s → sequenceHeader s ≡ record { answer = Parsed; header = h }
-    → h .«constrained_parameters» ≡ false → sequenceWritten (paramsOf h) ≡ take (sequenceHeaderBytes h) s
+    → h .«constrained_parameters» ≡ false → Writable (paramsOf h) × (sequenceWritten (paramsOf h) ≡ take (sequenceHeaderBytes h) s)
 
 -- both of the extension, which has 10 bytes
 abbrev pub ExtensionWrittenReads : Type 0
@@ -49,4 +49,4 @@ ExtensionWrittenReads = (e : Mpeg2SequenceExtension) (behind : List ℕ) → fit
 
 abbrev pub ExtensionReadWrites : Type 0
 ExtensionReadWrites = (s : List ℕ) (e : Mpeg2SequenceExtension) → Bytes s → sequenceExtension s ≡ ExtensionParsed e
-    → extensionWritten e ≡ take 10 s
+    → (fitsAll sequenceExtensionFields (extensionValues e) ≡ true) × (extensionWritten e ≡ take 10 s)
