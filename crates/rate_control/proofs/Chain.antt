@@ -1,9 +1,9 @@
--- What an offer can come to, with the facts that the tests on the way give.
+-- What an offer can come to, and a refusal, with the facts that the tests on the way give.
 -- Assumes nothing.
 use mathlib.Core.Path.{_≡_, refl}
-use mathlib.Core.Bool.{Bool, true, false, _||_}
+use mathlib.Core.Bool.{Bool, true, false, _||_, true≢false}
 use Prim.Native.Nat.{ℕ, _^_, _≤_, _<_}
-use lib.Dec.{ltb}
+use lib.Dec.{ltb, eqb}
 use lib.ListN.{length}
 use borrow.Author.Tests.{ltb-false, ltb-true, eqb-true, eqb-false, not-true, not-false}
 use Rattle.bits.specs.Bits.{pick}
@@ -12,6 +12,7 @@ use Rattle.vbv.specs.declared.VbvError.the-variants.{Early, Params, Range}
 use Rattle.vbv.specs.declared.VbvViolation.the-variants.{Overflow}
 use Rattle.layers.specs.Headers.{headersFit}
 use Rattle.layers.specs.Layer.{layerFits}
+use Rattle.rate_control.specs.Answers.{refusalOf}
 use Rattle.rate_control.specs.Writer.{writerFits, clashes, asked, coarser}
 use Rattle.rate_control.specs.Offer.{Offer, position, end, deliveredAt, placedBytes, withPending, refused, tooLarge, placed, offer}
 use Rattle.rate_control.specs.declared.Pending.the-variants.{Nothing, Waits}
@@ -30,7 +31,7 @@ or-left : (a b : Bool) → (a || b) ≡ false → a ≡ false
 or-left true b e = e
 or-left false b e = refl
 
-or-right : (a b : Bool) → (a || b) ≡ false → b ≡ false
+pub or-right : (a b : Bool) → (a || b) ≡ false → b ≡ false
 or-right true b e = cc
 or-right false b e = e
 
@@ -106,3 +107,35 @@ outcome w o =
   where
     P : CbrOffered → Type 0
     P r = Outcome w o r
+
+-- ---- refusals
+
+-- no reason is 21: that comes from the size alone
+pub not-21 : {w : CbrWriter} {o : Offer} {e : CbrError} → Reason w o e → eqb (refusalOf e .number) 21 ≡ false
+not-21 (unfit h) = refl
+not-21 (out-of-turn h) = refl
+not-21 (bad-headers h) = refl
+not-21 (bad-layer h) = refl
+not-21 (too-far h) = refl
+not-21 (too-early h) = refl
+not-21 (over-full f h) = refl
+not-21 (no-edge h) = refl
+not-21 (no-room f a b h) = refl
+
+pub not-size : {w : CbrWriter} {o : Offer} → Reason w o TooLarge → ⊥
+not-size = elim [ ]
+
+-- a refusal, and the writer that it leaves
+pub data Refusal (w : CbrWriter) (o : Offer) : CbrError → CbrWriter → Type 0 where
+  because : {e : CbrError} → Reason w o e → Refusal w o e w
+  size : q-of w o ≡ 31 → Refusal w o TooLarge (withPending w Nothing)
+
+outcome-refusal : {w : CbrWriter} {o : Offer} {e : CbrError} {r : CbrOffered} → Outcome w o r → r .answer ≡ Refused e → Refusal w o e (r .writer)
+unfolding refused placed
+outcome-refusal {e = e} (stays x g) h = let y : x ≡ e = cc in rw (← y) (because g)
+outcome-refusal {e = e} (closes g) h = let y : TooLarge ≡ e = cc in rw (← y) (size g)
+outcome-refusal (retries g) h = absurd (true≢false cc)
+outcome-refusal (places g) h = absurd (true≢false cc)
+
+pub refusal : (w : CbrWriter) (o : Offer) {e : CbrError} → offer w o .answer ≡ Refused e → Refusal w o e (offer w o .writer)
+refusal w o h = outcome-refusal (outcome w o) h

@@ -1,7 +1,8 @@
--- A writer that was created: nothing placed, nothing pending, all values in their ranges.
+-- Creation: what the ranges say, the targets in 64 bits, the ways through it, and the writer that it makes: nothing placed, nothing pending, all values in range.
 -- Assumes nothing.
 use mathlib.Core.Path.{_≡_, refl, sym, _∙_}
 use mathlib.Core.Bool.{Bool, true, false, _&&_, true≢false}
+use mathlib.Core.List.{List, [], _∷_}
 use Prim.Native.Nat.{ℕ, _+_, _*_, _/_, _^_, _≤_}
 use native.Mathlib.Omega.{arith}
 use native.Mathlib.Nat.{mul-le-mul, div-le-self, div-lt-iff-lt-mul}
@@ -24,61 +25,176 @@ use Rattle.vbv.proofs.Laws.{made}
 use Rattle.rate_control.specs.Targets.{groupPictures, groupBits, groupWeight, target, targets}
 use Rattle.rate_control.specs.Create.{within, configFits, freshWriter, notCreated, withModel, withRate, create}
 use Rattle.rate_control.specs.Writer.{every}
+use Rattle.rate_control.specs.Steps.{ConfigFits, Shares}
 use Rattle.rate_control.specs.declared.CbrConfig.{CbrConfig}
+use Rattle.rate_control.specs.declared.Pending.the-variants.{Nothing}
 use Rattle.rate_control.specs.declared.CbrWriter.{CbrWriter}
 use Rattle.rate_control.specs.declared.CbrCreation.the-variants.{Created, Refused}
+use Rattle.rate_control.specs.declared.CbrCreated.{CbrCreated}
 use Rattle.rate_control.proofs.Retries.{Quant}
 use Rattle.rate_control.proofs.Fitting.{is-quantiser, none-fits, fitting-writer}
 use Rattle.rate_control.proofs.Invariant.{Inv}
 
--- ---- the targets
-
--- a picture's share is at most R × frd, and the weights of a group are at least its pictures
-target-low : (p : VbvParams) (between anchors weight : ℕ) → p .«bit_rate» ≤ 104857200 → p .frd ≤ 32032 → weight ≤ 40
-    → target p between anchors weight ≤ 2 ^ 48
-unfolding target groupBits groupPictures groupWeight
-target-low p between anchors weight r d w =
-    let share = p .«bit_rate» * p .frd / p .frn in
-    let pictures = 1 + anchors * (between + 1) in
-    let all = 40 + 16 * anchors + 9 * (anchors * between) in
-    let a : p .«bit_rate» * p .frd ≤ 104857200 * 32032 = mul-le-mul {n₁ = p .«bit_rate»} {m₁ = p .frd} r d in
-    let b : share ≤ p .«bit_rate» * p .frd = div-le-self (p .«bit_rate» * p .frd) (p .frn) in
-    let c : share * weight ≤ (104857200 * 32032) * 40 = mul-le-mul {n₁ = share} {m₁ = weight} {n₂ = 104857200 * 32032} {m₂ = 40} (omega arith) w in
-    let e : pictures ≤ all = omega arith in
-    let f : share * weight * pictures ≤ 2 ^ 48 * all = mul-le-mul {n₁ = share * weight} {m₁ = pictures} {n₂ = 2 ^ 48} {m₂ = all} (omega arith) e in
-    let g = div-lt-iff-lt-mul {k = all} {x = share * pictures * weight} {y = 2 ^ 48 + 1} (omega arith) .1 (omega arith) in
-    omega arith
-
-targets-low : (p : VbvParams) (between anchors : ℕ) → p .«bit_rate» ≤ 104857200 → p .frd ≤ 32032
-    → every (λ t. leb t (2 ^ 48)) (targets p between anchors) ≡ true
-unfolding targets every
-targets-low p between anchors r d =
-    simp (
-      le-leb _ _ (target-low p between anchors 40 r d (omega arith)),
-      le-leb _ _ (target-low p between anchors 16 r d (omega arith)),
-      le-leb _ _ (target-low p between anchors 9 r d (omega arith)),
-    )
-
 -- ---- the ranges of a configuration
 
-record ConfigFits (c : CbrConfig) : Type 0 where
-  rate : c .«bit_rate_value» ≤ 262143
-  scale : Quant (c .«initial_quantiser_scale_code»)
+-- a range as two tests, and as bounds
+pub within-is : (low high v : ℕ) → within low high v ≡ (leb low v && leb v high)
+unfolding within
+within-is low high v = refl
 
-config-fits : (c : CbrConfig) → configFits c ≡ true → ConfigFits c
-unfolding configFits within
-config-fits c h =
-    let r = c .«bit_rate_value» in
-    let v = c .«vbv_buffer_size_value» in
-    let q = c .«initial_quantiser_scale_code» in
-    let a = both-true (leb 1 r && leb r 262143) _ h in
-    let b = both-true (leb 1 v && leb v 1023) _ (a .1) in
-    let d = both-true (leb 1 q && leb q 31) _ (b .1) in
-    let e = both-true (leb 1 q) (leb q 31) (d .0) in
-    record {
-      rate = leb-true _ _ (both-true (leb 1 r) (leb r 262143) (a .0) .1);
-      scale = record { low = leb-true _ _ (e .0); high = leb-true _ _ (e .1) };
-    }
+within-bounds : (low high v : ℕ) → within low high v ≡ true → (low ≤ v) × (v ≤ high)
+unfolding within
+within-bounds low high v h =
+    let b = both-true (leb low v) (leb v high) h in
+    (leb-true _ _ (b .0), leb-true _ _ (b .1))
+
+pub config-told : (c : CbrConfig) (r s q b a : Bool) → r ≡ within 1 262143 (c .«bit_rate_value») → s ≡ within 1 1023 (c .«vbv_buffer_size_value»)
+    → q ≡ within 1 31 (c .«initial_quantiser_scale_code») → b ≡ within 0 15 (c .«b_between») → a ≡ within 1 255 (c .«anchors_per_gop»)
+    → (r && (s && (q && (b && a)))) ≡ configFits c
+unfolding configFits
+config-told c r s q b a e f g h k = rw (e, f, g, h, k)
+
+config-bounds : (c : CbrConfig) → configFits c ≡ true → ConfigFits c × Quant (c .«initial_quantiser_scale_code»)
+unfolding configFits
+config-bounds c h =
+    let r = both-true (within 1 262143 (c .«bit_rate_value»)) _ h in
+    let s = both-true (within 1 1023 (c .«vbv_buffer_size_value»)) _ (r .1) in
+    let q = both-true (within 1 31 (c .«initial_quantiser_scale_code»)) _ (s .1) in
+    let b = both-true (within 0 15 (c .«b_between»)) (within 1 255 (c .«anchors_per_gop»)) (q .1) in
+    let scale = within-bounds 1 31 _ (q .0) in (
+      record {
+        rate-high = within-bounds 1 262143 _ (r .0) .1;
+        size-high = within-bounds 1 1023 _ (s .0) .1;
+        between-high = within-bounds 0 15 _ (b .0) .1;
+        anchors-high = within-bounds 1 255 _ (b .1) .1;
+      },
+      record { low = scale .0; high = scale .1 },
+    )
+
+pub config-fits : (c : CbrConfig) → configFits c ≡ true → ConfigFits c
+config-fits c h = config-bounds c h .0
+
+-- ---- the targets
+
+module _ (p : VbvParams) (between anchors : ℕ) (h : Shares p between anchors) where
+  -- no product passes 64 bits
+  pub pictures-most : anchors * (between + 1) ≤ 4080
+  pictures-most = mul-le-mul {n₂ = 255} {m₂ = 16} (omega arith) (omega arith)
+
+  pub share-most : p .«bit_rate» * p .frd ≤ 3358785830400
+  share-most = mul-le-mul {n₂ = 104857200} {m₂ = 32032} (omega arith) (omega arith)
+
+  pub gop-most : p .«bit_rate» * p .frd / p .frn * (1 + anchors * (between + 1)) ≤ 13707204973862400
+  gop-most =
+      mul-le-mul {n₂ = 3358785830400} {m₂ = 4081}
+      (omega (arith, share-most, div-le-self (p .«bit_rate» * p .frd) (p .frn)))
+      (omega (arith, pictures-most))
+
+  pub between-most : anchors * between ≤ 3825
+  between-most = mul-le-mul {n₂ = 255} {m₂ = 15} (omega arith) (omega arith)
+
+  -- the weights of a group are at least its pictures
+  target-low : (weight : ℕ) → weight ≤ 40 → target p between anchors weight ≤ 2 ^ 48
+  unfolding target groupBits groupPictures groupWeight
+  target-low weight w =
+      let share = p .«bit_rate» * p .frd / p .frn in
+      let pictures = 1 + anchors * (between + 1) in
+      let all = 40 + 16 * anchors + 9 * (anchors * between) in
+      let b : share ≤ p .«bit_rate» * p .frd = div-le-self (p .«bit_rate» * p .frd) (p .frn) in
+      let c : share * weight ≤ 3358785830400 * 40 = mul-le-mul {n₁ = share} {m₁ = weight} {n₂ = 3358785830400} {m₂ = 40} (omega (arith, share-most)) w in
+      let f : share * weight * pictures ≤ 2 ^ 48 * all = mul-le-mul {n₁ = share * weight} {m₁ = pictures} {n₂ = 2 ^ 48} {m₂ = all} (omega arith) (omega arith) in
+      let g = div-lt-iff-lt-mul {k = all} {x = share * pictures * weight} {y = 2 ^ 48 + 1} (omega arith) .1 (omega arith) in
+      omega arith
+
+  targets-low : every (λ t. leb t (2 ^ 48)) (targets p between anchors) ≡ true
+  unfolding targets every
+  targets-low =
+      simp (le-leb _ _ (target-low 40 (omega arith)), le-leb _ _ (target-low 16 (omega arith)), le-leb _ _ (target-low 9 (omega arith)))
+
+-- a model of parameters that fit has targets
+pub shared-out : (p : VbvParams) (m : VbvCbrModel) (between anchors : ℕ) → newModel p ≡ Model m
+    → p .«bit_rate» ≤ 104857200 → between ≤ 15 → anchors ≤ 255 → Shares (m .params) between anchors
+shared-out p m between anchors h r b a =
+    let k = made p m h in
+    let f = params-fit (k .params-fit) in
+    rw (k .params-kept)
+    (record { rate-high = r; frn-low = f .frn-low; frd-high = f .frd-high; between-high = b; anchors-high = a })
+
+-- ---- the ways through creation
+
+pub fresh-told : (c : CbrConfig) (m : VbvCbrModel) (t : List ℕ) → t ≡ targets (m .params) (c .«b_between») (c .«anchors_per_gop»)
+    → _≡_ {A = CbrWriter}
+    (record {
+      model = m;
+      «target_bits» = t;
+      q = c .«initial_quantiser_scale_code» ∷ c .«initial_quantiser_scale_code» ∷ c .«initial_quantiser_scale_code» ∷ [];
+      pending = Nothing;
+      «stuffing_bytes» = 0;
+      finished = false;
+    })
+    (freshWriter c m)
+unfolding freshWriter
+fresh-told c m t e = rw e
+
+module _ (c : CbrConfig) where
+  module _ (n d : ℕ) (x : VbvModel)
+      (e : x ≡ newModel (record { «bit_rate» = 400 * c .«bit_rate_value»; «buffer_size_bits» = 16384 * c .«vbv_buffer_size_value»; frn = n; frd = d })) where
+    pub way-made : (m : VbvCbrModel) (w : CbrWriter) → x ≡ Model m → w ≡ freshWriter c m
+        → _≡_ {A = CbrCreated} (record { answer = Created; writer = w }) (withRate c (Rate n d))
+    unfolding withRate withModel
+    way-made m w h g = rw (← e, h, g)
+
+    pub way-unmade : (error : VbvError) (r : CbrCreated) → x ≡ NoModel error → r ≡ notCreated error → r ≡ withRate c (Rate n d)
+    unfolding withRate withModel
+    way-unmade error r h g = rw (← e, h, g)
+
+  pub way-12 : (f : Bool) (r : CbrCreated) → f ≡ configFits c → f ≡ false → r ≡ notCreated Params → r ≡ create c
+  unfolding create pick
+  way-12 f r e h g = rw (← e, h, g)
+
+  module _ (f : Bool) (e : f ≡ configFits c) (h : f ≡ true) (x : FrameRate) (k : x ≡ frameRate (c .«frame_rate_code»)) where
+    pub way-6 : (error : VbvError) (r : CbrCreated) → x ≡ NoRate error → r ≡ notCreated error → r ≡ create c
+    unfolding create withRate pick
+    way-6 error r l g = rw (← e, h, ← k, l, g)
+
+    pub way-rate : (n d : ℕ) (r : CbrCreated) → x ≡ Rate n d → r ≡ withRate c (Rate n d) → r ≡ create c
+    unfolding create pick
+    way-rate n d r l g = rw (← e, h, ← k, l, g)
+
+-- ---- a creation that was accepted
+
+-- what it has found
+pub record Creation (c : CbrConfig) (w : CbrWriter) : Type 0 where
+  pub ranges : configFits c ≡ true
+  pub params : VbvParams
+  pub rate-is : params .«bit_rate» ≡ 400 * c .«bit_rate_value»
+  pub model : VbvCbrModel
+  pub model-is : newModel params ≡ Model model
+  pub writer-is : w ≡ freshWriter c model
+
+not-created : {e : VbvError} → Refused e ≡ Created → ⊥
+not-created h = true≢false cc
+
+with-model : (c : CbrConfig) (p : VbvParams) → configFits c ≡ true → p .«bit_rate» ≡ 400 * c .«bit_rate_value» → (x : VbvModel) → newModel p ≡ x
+    → withModel c x .answer ≡ Created → Creation c (withModel c x .writer)
+unfolding withModel notCreated
+with-model c p f r (Model m) e h = record { ranges = f; params = p; rate-is = r; model = m; model-is = e; writer-is = refl }
+with-model c p f r (NoModel v) e h = absurd (not-created h)
+
+with-rate : (c : CbrConfig) → configFits c ≡ true → (x : FrameRate) → withRate c x .answer ≡ Created → Creation c (withRate c x .writer)
+unfolding withRate notCreated
+with-rate c f (Rate n d) h = with-model c _ f refl (newModel _) refl h
+with-rate c f (NoRate v) h = absurd (not-created h)
+
+pub creation : (c : CbrConfig) → create c .answer ≡ Created → Creation c (create c .writer)
+unfolding create notCreated pick
+creation c h = go (configFits c) refl h
+  where
+    go : (t : Bool) → configFits c ≡ t
+        → pick t (withRate c (frameRate (c .«frame_rate_code»))) (notCreated Params) .answer ≡ Created
+        → Creation c (pick t (withRate c (frameRate (c .«frame_rate_code»))) (notCreated Params) .writer)
+    go true e h = with-rate c e (frameRate (c .«frame_rate_code»)) h
+    go false e h = absurd (not-created h)
 
 -- ---- the writer
 
@@ -89,12 +205,13 @@ pub record Fresh (w : CbrWriter) : Type 0 where
   pub at-zero : w .model .«prev_end_bits» ≡ 0
   pub unstuffed : w .«stuffing_bytes» ≡ 0
 
-fresh : (c : CbrConfig) (p : VbvParams) (m : VbvCbrModel) → ConfigFits c → p .«bit_rate» ≡ 400 * c .«bit_rate_value» → newModel p ≡ Model m → Fresh (freshWriter c m)
+fresh : {c : CbrConfig} {w : CbrWriter} (x : Creation c w) → Fresh (freshWriter c (x .model))
 unfolding freshWriter every
-fresh c p m f r h =
-    let a = made p m h in
-    let v = params-fit (a .params-fit) in
-    let q = is-quantiser (f .scale) in
+fresh {c} x =
+    let a = made (x .params) (x .model) (x .model-is) in
+    let f = config-bounds c (x .ranges) in
+    let t : Shares (x .model .params) (c .«b_between») (c .«anchors_per_gop»)
+    = shared-out (x .params) (x .model) _ _ (x .model-is) (omega (arith, x .rate-is, f .0 .rate-high)) (f .0 .between-high) (f .0 .anchors-high) in
     record {
       inv =
           record {
@@ -105,8 +222,8 @@ fresh c p m f r h =
                   whole-bytes = rw (a .at-zero);
                   few = rw (a .at-zero, a .none-removed) (omega arith);
                   stuffed = omega arith;
-                  targets = rw (a .params-kept) (targets-low p (c .«b_between») (c .«anchors_per_gop») (omega (arith, f .rate)) (v .frd-high));
-                  quantisers = simp (q);
+                  targets = targets-low _ _ _ t;
+                  quantisers = simp (is-quantiser (f .1));
                   pending = none-fits;
                 });
             three = refl;
@@ -120,26 +237,5 @@ fresh c p m f r h =
       unstuffed = refl;
     }
 
-pub not-created : {e : VbvError} → Refused e ≡ Created → ⊥
-not-created h = let z : _≡_ {A = ℕ} 0 1 = cc in omega arith
-
-with-model : (c : CbrConfig) (p : VbvParams) → ConfigFits c → p .«bit_rate» ≡ 400 * c .«bit_rate_value» → (x : VbvModel) → newModel p ≡ x
-    → withModel c x .answer ≡ Created → Fresh (withModel c x .writer)
-unfolding withModel notCreated
-with-model c p f r (Model m) e h = fresh c p m f r e
-with-model c p f r (NoModel v) e h = absurd (not-created h)
-
-with-rate : (c : CbrConfig) → ConfigFits c → (x : FrameRate) → withRate c x .answer ≡ Created → Fresh (withRate c x .writer)
-unfolding withRate notCreated
-with-rate c f (Rate n d) h = with-model c _ f refl (newModel _) refl h
-with-rate c f (NoRate v) h = absurd (not-created h)
-
 pub created : (c : CbrConfig) → create c .answer ≡ Created → Fresh (create c .writer)
-unfolding create notCreated pick
-created c h = go (configFits c) refl h
-  where
-    go : (t : Bool) → configFits c ≡ t
-        → pick t (withRate c (frameRate (c .«frame_rate_code»))) (notCreated Params) .answer ≡ Created
-        → Fresh (pick t (withRate c (frameRate (c .«frame_rate_code»))) (notCreated Params) .writer)
-    go true e h = with-rate c (config-fits c e) (frameRate (c .«frame_rate_code»)) h
-    go false e h = absurd (not-created h)
+created c h = let x = creation c h in rw (x .writer-is) (fresh x)

@@ -8,13 +8,10 @@ use native.Mathlib.Omega.{arith}
 use lib.ListN.{length}
 use Rattle.bits.specs.Bits.{pick}
 use Rattle.bits.proofs.Over.{over-take, over-drop}
-use Rattle.vbv.specs.Annex.{firstDelivered, expectedDelay}
-use Rattle.vbv.specs.Model.{paramsFit}
 use Rattle.vbv.specs.declared.VbvCbrModel.{VbvCbrModel}
-use Rattle.vbv.proofs.Laws.{fits-params, first-delay}
 use Rattle.vbv.specs.declared.VbvParams.{VbvParams}
 use Rattle.rate_control.specs.Writer.{writerFits, asked}
-use Rattle.rate_control.specs.Offer.{Offer, position, deliveredAt, firstDelay, delay, placedBytes, withPending, refused, placed, offer, outOf, outAfter, withdraw}
+use Rattle.rate_control.specs.Offer.{Offer, placedBytes, withPending, refused, placed, offer, outOf, outAfter, withdraw}
 use Rattle.rate_control.specs.Calls.{Call, offering, withdrawing, stepOf, after, run}
 use Rattle.rate_control.specs.Sent.{Sent, sentBy, sent}
 use Rattle.rate_control.specs.Demand.{PartHolds, QuantiserTold, WriterKept, Each, none, offer-then, withdrawal-then, FirstDelay}
@@ -25,9 +22,9 @@ use Rattle.rate_control.specs.declared.CbrAnswer.the-variants.{Placed, A
 use Rattle.rate_control.specs.declared.CbrOffered.{CbrOffered}
 use Rattle.rate_control.specs.declared.CbrWithdrawal.the-variants.{Withdrawn}
 use Rattle.rate_control.proofs.Chain.{Outcome, stays, closes, retries, places, outcome, q-of}
-use Rattle.rate_control.proofs.Lists.{refused-keeps, refused-closes}
-use Rattle.rate_control.proofs.Retries.{Quant}
-use Rattle.rate_control.proofs.Fitting.{writer-fits}
+use Rattle.rate_control.proofs.Keeping.{refused-keeps, refused-closes}
+use Rattle.rate_control.proofs.Retries.{below-31}
+use Rattle.rate_control.proofs.Placing.{first-told}
 use Rattle.rate_control.proofs.Invariant.{Inv, asked-quant, withdraw-is, call-inv}
 
 -- ---- output parts and quantisers
@@ -39,14 +36,11 @@ outcome-holds w o (closes x) = refl
 outcome-holds w o (retries x) = refl
 outcome-holds w o (places x) = record { bytes = over-take (placedBytes w o) (o .out); rest = over-drop (placedBytes w o) (o .out) }
 
-below : {q : ℕ} → Quant q → (q ≡ 31 → ⊥) → q < 31
-below a b = omega arith
-
 outcome-quantiser : {n : ℕ} {w : CbrWriter} {o : Offer} {r : CbrOffered} → Inv n w → Outcome w o r → QuantiserTold w o (r .answer)
 unfolding refused placed
 outcome-quantiser h (stays e x) = tt
 outcome-quantiser h (closes x) = tt
-outcome-quantiser {o = o} h (retries x) = (below (asked-quant (o .kind) h .0) x, refl)
+outcome-quantiser {o = o} h (retries x) = (below-31 (asked-quant (o .kind) h .0) x, refl)
 outcome-quantiser h (places x) = refl
 
 outcome-keeps : (w : CbrWriter) (o : Offer) → writerFits w ≡ true → (a : CbrAnswer) → offer w o .answer ≡ a → WriterKept w o a
@@ -66,25 +60,21 @@ each {w = w} h (withdrawing ∷ l) = withdrawal-then (withdraw-told w (h .fits))
 
 -- ---- the first delay
 
-first-told : (w : CbrWriter) (o : Offer) → paramsFit (w .model .params) ≡ true → w .model .started ≡ false → delay w o ≡ firstDelay (w .model .params)
-unfolding delay deliveredAt pick
-first-told w o f e = rw e (first-delay (w .model .params) f (position w o) (firstDelay (w .model .params)))
-
-outcome-first : {w : CbrWriter} {o : Offer} {r : CbrOffered} → Outcome w o r → paramsFit (w .model .params) ≡ true → w .model .started ≡ false
+outcome-first : {w : CbrWriter} {o : Offer} {r : CbrOffered} → Outcome w o r → w .model .started ≡ false
     → (k : ℕ) (rest : ℕ → List Sent) → (r .writer .model ≡ w .model → FirstDelay (w .model .params) (rest k))
     → FirstDelay (w .model .params) (sentBy k o (r .answer) rest)
 unfolding refused placed withPending sentBy
-outcome-first (stays e x) f s k rest ih = ih refl
-outcome-first (closes x) f s k rest ih = ih refl
-outcome-first (retries x) f s k rest ih = ih refl
-outcome-first {w} {o} (places x) f s k rest ih = first-told w o f s
+outcome-first (stays e x) s k rest ih = ih refl
+outcome-first (closes x) s k rest ih = ih refl
+outcome-first (retries x) s k rest ih = ih refl
+outcome-first {w} {o} (places x) s k rest ih = first-told w o x s
 
 -- as long as no picture is placed the model stays as it was created
 pub first : {n : ℕ} {w : CbrWriter} → Inv n w → w .model .started ≡ false → (k : ℕ) (calls : List Call) → FirstDelay (w .model .params) (sent k (run w calls))
 unfolding run stepOf after sent withPending
 first h e k [] = tt
 first {w = w} h e k (offering o ∷ l) =
-    outcome-first (outcome w o) (fits-params (w .model) (writer-fits (h .fits) .model-fits)) e k (λ j. sent j (run (offer w o .writer) l))
+    outcome-first (outcome w o) e k (λ j. sent j (run (offer w o .writer) l))
     (λ m. subst (λ (x : VbvCbrModel). FirstDelay (x .params) (sent k (run (offer w o .writer) l))) m
     (first (call-inv (offering o) h) (ap (λ (x : VbvCbrModel). x .started) m ∙ e) k l))
 first {w = w} h e k (withdrawing ∷ l) =

@@ -20,11 +20,9 @@ use Rattle.rate_control.specs.Sent.{retriesBy, retriesAfter}
 use Rattle.rate_control.specs.declared.Pending.{Pending}
 use Rattle.rate_control.specs.declared.Pending.the-variants.{Nothing, Waits}
 use Rattle.rate_control.specs.declared.CbrWriter.{CbrWriter}
-use Rattle.rate_control.specs.declared.CbrError.{CbrError}
-use Rattle.rate_control.specs.declared.CbrAnswer.the-variants.{Refused}
 use Rattle.rate_control.specs.declared.CbrOffered.{CbrOffered}
-use Rattle.rate_control.proofs.Chain.{q-of, Placing, Reason, unfit, out-of-turn, bad-headers, bad-layer, too-far, too-early, over-full, no-edge, no-room, Outcome, stays, closes, retries, places, outcome}
-use Rattle.rate_control.proofs.Retries.{Quant, rest, rest-small, rest-step, coarser-quant, steered-quant}
+use Rattle.rate_control.proofs.Chain.{q-of, Placing, not-21, Outcome, stays, closes, retries, places, outcome}
+use Rattle.rate_control.proofs.Retries.{Quant, below-31, rest, rest-small, rest-step, coarser-quant, steered-quant}
 use Rattle.rate_control.proofs.Fitting.{every-at, every-set, quantiser-is, is-quantiser, none-fits, waits-fits, WriterFits, writer-fits, fitting-writer}
 use Rattle.rate_control.proofs.Placing.{placed-size, end-is, next-room, params-fitted}
 
@@ -134,31 +132,15 @@ pending-inv {w = w} x h k e =
       room = h .room;
     }
 
--- no refusal but 21 counts as anything
-reason-retries : {w : CbrWriter} {o : Offer} {e : CbrError} (n : ℕ) → Reason w o e → retriesBy n (Refused e) ≡ n
-unfolding retriesBy
-reason-retries n (unfit h) = refl
-reason-retries n (out-of-turn h) = refl
-reason-retries n (bad-headers h) = refl
-reason-retries n (bad-layer h) = refl
-reason-retries n (too-far h) = refl
-reason-retries n (too-early h) = refl
-reason-retries n (over-full f h) = refl
-reason-retries n (no-edge h) = refl
-reason-retries n (no-room f a b h) = refl
-
 pub outcome-inv : {n : ℕ} {w : CbrWriter} {o : Offer} {r : CbrOffered} → Inv n w → Outcome w o r → Inv (retriesBy n (r .answer)) (r .writer)
-unfolding refused placed retriesBy
-outcome-inv {n} h (stays e g) = rw (reason-retries n g) h
+unfolding refused placed retriesBy pick
+outcome-inv h (stays e g) = rw (not-21 g) h
 outcome-inv h (closes g) = pending-inv Nothing h refl none-fits
 outcome-inv {n} {w} {o} h (retries g) =
     let a = asked-quant (o .kind) h in
-    let l : q-of w o < 31 = below (a .0) g in
+    let l = below-31 (a .0) g in
     let c = coarser-quant (a .0) in
     pending-inv (Waits (o .kind) (coarser (q-of w o))) h (c, omega (arith, rest-step (a .0) l)) (waits-fits c (o .kind))
-  where
-    below : {q : ℕ} → Quant q → (q ≡ 31 → ⊥) → q < 31
-    below a b = omega arith
 outcome-inv h (places g) = place-inv h g
 
 pub withdraw-is : (w : CbrWriter) → writerFits w ≡ true → withdraw w .writer ≡ withPending w Nothing

@@ -1,4 +1,3 @@
-pub mod Creating
 pub mod States
 pub mod Storage
 pub mod Ways

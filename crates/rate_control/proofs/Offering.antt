@@ -1,7 +1,7 @@
 -- The ways through an offer: each with its answer, and with what the output part then holds.
 -- Assumes nothing.
 use mathlib.Core.Path.{_≡_, refl, sym, ap, _∙_}
-use mathlib.Core.Bool.{Bool, true, false, not, _||_}
+use mathlib.Core.Bool.{Bool, true, false, not, _||_, true≢false}
 use mathlib.Core.List.{List, [], _∷_, _++_}
 use Prim.Native.Nat.{ℕ, zero, suc, _+_, _^_, _≤_, _<_}
 use native.Mathlib.Omega.{arith}
@@ -30,6 +30,7 @@ use Rattle.rate_control.specs.declared.CbrOffered.{CbrOffered}
 use Rattle.rate_control.specs.declared.Placement.{Placement}
 use Rattle.rate_control.specs.declared.Judged.{Judged}
 use Rattle.rate_control.specs.declared.Judged.the-variants.{Refused, TooLarge, Ready}
+use Rattle.rate_control.proofs.Chain.{or-right}
 use Rattle.rate_control.proofs.Fitting.{writer-fits}
 use Rattle.rate_control.proofs.Placing.{placed-size}
 use Rattle.rate_control.proofs.Judging.{through, placement, told, measured-is}
@@ -115,14 +116,10 @@ module _ (w : CbrWriter) (o : Offer) where
 -- ---- a picture to place
 
 not-ready : {e : CbrError} {p : Placement} → Refused e ≡ Ready p → ⊥
-not-ready h = let z : _≡_ {A = ℕ} 0 1 = cc in omega arith
+not-ready h = true≢false cc
 
 large-ready : {p : Placement} → TooLarge ≡ Ready p → ⊥
-large-ready h = let z : _≡_ {A = ℕ} 0 1 = cc in omega arith
-
-or-right : (a b : Bool) → (a || b) ≡ false → b ≡ false
-or-right true b e = cc
-or-right false b e = e
+large-ready h = true≢false cc
 
 record Readied (w : CbrWriter) (o : Offer) (p : Placement) : Type 0 where
   fitted : writerFits w ≡ true

@@ -1,4 +1,4 @@
--- The numbers of a placing: bits delivered, stuffing, end and delay, by Annex C's laws.
+-- The numbers of a placing: bits delivered, stuffing, end and delay, by Annex C's laws, and the output part that always has room for it.
 -- Assumes nothing.
 use mathlib.Core.Path.{_≡_, sym, _∙_}
 use mathlib.Core.Bool.{Bool, true, false}
@@ -6,19 +6,24 @@ use mathlib.Core.List.{List, _++_}
 use mathlib.Core.Logic.{_↔_}
 use Prim.Native.Nat.{ℕ, _+_, _*_, _≤_}
 use native.Mathlib.Omega.{arith}
+use native.Mathlib.Nat.{le-of-mul-le-mul-right}
 use lib.ListN.{length, length-append, length-replicate, replicate}
 use borrow.Author.Tests.{ltb-false, le-ltb}
 use Rattle.bits.specs.Bits.{pick}
-use Rattle.vbv.specs.Annex.{unit, firstDelivered, overflows, leastEnd}
+use Rattle.vbv.specs.Annex.{unit, firstDelivered, overflows, underflows, leastEnd}
 use Rattle.vbv.specs.Model.{paramsFit, delivered}
 use Rattle.vbv.specs.Patch.{patched}
 use Rattle.vbv.specs.declared.VbvParams.{VbvParams}
-use Rattle.vbv.proofs.Laws.{over-units, units-over, least-end, delay-most, first-delay, fits-params}
+use Rattle.vbv.proofs.Fitting.{unit-pos}
+use Rattle.vbv.proofs.Laws.{over-units, units-over, under-units, least-end, delay-most, first-delay, fits-params}
 use Rattle.vbv.proofs.After.{patched-size}
-use Rattle.rate_control.specs.Offer.{Offer, position, content, end, firstDelay, deliveredAt, deliveredNext, stuffing, delay, tail, placedBytes}
+use Rattle.rate_control.specs.Writer.{writerFits}
+use Rattle.rate_control.specs.Offer.{Offer, position, content, end, firstDelay, deliveredAt, deliveredNext, stuffing, delay, tail, placedBytes, offer}
 use Rattle.rate_control.specs.declared.CbrWriter.{CbrWriter}
+use Rattle.rate_control.specs.declared.CbrError.the-variants.{Output}
+use Rattle.rate_control.specs.declared.CbrAnswer.the-variants.{Refused}
 use Rattle.rate_control.proofs.Fitting.{writer-fits}
-use Rattle.rate_control.proofs.Chain.{Placing}
+use Rattle.rate_control.proofs.Chain.{Placing, no-room, Refusal, because, refusal}
 
 -- the other of two, below a bound
 other-le : (b : Bool) (x y k : ℕ) → b ≡ false → pick b x y ≤ k → y ≤ k
@@ -98,10 +103,30 @@ module _ (w : CbrWriter) (o : Offer) (g : Placing w o) where
   unfolding delay position
   delay-told = delay-most (w .model .params) params-fitted (w .model .«prev_end_bits») (position w o) (deliveredAt w o) (g .no-overflow) (omega arith)
 
+  pub first-told : w .model .started ≡ false → delay w o ≡ firstDelay (w .model .params)
+  unfolding delay
+  first-told e = rw (delivered-first w o e) (first-delay (w .model .params) params-fitted (position w o) (firstDelay (w .model .params)))
+
   -- what is delivered at the first removal is what the first position and delay say
   pub delivered-told : w .model .started ≡ false → deliveredAt w o ≡ firstDelivered (w .model .params) (position w o) (delay w o)
-  unfolding delay
-  delivered-told e =
-      let d = delivered-first w o e in
-      let x : delay w o ≡ firstDelay (w .model .params) = rw d (first-delay (w .model .params) params-fitted (position w o) (firstDelay (w .model .params))) in
-      rw x d
+  delivered-told e = rw (first-told e) (delivered-first w o e)
+
+-- ---- the output part
+
+-- what is placed lies between the previous end and the bits delivered, and these are at most a buffer apart
+placed-most : (w : CbrWriter) (o : Offer) → writerFits w ≡ true → overflows (w .model .params) (w .model .«prev_end_bits») (deliveredAt w o) ≡ false
+    → underflows (w .model .params) (end w o) (deliveredAt w o) ≡ false → 8 * length (placedBytes w o) ≤ w .model .params .«buffer_size_bits»
+placed-most w o f a b =
+    let p : VbvParams = w .model .params in
+    let h = over-units p _ _ a in
+    let g = under-units p _ _ b in
+    let k : end w o * unit p ≤ (w .model .«prev_end_bits» + p .«buffer_size_bits») * unit p = omega arith in
+    let l = le-of-mul-le-mul-right k (unit-pos p (fits-params (w .model) (writer-fits f .model-fits))) in
+    omega (arith, end-is w o)
+
+-- an output part of the buffer's size is never too short
+pub room-enough : (w : CbrWriter) (o : Offer) → w .model .params .«buffer_size_bits» ≤ 8 * length (o .out) → offer w o .answer ≡ Refused Output → ⊥
+room-enough w o l h = go (refusal w o h)
+  where
+    go : {v : CbrWriter} → Refusal w o Output v → ⊥
+    go (because (no-room f a b g)) = omega (arith, placed-most w o f a b)

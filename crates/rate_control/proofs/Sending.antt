@@ -5,8 +5,9 @@ use mathlib.Core.Bool.{Bool, true, false}
 use mathlib.Core.List.{List, [], _∷_, _++_, append-nil}
 use Prim.Native.Nat.{ℕ, _+_, _<_}
 use native.Mathlib.Omega.{arith}
-use lib.ListN.{length, getD, length-append}
+use lib.ListN.{length, length-append}
 use Rattle.bits.proofs.Over.{over-take}
+use Rattle.headers.specs.RoundTrips.{Bytes}
 use Rattle.vbv.specs.declared.VbvParams.{VbvParams}
 use Rattle.vbv.proofs.After.{after as model-after}
 use Rattle.scan.specs.Codes.{sequenceEndCode}
@@ -122,7 +123,7 @@ module _ {p : VbvParams} {placed : Bool} (n : ℕ) (w : CbrWriter) (o : Offer) {
       go true e = last-sending e
       go false e = other-sending e
 
-place-fit : {w : CbrWriter} {o : Offer} → Placing w o → ((k : ℕ) → getD (o .layer) k 0 < 256) → PartFits (w .model .params) (w .model .started) (partOf w o)
+place-fit : {w : CbrWriter} {o : Offer} → Placing w o → Bytes (o .layer) → PartFits (w .model .params) (w .model .started) (partOf w o)
 place-fit {w} {o} g b = record {
   kind = o .kind;
   headers-fit = g .headers-fit;
@@ -135,7 +136,7 @@ same-sending : {p q : VbvParams} {a c : Bool} {n : ℕ} {b : List ℕ} {xs : Lis
 same-sending {p} {q} {a} {c} {n} {b} {xs} e f s =
     subst (λ (z : Bool). Sending q z n b xs) f (subst (λ (z : VbvParams). Sending z a n b xs) e s)
 
-outcome-sending : {m : ℕ} {w : CbrWriter} {o : Offer} {r : CbrOffered} (n : ℕ) (l : List Call) → Inv m w → ((k : ℕ) → getD (o .layer) k 0 < 256)
+outcome-sending : {m : ℕ} {w : CbrWriter} {o : Offer} {r : CbrOffered} (n : ℕ) (l : List Call) → Inv m w → Bytes (o .layer)
     → Outcome w o r
     → ((k : ℕ) → Sending (r .writer .model .params) (r .writer .model .started) k (handed (run (r .writer) l)) (sent k (run (r .writer) l)))
     → Sending (w .model .params) (w .model .started) n

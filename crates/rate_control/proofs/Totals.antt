@@ -14,39 +14,23 @@ use Rattle.rate_control.specs.Offer.{Offer, end, deliveredNext, placedBy
 use Rattle.rate_control.specs.Calls.{Call, offering, withdrawing, stepOf, after, run, final}
 use Rattle.rate_control.specs.Sent.{sentBy, sent, handedBy, handed, AtCoarsest, Patient, done, then, zerosOf}
 use Rattle.rate_control.specs.declared.CbrWriter.{CbrWriter}
-use Rattle.rate_control.specs.declared.CbrError.{CbrError}
 use Rattle.rate_control.specs.declared.CbrError.the-variants.{TooLarge}
-use Rattle.rate_control.specs.declared.CbrAnswer.the-variants.{Refused}
 use Rattle.rate_control.specs.declared.CbrOffered.{CbrOffered}
-use Rattle.rate_control.proofs.Chain.{q-of, Reason, unfit, out-of-turn, bad-headers, bad-layer, too-far, too-early, over-full, no-edge, no-room, Outcome, stays, closes, retries, places, outcome}
+use Rattle.rate_control.proofs.Chain.{q-of, Outcome, stays, closes, retries, places, outcome, not-size, Refusal, because, size, refusal}
 use Rattle.rate_control.proofs.Placing.{end-is}
 use Rattle.rate_control.proofs.Fitting.{writer-fits}
 use Rattle.rate_control.proofs.Invariant.{Inv, pending-few, call-inv, withdraw-is}
 
 -- ---- retries
 
--- 21 comes from the size alone
-pub reason-other : {w : CbrWriter} {o : Offer} {e : CbrError} → Reason w o e → Refused e ≡ Refused TooLarge → ⊥
-reason-other (unfit g) h = let z : _≡_ {A = ℕ} 0 1 = cc in omega arith
-reason-other (out-of-turn g) h = let z : _≡_ {A = ℕ} 0 1 = cc in omega arith
-reason-other (bad-headers g) h = let z : _≡_ {A = ℕ} 0 1 = cc in omega arith
-reason-other (bad-layer g) h = let z : _≡_ {A = ℕ} 0 1 = cc in omega arith
-reason-other (too-far g) h = let z : _≡_ {A = ℕ} 0 1 = cc in omega arith
-reason-other (too-early g) h = let z : _≡_ {A = ℕ} 0 1 = cc in omega arith
-reason-other (over-full f g) h = let z : _≡_ {A = ℕ} 0 1 = cc in omega arith
-reason-other (no-edge g) h = let z : _≡_ {A = ℕ} 0 1 = cc in omega arith
-reason-other (no-room f a b g) h = let z : _≡_ {A = ℕ} 0 1 = cc in omega arith
-
-outcome-coarsest : {w : CbrWriter} {o : Offer} {r : CbrOffered} → Outcome w o r → r .answer ≡ Refused TooLarge → q-of w o ≡ 31
-unfolding refused placed
-outcome-coarsest (stays e g) h = absurd (reason-other g h)
-outcome-coarsest (closes g) h = g
-outcome-coarsest (retries g) h = let z : _≡_ {A = ℕ} 0 1 = cc in absurd (omega arith)
-outcome-coarsest (places g) h = let z : _≡_ {A = ℕ} 0 1 = cc in absurd (omega arith)
+-- 21 comes at quantiser 31 alone
+coarsest : {w v : CbrWriter} {o : Offer} → Refusal w o TooLarge v → q-of w o ≡ 31
+coarsest (because g) = absurd (not-size g)
+coarsest (size g) = g
 
 call-coarsest : (w : CbrWriter) (c : Call) → AtCoarsest (stepOf w c)
 unfolding stepOf
-call-coarsest w (offering o) = outcome-coarsest (outcome w o)
+call-coarsest w (offering o) = λ h. coarsest (refusal w o h)
 call-coarsest w withdrawing = tt
 
 pub patient : (n : ℕ) (w : CbrWriter) (l : List Call) → Inv n w → Patient n (run w l)

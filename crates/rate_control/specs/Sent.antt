@@ -1,12 +1,15 @@
 -- Demand 3 (paper 00): what holds of every list of offers and withdrawals on a fresh writer. Pictures, positions and bits delivered are taken from the calls and their
 -- answers alone, by Annex C's own formula and not by the writer's state.
 -- Assumes nothing.
-use Prim.Native.Nat.{ℕ, suc, _+_, _*_, _≤_, _<_}
+use Prim.Native.Nat.{ℕ, suc, _+_, _*_, _≤_}
 use mathlib.Core.Path.{_≡_}
 use mathlib.Core.List.{List, [], _∷_, _++_}
 use mathlib.Core.Bool.{Bool, true, false}
 use mathlib.Core.Logic.{_↔_}
-use lib.ListN.{length, getD, take}
+use lib.Dec.{eqb}
+use lib.ListN.{length, take}
+use Rattle.bits.specs.Bits.{pick}
+use Rattle.headers.specs.RoundTrips.{Bytes}
 use Rattle.vbv.specs.Annex.{unit, firstDelivered, gain, expectedDelay, occupancy}
 use Rattle.vbv.specs.Model.{periods}
 use Rattle.vbv.specs.declared.RemovalInterval.{RemovalInterval}
@@ -14,11 +17,12 @@ use Rattle.vbv.specs.declared.VbvParams.{VbvParams}
 use Rattle.verify.specs.Check.{verdict, yes}
 use Rattle.verify.specs.declared.VbvStandard.the-variants.{Mpeg2}
 use Rattle.verify.specs.declared.VbvPictureRecord.{VbvPictureRecord}
+use Rattle.rate_control.specs.Answers.{refusalOf}
 use Rattle.rate_control.specs.Writer.{asked}
 use Rattle.rate_control.specs.Offer.{Offer, tail}
 use Rattle.rate_control.specs.Calls.{Call, offering, withdrawing, Step, offered, withdrawn, run, final}
 use Rattle.rate_control.specs.declared.CbrWriter.{CbrWriter}
-use Rattle.rate_control.specs.declared.CbrError.the-variants as er
+use Rattle.rate_control.specs.declared.CbrError.the-variants.{TooLarge}
 use Rattle.rate_control.specs.declared.CbrAnswer.{CbrAnswer}
 use Rattle.rate_control.specs.declared.CbrAnswer.the-variants.{Placed, Again, Refused}
 
@@ -132,14 +136,7 @@ Passes p s (x ∷ xs) =
 unfoldable pub retriesBy : ℕ → CbrAnswer → ℕ
 retriesBy n (Placed q d bytes z) = 0
 retriesBy n (Again q) = suc n
-retriesBy n (Refused er.TooLarge) = 0
-retriesBy n (Refused (er.Model e)) = n
-retriesBy n (Refused (er.Violation v)) = n
-retriesBy n (Refused er.Kind) = n
-retriesBy n (Refused er.Headers) = n
-retriesBy n (Refused er.Layer) = n
-retriesBy n (Refused er.Stuffing) = n
-retriesBy n (Refused er.Output) = n
+retriesBy n (Refused e) = pick (eqb (refusalOf e .number) 21) 0 n
 
 unfoldable pub retriesAfter : ℕ → Step → ℕ
 retriesAfter n (offered w o a out) = retriesBy n a
@@ -147,7 +144,7 @@ retriesAfter n (withdrawn a) = 0
 
 -- 21 only at quantiser 31
 abbrev pub AtCoarsest : Step → Type 0
-AtCoarsest (offered w o a out) = a ≡ Refused er.TooLarge → asked w (o .kind) ≡ 31
+AtCoarsest (offered w o a out) = a ≡ Refused TooLarge → asked w (o .kind) ≡ 31
 AtCoarsest (withdrawn a) = Unit {0}
 
 -- never more than eleven retries of a picture
@@ -166,7 +163,7 @@ zerosOf (x ∷ xs) = x .stuffing + zerosOf xs
 -- every offered layer is of bytes: in the code it is, by its type
 abbrev pub AllBytes : List Call → Type 0
 AllBytes [] = Unit {0}
-AllBytes (offering o ∷ calls) = ((k : ℕ) → getD (o .layer) k 0 < 256) × AllBytes calls
+AllBytes (offering o ∷ calls) = Bytes (o .layer) × AllBytes calls
 AllBytes (withdrawing ∷ calls) = AllBytes calls
 
 pub record Kept (p : VbvParams) (w : CbrWriter) (calls : List Call) : Type 0 where

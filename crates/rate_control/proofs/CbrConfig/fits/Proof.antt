@@ -1,4 +1,4 @@
-use Rattle.rate_control.proofs.Creating.{config-told}
+use Rattle.rate_control.proofs.Creation.{config-told}
 use borrow.Author.Needs.{needs}
 use Rattle.rate_control.proofs.CbrConfig.fits.Statement.{statement}
 use Rattle.rate_control.proofs.CbrConfig.fits.Tie as tie

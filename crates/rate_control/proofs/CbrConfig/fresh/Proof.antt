@@ -1,4 +1,4 @@
-use Rattle.rate_control.proofs.Creating.{fresh-told}
+use Rattle.rate_control.proofs.Creation.{fresh-told}
 use borrow.Author.Needs.{needs}
 use Rattle.rate_control.proofs.CbrConfig.fresh.Statement.{statement}
 use Rattle.rate_control.proofs.CbrConfig.fresh.Tie as tie

@@ -1,6 +1,6 @@
 use native.Mathlib.Omega.{arith}
 use mathlib.Core.Path.{sym, _∙_}
-use Rattle.rate_control.proofs.Creating.{shared-out, way-made, way-unmade}
+use Rattle.rate_control.proofs.Creation.{shared-out, way-made, way-unmade}
 use borrow.Author.Needs.{needs}
 use Rattle.rate_control.proofs.CbrConfig.with_rate.Statement.{statement}
 use Rattle.rate_control.proofs.CbrConfig.with_rate.Tie as tie

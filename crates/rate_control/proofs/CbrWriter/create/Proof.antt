@@ -1,5 +1,5 @@
 use Rattle.vbv.proofs.Fitting.{told-by}
-use Rattle.rate_control.proofs.Creating.{config-fits, way-12, way-6, way-rate}
+use Rattle.rate_control.proofs.Creation.{config-fits, way-12, way-6, way-rate}
 use borrow.Author.Needs.{needs}
 use Rattle.rate_control.proofs.CbrWriter.create.Statement.{statement}
 use Rattle.rate_control.proofs.CbrWriter.create.Tie as tie

@@ -1,5 +1,5 @@
 use native.Mathlib.Omega.{arith}
-use Rattle.rate_control.proofs.Creating.{pictures-most, share-most, gop-most, between-most}
+use Rattle.rate_control.proofs.Creation.{pictures-most, share-most, gop-most, between-most}
 use Rattle.rate_control.specs.Targets.{target, targets, groupPictures, groupBits, groupWeight}
 use borrow.Author.Needs.{needs}
 use Rattle.rate_control.proofs.create.type_target_bits.Statement.{statement}
