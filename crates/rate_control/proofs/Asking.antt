@@ -8,8 +8,8 @@ use Rattle.rate_control.specs.Targets.{targets}
 use Rattle.rate_control.specs.Create.{freshWriter, create}
 use Rattle.rate_control.specs.declared.CbrConfig.{CbrConfig}
 use Rattle.rate_control.specs.declared.CbrCreation.the-variants.{Created}
-use Rattle.rate_control.specs.Writer.{of, asked}
-use Rattle.rate_control.specs.Offer.{Offer, offer, withPending, refused, placed, withdraw}
+use Rattle.rate_control.specs.Writer.{asked}
+use Rattle.rate_control.specs.Offer.{Offer, offer, withPending, refused, placed}
 use Rattle.rate_control.specs.Calls.{Call, offering, withdrawing, stepOf, after, run}
 use Rattle.rate_control.specs.Told.{Told, atFirst, closed, askedFor, toldBy, Asks, none, offer-then, withdrawal-then}
 use Rattle.rate_control.specs.declared.CbrWriter.{CbrWriter}

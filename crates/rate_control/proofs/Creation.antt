@@ -7,7 +7,7 @@ use Prim.Native.Nat.{ℕ, _+_, _*_, _/_, _^_, _≤_}
 use native.Mathlib.Omega.{arith}
 use native.Mathlib.Nat.{mul-le-mul, div-le-self, div-lt-iff-lt-mul}
 use lib.Dec.{leb}
-use borrow.Author.Tests.{leb-true, le-leb}
+use borrow.Author.Tests.{le-leb}
 use Rattle.bits.specs.Bits.{pick}
 use Rattle.bits.proofs.Reading.{both-true}
 use Rattle.vbv.specs.Answers.{frameRate}
@@ -32,21 +32,15 @@ use Rattle.rate_control.specs.declared.CbrWriter.{CbrWriter}
 use Rattle.rate_control.specs.declared.CbrCreation.the-variants.{Created, Refused}
 use Rattle.rate_control.specs.declared.CbrCreated.{CbrCreated}
 use Rattle.rate_control.proofs.Retries.{Quant}
-use Rattle.rate_control.proofs.Fitting.{is-quantiser, none-fits, fitting-writer}
+use Rattle.rate_control.proofs.Fitting.{within-bounds, is-quantiser, none-fits, fitting-writer}
 use Rattle.rate_control.proofs.Invariant.{Inv}
 
 -- ---- the ranges of a configuration
 
--- a range as two tests, and as bounds
+-- a range as two tests
 pub within-is : (low high v : ℕ) → within low high v ≡ (leb low v && leb v high)
 unfolding within
 within-is low high v = refl
-
-within-bounds : (low high v : ℕ) → within low high v ≡ true → (low ≤ v) × (v ≤ high)
-unfolding within
-within-bounds low high v h =
-    let b = both-true (leb low v) (leb v high) h in
-    (leb-true _ _ (b .0), leb-true _ _ (b .1))
 
 pub config-told : (c : CbrConfig) (r s q b a : Bool) → r ≡ within 1 262143 (c .«bit_rate_value») → s ≡ within 1 1023 (c .«vbv_buffer_size_value»)
     → q ≡ within 1 31 (c .«initial_quantiser_scale_code») → b ≡ within 0 15 (c .«b_between») → a ≡ within 1 255 (c .«anchors_per_gop»)

@@ -1,30 +1,29 @@
--- What each offer's output part holds, the quantisers that answers tell, and the first delay.
+-- What each offer's output part holds, the quantisers that answers tell, the first delay, and that 9 comes only before the first placing.
 -- Assumes nothing.
 use mathlib.Core.Path.{_≡_, refl, sym, subst, ap, _∙_}
 use mathlib.Core.List.{List, [], _∷_}
-use mathlib.Core.Bool.{Bool, true, false}
-use Prim.Native.Nat.{ℕ, _+_, _≤_, _<_}
-use native.Mathlib.Omega.{arith}
-use lib.ListN.{length}
+use mathlib.Core.Bool.{Bool, true, false, true≢false}
+use Prim.Native.Nat.{ℕ}
 use Rattle.bits.specs.Bits.{pick}
 use Rattle.bits.proofs.Over.{over-take, over-drop}
 use Rattle.vbv.specs.declared.VbvCbrModel.{VbvCbrModel}
-use Rattle.vbv.specs.declared.VbvParams.{VbvParams}
-use Rattle.rate_control.specs.Writer.{writerFits, asked}
-use Rattle.rate_control.specs.Offer.{Offer, placedBytes, withPending, refused, placed, offer, outOf, outAfter, withdraw}
-use Rattle.rate_control.specs.Calls.{Call, offering, withdrawing, stepOf, after, run}
+use Rattle.vbv.specs.declared.VbvViolation.{VbvViolation}
+use Rattle.vbv.proofs.After.{after as model-after}
+use Rattle.rate_control.specs.Writer.{writerFits}
+use Rattle.rate_control.specs.Offer.{Offer, end, deliveredNext, placedBytes, withPending, refused, placed, offer, outOf, outAfter, withdraw}
+use Rattle.rate_control.specs.Calls.{Call, offering, withdrawing, stepOf, after, run, final}
 use Rattle.rate_control.specs.Sent.{Sent, sentBy, sent}
 use Rattle.rate_control.specs.Demand.{PartHolds, QuantiserTold, WriterKept, Each, none, offer-then, withdrawal-then, FirstDelay}
-use Rattle.rate_control.specs.declared.Pending.the-variants.{Nothing}
 use Rattle.rate_control.specs.declared.CbrWriter.{CbrWriter}
+use Rattle.rate_control.specs.declared.CbrError.the-variants.{Violation}
 use Rattle.rate_control.specs.declared.CbrAnswer.{CbrAnswer}
 use Rattle.rate_control.specs.declared.CbrAnswer.the-variants.{Placed, Again, Refused}
 use Rattle.rate_control.specs.declared.CbrOffered.{CbrOffered}
 use Rattle.rate_control.specs.declared.CbrWithdrawal.the-variants.{Withdrawn}
-use Rattle.rate_control.proofs.Chain.{Outcome, stays, closes, retries, places, outcome, q-of}
-use Rattle.rate_control.proofs.Keeping.{refused-keeps, refused-closes}
+use Rattle.rate_control.proofs.Chain.{over-full, Outcome, stays, closes, retries, places, outcome, Refusal, because, refusal}
+use Rattle.rate_control.proofs.Keeping.{refused-keeps, refused-closes, Whole, final-whole}
 use Rattle.rate_control.proofs.Retries.{below-31}
-use Rattle.rate_control.proofs.Placing.{first-told}
+use Rattle.rate_control.proofs.Placing.{delivered-later, first-told}
 use Rattle.rate_control.proofs.Invariant.{Inv, asked-quant, withdraw-is, call-inv}
 
 -- ---- output parts and quantisers
@@ -81,3 +80,48 @@ first {w = w} h e k (withdrawing ∷ l) =
     let m : withdraw w .writer .model ≡ w .model = ap (λ (x : CbrWriter). x .model) (withdraw-is w (h .fits)) in
     subst (λ (x : VbvCbrModel). FirstDelay (x .params) (sent k (run (withdraw w .writer) l))) m
     (first (call-inv withdrawing h) (ap (λ (x : VbvCbrModel). x .started) m ∙ e) k l)
+
+-- ---- 9 only before the first placing
+
+-- a model that is started stays so
+outcome-started : {w : CbrWriter} {o : Offer} {r : CbrOffered} → Outcome w o r → w .model .started ≡ true → r .writer .model .started ≡ true
+unfolding refused placed withPending
+outcome-started (stays e x) s = s
+outcome-started (closes x) s = s
+outcome-started (retries x) s = s
+outcome-started {w} {o} (places x) s = model-after (w .model) (end w o) (deliveredNext w o) .is-started
+
+final-started : {n : ℕ} {w : CbrWriter} → Inv n w → (calls : List Call) → w .model .started ≡ true → final w calls .model .started ≡ true
+unfolding final after withPending
+final-started h [] s = s
+final-started {w = w} h (offering o ∷ l) s = final-started (call-inv (offering o) h) l (outcome-started (outcome w o) s)
+final-started {w = w} h (withdrawing ∷ l) s = final-started (call-inv withdrawing h) l (rw (withdraw-is w (h .fits)) s)
+
+-- and as long as it is not, nothing is sent
+outcome-unsent : {n : ℕ} {w : CbrWriter} {o : Offer} {r : CbrOffered} → Outcome w o r → Inv n (r .writer) → (calls : List Call)
+    → final (r .writer) calls .model .started ≡ false → (k : ℕ) (rest : ℕ → List Sent) → rest k ≡ [] → sentBy k o (r .answer) rest ≡ []
+unfolding refused placed withPending sentBy
+outcome-unsent (stays e x) h l s k rest ih = ih
+outcome-unsent (closes x) h l s k rest ih = ih
+outcome-unsent (retries x) h l s k rest ih = ih
+outcome-unsent {w = w} {o = o} (places x) h l s k rest ih =
+    absurd (true≢false (sym (final-started h l (model-after (w .model) (end w o) (deliveredNext w o) .is-started)) ∙ s))
+
+unsent : {n : ℕ} {w : CbrWriter} → Inv n w → (k : ℕ) (calls : List Call) → final w calls .model .started ≡ false → sent k (run w calls) ≡ []
+unfolding run final stepOf after sent
+unsent h k [] s = refl
+unsent {w = w} h k (offering o ∷ l) s =
+    outcome-unsent (outcome w o) (call-inv (offering o) h) l s k (λ j. sent j (run (offer w o .writer) l)) (unsent (call-inv (offering o) h) k l s)
+unsent h k (withdrawing ∷ l) s = unsent (call-inv withdrawing h) k l s
+
+-- the stuffing of a picture that was placed has made room for the next
+later-room : {n : ℕ} {w v : CbrWriter} {o : Offer} {x : VbvViolation} → Inv n w → w .model .started ≡ true → Refusal w o (Violation x) v → ⊥
+later-room {w = w} {o = o} h s (because (over-full f g)) = true≢false (sym g ∙ rw (delivered-later w o s) (h .room s f))
+
+pub overflow-first : {w : CbrWriter} → Whole w → (calls : List Call) (o : Offer) (v : VbvViolation) → offer (final w calls) o .answer ≡ Refused (Violation v)
+    → sent 0 (run w calls) ≡ []
+overflow-first {w} h calls o v e = go (final w calls .model .started) refl
+  where
+    go : (t : Bool) → final w calls .model .started ≡ t → sent 0 (run w calls) ≡ []
+    go true s = absurd (later-room (final-whole calls h .inv) s (refusal (final w calls) o e))
+    go false s = unsent (h .inv) 0 calls s

@@ -34,11 +34,18 @@ every-set f (y ∷ ys) (suc i) x h g =
 
 -- ---- quantisers
 
+-- a range as bounds
+pub within-bounds : (low high v : ℕ) → within low high v ≡ true → (low ≤ v) × (v ≤ high)
+unfolding within
+within-bounds low high v h =
+    let b = both-true (leb low v) (leb v high) h in
+    (leb-true _ _ (b .0), leb-true _ _ (b .1))
+
 pub quantiser-is : {q : ℕ} → quantiser q ≡ true → Quant q
-unfolding quantiser within
+unfolding quantiser
 quantiser-is {q} h =
-    let b = both-true (leb 1 q) (leb q 31) h in
-    record { low = leb-true _ _ (b .0); high = leb-true _ _ (b .1) }
+    let b = within-bounds 1 31 q h in
+    record { low = b .0; high = b .1 }
 
 pub is-quantiser : {q : ℕ} → Quant q → quantiser q ≡ true
 unfolding quantiser within

@@ -1,15 +1,14 @@
 -- Creation of a writer (paper 01, 'A placed picture'): 12 for a range, 6 for the rate code, 12 for the ratio.
 -- Assumes nothing.
 use Prim.Native.Nat.{ℕ, _*_}
-use mathlib.Core.List.{List, [], _∷_}
-use mathlib.Core.Bool.{Bool, true, false, _&&_}
+use mathlib.Core.List.{[], _∷_}
+use mathlib.Core.Bool.{Bool, false, _&&_}
 use lib.Dec.{leb}
 use Rattle.bits.specs.Bits.{pick}
 use Rattle.vbv.specs.Answers.{frameRate}
 use Rattle.vbv.specs.Model.{newModel}
 use Rattle.vbv.specs.declared.FrameRate.{FrameRate}
 use Rattle.vbv.specs.declared.FrameRate.the-variants.{Rate, Refused as NoRate}
-use Rattle.vbv.specs.declared.VbvParams.{VbvParams}
 use Rattle.vbv.specs.declared.VbvCbrModel.{VbvCbrModel}
 use Rattle.vbv.specs.declared.VbvError.{VbvError}
 use Rattle.vbv.specs.declared.VbvError.the-variants.{Params}

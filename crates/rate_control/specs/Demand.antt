@@ -7,17 +7,18 @@ use mathlib.Core.List.{List, [], _∷_, _++_}
 use lib.ListN.{take, drop, replicate}
 use Rattle.vbv.specs.Patch.{patched}
 use Rattle.vbv.specs.declared.VbvParams.{VbvParams}
+use Rattle.vbv.specs.declared.VbvViolation.{VbvViolation}
 use Rattle.rate_control.specs.Writer.{asked, coarser}
 use Rattle.rate_control.specs.Create.{create}
 use Rattle.rate_control.specs.Offer.{Offer, offer, withdraw, tail, firstDelay}
-use Rattle.rate_control.specs.Calls.{Call, Step, offered, withdrawn, run}
+use Rattle.rate_control.specs.Calls.{Call, Step, offered, withdrawn, run, final}
 use Rattle.rate_control.specs.Targets.{targets}
 use Rattle.rate_control.specs.Told.{atFirst, Asks}
 use Rattle.rate_control.specs.Sent.{Sent, sent, AllBytes, Kept}
 use Rattle.rate_control.specs.declared.CbrConfig.{CbrConfig}
 use Rattle.rate_control.specs.declared.CbrWriter.{CbrWriter}
 use Rattle.rate_control.specs.declared.CbrCreation.the-variants.{Created}
-use Rattle.rate_control.specs.declared.CbrError.the-variants.{TooLarge}
+use Rattle.rate_control.specs.declared.CbrError.the-variants.{Violation, TooLarge}
 use Rattle.rate_control.specs.declared.CbrAnswer.{CbrAnswer}
 use Rattle.rate_control.specs.declared.CbrAnswer.the-variants.{Placed, Again, Refused}
 use Rattle.rate_control.specs.declared.CbrWithdrawal.{CbrWithdrawal}
@@ -62,6 +63,9 @@ pub record Demand (c : CbrConfig) (calls : List Call) : Type 0 where
   pub each : Each (run (create c .writer) calls)
   pub quantisers : Asks (targets (create c .writer .model .params) (c .«b_between») (c .«anchors_per_gop»)) (atFirst c) (run (create c .writer) calls)
   pub first : FirstDelay (create c .writer .model .params) (sent 0 (run (create c .writer) calls))
+  -- 9 only before the first placing: an offer after these calls gets it only where none of them placed a picture
+  pub overflow : (o : Offer) (v : VbvViolation) → offer (final (create c .writer) calls) o .answer ≡ Refused (Violation v)
+      → sent 0 (run (create c .writer) calls) ≡ []
   pub kept : Kept (create c .writer .model .params) (create c .writer) calls
 
 -- what is owed
