@@ -158,13 +158,13 @@ module _ (w : CbrWriter) (o : Offer) (j : Judged) (e : j ≡ judgedFor w o) (p :
   ready : Readied w o p
   ready = readied w o p (sym e ∙ h)
 
-  pub bytes-are : p .bytes ≡ length (o .headers) + length (o .layer) + p .«stuffing_bytes» + length (tail (o .last))
+  bytes-of : p .bytes ≡ length (o .headers) + length (o .layer) + p .«stuffing_bytes» + length (tail (o .last))
   unfolding placement
-  bytes-are = rw (ready .is) (placed-size w o)
+  bytes-of = rw (ready .is) (placed-size w o)
 
-  pub placeable : Placeable w (o .kind) (length (o .layer)) p
+  placeable-of : Placeable w (o .kind) (length (o .layer)) p
   unfolding of end content placement
-  placeable =
+  placeable-of =
       let r = ready in
       let v = writer-fits (r .fitted) in
       let m = model-fits (v .model-fits) in
@@ -178,6 +178,17 @@ module _ (w : CbrWriter) (o : Offer) (j : Judged) (e : j ≡ judgedFor w o) (p :
   offered : offer w o ≡ pick (ltb (length (o .out)) (p .bytes)) (refused w Output) (placedBy w (o .kind) (length (o .layer)) (o .last) p)
   unfolding answered
   offered = sym (offer-is w o) ∙ rw (← e, h)
+
+module _ (w : CbrWriter) (headers : List ℕ) (k : PictureKind) (i : RemovalInterval) (last : Bool) (layer : List ℕ) (j : Judged)
+    (e : j ≡ judged w headers k i last layer) (p : Placement) (h : j ≡ Ready p) where
+  abbrev any-out : Offer
+  any-out = record { headers = headers; kind = k; interval = i; last = last; layer = layer; out = [] }
+
+  pub bytes-are : p .bytes ≡ length headers + length layer + p .«stuffing_bytes» + length (tail last)
+  bytes-are = bytes-of w any-out j e p h
+
+  pub placeable : Placeable w k (length layer) p
+  placeable = placeable-of w any-out j e p h
 
 -- ---- the output part
 

@@ -93,12 +93,13 @@ all-put out h l d z last r =
     (sets-append zs t (sets (sets out 0 h) (length h) p) (length h + length l) ∙ rw m)))
 
 -- the same as the code does it: the layer's part is lent, and comes back with its delay
-pub all-laid : (out h l a b y f g : List ℕ) (d z k : ℕ) (last : Bool) → length h + length l + z + length (tail last) ≤ length out
-    → a ≡ sets out 0 h → b ≡ sets a (length h) l → y ≡ patched (take k (drop (length h) b)) d
-    → f ≡ sets (take (length h) b ++ (y ++ drop k (drop (length h) b))) (length h + length l) (replicate z 0)
-    → g ≡ sets f (length h + length l + z) (tail last) → k ≡ length l
+pub all-laid : (out h l a b y f g : List ℕ) (d z : ℕ) (last : Bool) → length h + length l + z + length (tail last) ≤ length out
+    → a ≡ sets out 0 h → b ≡ sets a (length h) l → y ≡ patched (take (length h + length l - length h) (drop (length h) b)) d
+    → f ≡ sets (take (length h) b ++ (y ++ drop (length h + length l - length h) (drop (length h) b))) (length h + length l) (replicate z 0)
+    → g ≡ sets f (length h + length l + z) (tail last)
     → g ≡ over (h ++ (patched l d ++ (replicate z 0 ++ tail last))) out
-all-laid out h l a b y f g d z k last r p q u v w e =
+all-laid out h l a b y f g d z last r p q u v w =
+    let e : length h + length l - length h ≡ length l = omega arith in
     let s = sets out 0 h in
     let n : length s ≡ length out = length-sets out 0 h in
     let m : length h + length l ≤ length s = omega arith in

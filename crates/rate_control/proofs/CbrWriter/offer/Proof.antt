@@ -27,36 +27,33 @@ refused-requires-2 c κs = search needs
 
 returns : tie.Need-returns
 returns c =
-    let s = c .before .before .before .before .before .before .before .before .before in
-    offer-short (s .args .self) (record { headers = s .args .headers .now; kind = s .args .kind; interval = s .args .interval; last = s .args .last; layer = s .args .layer .now; out = s .args .out .now }) _ (c .before .before .before .before .before .judged .ensures) _ _ (c .before .before .before .placement .given .1) (omega arith) (c .refused2 .ensures)
+    let p = c .before .before .before in
+    offer-short _ _ _ (p .before .before .judged .ensures) _ _ (p .placement .given .1) (omega arith) (c .refused2 .ensures)
 
 put-placed-requires : tie.Need-put-placed-requires
 put-placed-requires c κs =
-    let s = c .before .before .before .before .before .before .before .before .before in
-    omega (arith, bytes-are (s .args .self) (record { headers = s .args .headers .now; kind = s .args .kind; interval = s .args .interval; last = s .args .last; layer = s .args .layer .now; out = s .args .out .now }) _ (c .before .before .before .before .before .judged .ensures) _ (c .before .before .before .placement .given .1))
+    let p = c .before .before .before in
+    omega (arith, bytes-are _ _ _ _ _ _ _ (p .before .before .judged .ensures) _ (p .placement .given .1))
 
 placed-requires : tie.Need-placed-requires
-placed-requires c κs =
-    let s = c .before .before .before .before .before .before .before .before .before .before .before .before in
-    placeable (s .args .self) (record { headers = s .args .headers .now; kind = s .args .kind; interval = s .args .interval; last = s .args .last; layer = s .args .layer .now; out = s .args .out .now }) _ (c .before .before .before .before .before .before .before .before .judged .ensures) _ (c .before .before .before .before .before .before .placement .given .1)
+placed-requires c κs = search (needs, placeable)
 
 returns-2 : tie.Need-returns-2
 returns-2 c =
-    let s = c .before .before .before .before .before .before .before .before in
-    offer-refused (s .args .self) (record { headers = s .args .headers .now; kind = s .args .kind; interval = s .args .interval; last = s .args .last; layer = s .args .layer .now; out = s .args .out .now }) _ (c .before .before .before .before .judged .ensures) _ _ (c .before .before .error .given .1) (c .refused .ensures)
+    let p = c .before .before in
+    offer-refused _ _ _ (p .before .before .judged .ensures) _ _ (p .error .given .1) (c .refused .ensures)
 
 returns-3 : tie.Need-returns-3
-returns-3 c =
-    let s = c .before .before .before .before .before .before .before in
-    offer-large (s .args .self) (record { headers = s .args .headers .now; kind = s .args .kind; interval = s .args .interval; last = s .args .last; layer = s .args .layer .now; out = s .args .out .now }) _ (c .before .before .before .judged .ensures) _ (c .before .enum-told .given .1) (c .too-large .ensures)
+returns-3 c = offer-large _ _ _ (c .before .before .before .judged .ensures) _ (c .before .enum-told .given .1) (c .too-large .ensures)
 
 same-length : tie.Need-same-length
 same-length c = search needs
 
 returns-4 : tie.Need-returns-4
 returns-4 c =
-    let s = c .before .before .before .before .before .before .before .before .before .before .before .before .before in
-    offer-placed (s .args .self) (record { headers = s .args .headers .now; kind = s .args .kind; interval = s .args .interval; last = s .args .last; layer = s .args .layer .now; out = s .args .out .now }) _ (c .before .before .before .before .before .before .before .before .before .judged .ensures) _ _ (c .before .before .before .before .before .before .before .placement .given .1) _ (omega arith) (c .placed .ensures) (c .before .before .before .put-placed .ensures)
+    let o = c .before .before .before in
+    let p = o .before .before .before .before in
+    offer-placed _ _ _ (p .before .before .judged .ensures) _ _ (p .placement .given .1) _ (omega arith) (c .placed .ensures) (o .put-placed .ensures)
 
 pub offer-spec : {M : Type 1} → statement M
 offer-spec =

@@ -1,6 +1,3 @@
-use Prim.Native.Nat.{_+_, _-_}
-use lib.ListN.{length}
-use native.Mathlib.Omega.{arith}
 use Rattle.rate_control.proofs.Storage.{all-laid}
 use borrow.Author.Needs.{needs}
 use Rattle.rate_control.proofs.output.put_placed.Statement.{statement}
@@ -41,9 +38,14 @@ same-length c = search needs
 
 returns : tie.Need-returns
 returns c =
-    let s = c .before .before .before .before .before .before .before .before .before .before .before .before .before .before .before .before .before .before .before .before .before .before .before in
-    all-laid (s .args .out .now) (s .args .headers .now) (s .args .layer .now) _ _ _ _ _ (s .args .vbv-delay) (s .args .zeros) (length (s .args .headers .now) + length (s .args .layer .now) - length (s .args .headers .now)) (s .args .last) (s .pre) (c .before .before .before .before .before .before .before .before .before .before .before .before .before .before .before .before .before .before .put .ensures) (c .before .before .before .before .before .before .before .before .before .before .before .before .before .before .put2 .ensures)
-    (c .before .before .before .before .before .before .before .before .before .before .patch-vbv-delay .ensures .1) (c .before .before .before .before .before .before .put-zeros .ensures) (c .before .before .put-end .ensures) (omega arith)
+    let e = c .before .before in
+    let z = e .before .before .before .before in
+    let p = z .before .before .before .before in
+    let l = p .before .before .before .before in
+    let h = l .before .before .before .before in
+    let s = h .before .before .before .before .before in
+    all-laid (s .args .out .now) (s .args .headers .now) (s .args .layer .now) _ _ _ _ _ (s .args .vbv-delay) (s .args .zeros) _ (s .pre) (h .put .ensures) (l .put2 .ensures)
+    (p .patch-vbv-delay .ensures .1) (z .put-zeros .ensures) (e .put-end .ensures)
 
 pub put-placed-spec : {M : Type 1} → statement M
 put-placed-spec =
