@@ -24,6 +24,13 @@ every-at f [] i h l = absurd (omega arith)
 every-at f (x ∷ xs) zero h l = both-true (f x) (every f xs) h .0
 every-at f (x ∷ xs) (suc i) h l = every-at f xs i (both-true (f x) (every f xs) h .1) (omega arith)
 
+-- at any place, where the test holds of 0
+pub every-get : (f : ℕ → Bool) (xs : List ℕ) (i : ℕ) → f 0 ≡ true → every f xs ≡ true → f (getD xs i 0) ≡ true
+unfolding every
+every-get f [] i z h = z
+every-get f (x ∷ xs) zero z h = both-true (f x) (every f xs) h .0
+every-get f (x ∷ xs) (suc i) z h = every-get f xs i z (both-true (f x) (every f xs) h .1)
+
 pub every-set : (f : ℕ → Bool) (xs : List ℕ) (i x : ℕ) → every f xs ≡ true → f x ≡ true → every f (set xs i x) ≡ true
 unfolding every
 every-set f [] i x h g = h

@@ -80,8 +80,8 @@ placement w o = record {
   «stuffing_bytes» = stuffing w o;
 }
 
-unfoldable pub told : CbrWriter → Offer → Judged
-told w o =
+unfoldable pub measuredFor : CbrWriter → Offer → Judged
+measuredFor w o =
     pick (ltb (2 ^ 48) (position w o) || ltb (2 ^ 48) (end w o)) (Refused (Model Range))
     (pick (early (w .model .params) (position w o) (deliveredAt w o)) (Refused (Model Early))
     (pick (overflows (w .model .params) (w .model .«prev_end_bits») (deliveredAt w o)) (Refused (Violation (Overflow (w .model .removed) 0 0)))
@@ -231,7 +231,7 @@ module _ (w : CbrWriter) (o : Offer) (f : writerFits w ≡ true) (n : VbvCbrMode
   unfolding content
   inside = omega arith
 
-  -- in time and no overflow: the delay can be told
+  -- in time and no overflow: the delay can be measuredFor
   ready-told : position w o ≤ 2 ^ 48 → early p (position w o) (deliveredAt w o) ≡ false
       → overflows p (w .model .«prev_end_bits») (deliveredAt w o) ≡ false
       → byDelay (afterRemoval (w .model) (end w o) (deliveredNext w o)) x (stuffing w o) (delayForPicture n (position w o)) ≡ Ready (placement w o)
@@ -266,8 +266,8 @@ module _ (w : CbrWriter) (o : Offer) (f : writerFits w ≡ true) (n : VbvCbrMode
         (λ h9. through (bySize n x z i) _ _ _ _ _ (size-under n x z i _ _ _)
         (λ size. size-model n x z i _ ∙ rw (end-same w o) (end-told t h9)))
 
-    pub position-told : byMost n x (stuffing w o) (o .interval) (maxEndBits n) ≡ told w o
-    unfolding told
+    pub position-told : byMost n x (stuffing w o) (o .interval) (maxEndBits n) ≡ measuredFor w o
+    unfolding measuredFor
     position-told =
         rw most-told
         (most-case n x (stuffing w o) (o .interval) _
@@ -277,29 +277,29 @@ module _ (w : CbrWriter) (o : Offer) (f : writerFits w ≡ true) (n : VbvCbrMode
 -- ---- 14
 
 module _ (w : CbrWriter) (o : Offer) where
-  far-told : 281474976710656 < max (position w o) (end w o) → Refused (Model Range) ≡ told w o
-  unfolding told
+  far-told : 281474976710656 < max (position w o) (end w o) → Refused (Model Range) ≡ measuredFor w o
+  unfolding measuredFor
   far-told h = sym (one _ _ _ (either (position w o) (end w o) h))
 
   module _ (f : writerFits w ≡ true) where
-    zeros-told : (n : VbvCbrModel) → Begun w o n → position w o ≤ 2 ^ 48 → withZeros n (extent w o) (o .interval) (stuffing w o) ≡ told w o
+    zeros-told : (n : VbvCbrModel) → Begun w o n → position w o ≤ 2 ^ 48 → withZeros n (extent w o) (o .interval) (stuffing w o) ≡ measuredFor w o
     unfolding withZeros
     zeros-told n b near = go (ltb (2 ^ 45) (stuffing w o)) refl
       where
         near-end : (t : Bool) → ltb (2 ^ 48) (content w o + 8 * stuffing w o) ≡ t
             → pick (ltb (2 ^ 48) (content w o + 8 * stuffing w o)) (Refused (Model Range)) (byMost n (extent w o) (stuffing w o) (o .interval) (maxEndBits n))
-            ≡ told w o
+            ≡ measuredFor w o
         near-end true e = let l = ltb-true (2 ^ 48) (content w o + 8 * stuffing w o) e in one _ _ _ e ∙ far-told (omega (arith, end-same w o))
         near-end false e =
             let l = ltb-false (2 ^ 48) (content w o + 8 * stuffing w o) e in
             other _ _ _ e ∙ position-told w o f n b near (omega (arith, end-same w o))
 
-        go : (t : Bool) → ltb (2 ^ 45) (stuffing w o) ≡ t → withZeros n (extent w o) (o .interval) (stuffing w o) ≡ told w o
+        go : (t : Bool) → ltb (2 ^ 45) (stuffing w o) ≡ t → withZeros n (extent w o) (o .interval) (stuffing w o) ≡ measuredFor w o
         go true e = let l = ltb-true (2 ^ 45) (stuffing w o) e in one _ _ _ e ∙ far-told (omega (arith, end-same w o))
         go false e = other _ _ _ e ∙ near-end (ltb (2 ^ 48) (content w o + 8 * stuffing w o)) refl
 
     start-told : position w o ≤ 2 ^ 48
-        → byStart (extent w o) (o .interval) (o .last) (startedAt (w .model) (position w o)) ≡ told w o
+        → byStart (extent w o) (o .interval) (o .last) (startedAt (w .model) (position w o)) ≡ measuredFor w o
     unfolding byStart byLeast zeros stuffing
     start-told near =
         let g = begin w o f near in
@@ -309,14 +309,14 @@ module _ (w : CbrWriter) (o : Offer) where
     unfolding position content
     bytes-far h = omega (arith, end-same w o)
 
-    pub measured-is : measured (w .model) (length (o .headers)) (length (o .layer)) (o .interval) (o .last) ≡ told w o
+    pub measured-is : measured (w .model) (length (o .headers)) (length (o .layer)) (o .interval) (o .last) ≡ measuredFor w o
     unfolding measured within14
     measured-is = rw (extent-is w o) (go (ltb (2 ^ 45) (max (length (o .headers)) (length (o .layer)))) refl)
       where
         near : (t : Bool) → ltb (2 ^ 48) (max (position w o) (content w o)) ≡ t
             → pick (ltb (2 ^ 48) (max (position w o) (content w o))) (Refused (Model Range))
             (byStart (extent w o) (o .interval) (o .last) (startedAt (w .model) (position w o)))
-            ≡ told w o
+            ≡ measuredFor w o
         near true e = let l = ltb-true (2 ^ 48) (max (position w o) (content w o)) e in one _ _ _ e ∙ far-told (omega (arith, end-same w o))
         near false e = let l = ltb-false (2 ^ 48) (max (position w o) (content w o)) e in other _ _ _ e ∙ start-told (omega arith)
 
@@ -324,6 +324,6 @@ module _ (w : CbrWriter) (o : Offer) where
             → pick (ltb (2 ^ 45) (max (length (o .headers)) (length (o .layer)))) (Refused (Model Range))
             (pick (ltb (2 ^ 48) (max (position w o) (content w o))) (Refused (Model Range))
             (byStart (extent w o) (o .interval) (o .last) (startedAt (w .model) (position w o))))
-            ≡ told w o
+            ≡ measuredFor w o
         go true e = one _ _ _ e ∙ far-told (bytes-far (ltb-true _ _ e))
         go false e = other _ _ _ e ∙ near (ltb (2 ^ 48) (max (position w o) (content w o))) refl

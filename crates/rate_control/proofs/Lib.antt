@@ -14,7 +14,6 @@ pub mod Removing
 pub mod Totals
 pub mod Sending
 pub mod Accepted
-pub mod Theorem
 pub mod Figures
 pub mod Lists
 pub mod Each

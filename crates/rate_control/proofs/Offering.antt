@@ -2,15 +2,14 @@
 -- Assumes nothing.
 use mathlib.Core.Path.{_≡_, refl, sym, ap, _∙_}
 use mathlib.Core.Bool.{Bool, true, false, not, _||_, true≢false}
-use mathlib.Core.List.{List, [], _∷_, _++_}
-use Prim.Native.Nat.{ℕ, zero, suc, _+_, _^_, _≤_, _<_}
+use mathlib.Core.List.{List, [], _++_}
+use Prim.Native.Nat.{ℕ, _+_, _^_, _≤_, _<_}
 use native.Mathlib.Omega.{arith}
 use lib.Dec.{leb, ltb, eqb}
-use lib.ListN.{length, getD, replicate}
+use lib.ListN.{length, replicate}
 use borrow.Author.Tests.{leb-true, lt-ltb, le-ltb, ltb-false, not-false}
 use Rattle.bits.specs.Bits.{pick}
 use Rattle.bits.specs.Answers.{over}
-use Rattle.bits.proofs.Reading.{both-true}
 use Rattle.vbv.specs.Steps.{ModelFits}
 use Rattle.vbv.specs.Patch.{patched}
 use Rattle.vbv.specs.declared.RemovalInterval.{RemovalInterval}
@@ -20,7 +19,7 @@ use Rattle.vbv.proofs.Picks.{yes, no, was-no}
 use Rattle.layers.specs.declared.PictureKind.{PictureKind}
 use Rattle.layers.specs.Headers.{headersFit}
 use Rattle.layers.specs.Layer.{layerFits}
-use Rattle.rate_control.specs.Writer.{writerFits, every, index, of, clashes, asked}
+use Rattle.rate_control.specs.Writer.{writerFits, index, of, clashes, asked}
 use Rattle.rate_control.specs.Offer.{Offer, position, content, end, stuffing, tail, placedBytes, refused, tooLarge, placed, offer, outOf, outAfter}
 use Rattle.rate_control.specs.Steps.{measured, judged, Placeable, placedBy}
 use Rattle.rate_control.specs.declared.CbrWriter.{CbrWriter}
@@ -31,9 +30,9 @@ use Rattle.rate_control.specs.declared.Placement.{Placement}
 use Rattle.rate_control.specs.declared.Judged.{Judged}
 use Rattle.rate_control.specs.declared.Judged.the-variants.{Refused, TooLarge, Ready}
 use Rattle.rate_control.proofs.Chain.{or-right}
-use Rattle.rate_control.proofs.Fitting.{writer-fits}
+use Rattle.rate_control.proofs.Fitting.{every-get, writer-fits}
 use Rattle.rate_control.proofs.Placing.{placed-size}
-use Rattle.rate_control.proofs.Judging.{through, placement, told, measured-is}
+use Rattle.rate_control.proofs.Judging.{through, placement, measuredFor, measured-is}
 
 -- ---- the tests
 
@@ -98,7 +97,7 @@ module _ (w : CbrWriter) (o : Offer) where
   answered-ready = ap (pick (ltb (length (o .out)) (length (placedBytes w o))) (refused w Output)) placed-by
 
   offer-is : answered w o (judgedFor w o) ≡ offer w o
-  unfolding judged offer told
+  unfolding judged offer measuredFor
   offer-is =
       let a = answered w o in
       through a _ _ _ _ _ (answered-no _) λ h12.
@@ -127,7 +126,7 @@ record Readied (w : CbrWriter) (o : Offer) (p : Placement) : Type 0 where
   is : p ≡ placement w o
 
 readied : (w : CbrWriter) (o : Offer) (p : Placement) → judgedFor w o ≡ Ready p → Readied w o p
-unfolding judged told
+unfolding judged measuredFor
 readied w o p h =
     let a = was-no _ _ _ not-ready h in
     let b = was-no _ _ _ not-ready (a .1) in
@@ -147,12 +146,6 @@ readied w o p h =
   where
     ready-same : (x y : Placement) → Ready x ≡ Ready y → x ≡ y
     ready-same x y e = cc
-
-every-get : (f : ℕ → Bool) (xs : List ℕ) (i : ℕ) → f 0 ≡ true → every f xs ≡ true → f (getD xs i 0) ≡ true
-unfolding every
-every-get f [] i z h = z
-every-get f (x ∷ xs) zero z h = both-true (f x) (every f xs) h .0
-every-get f (x ∷ xs) (suc i) z h = every-get f xs i z (both-true (f x) (every f xs) h .1)
 
 module _ (w : CbrWriter) (o : Offer) (j : Judged) (e : j ≡ judgedFor w o) (p : Placement) (h : j ≡ Ready p) where
   ready : Readied w o p

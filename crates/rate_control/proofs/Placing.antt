@@ -1,10 +1,10 @@
 -- The numbers of a placing: bits delivered, stuffing, end and delay, by Annex C's laws, and the output part that always has room for it.
 -- Assumes nothing.
 use mathlib.Core.Path.{_≡_, sym, _∙_}
-use mathlib.Core.Bool.{Bool, true, false}
+use mathlib.Core.Bool.{true, false}
 use mathlib.Core.List.{List, _++_}
 use mathlib.Core.Logic.{_↔_}
-use Prim.Native.Nat.{ℕ, _+_, _*_, _≤_}
+use Prim.Native.Nat.{ℕ, _+_, _-_, _*_, _/_, _≤_}
 use native.Mathlib.Omega.{arith}
 use native.Mathlib.Nat.{le-of-mul-le-mul-right}
 use lib.ListN.{length, length-append, length-replicate, replicate}
@@ -24,15 +24,6 @@ use Rattle.rate_control.specs.declared.CbrError.the-variants.{Output}
 use Rattle.rate_control.specs.declared.CbrAnswer.the-variants.{Refused}
 use Rattle.rate_control.proofs.Fitting.{writer-fits}
 use Rattle.rate_control.proofs.Chain.{Placing, no-room, Refusal, because, refusal}
-
--- the other of two, below a bound
-other-le : (b : Bool) (x y k : ℕ) → b ≡ false → pick b x y ≤ k → y ≤ k
-unfolding pick
-other-le b x y k e h = rw e at (h)
-
-le-other : (b : Bool) (x y k : ℕ) → b ≡ false → y ≤ k → pick b x y ≤ k
-unfolding pick
-le-other b x y k e h = rw e h
 
 module _ (w : CbrWriter) (o : Offer) where
   -- ---- bits delivered
@@ -68,26 +59,28 @@ module _ (w : CbrWriter) (o : Offer) where
   unfolding stuffing pick
   stuffing-last e = rw e
 
+  stuffing-other : o .last ≡ false → stuffing w o ≡ (leastEnd (w .model .params) (deliveredNext w o) - content w o + 7) / 8
+  unfolding stuffing pick
+  stuffing-other e = rw e
+
   module _ (f : paramsFit (w .model .params) ≡ true) (e : o .last ≡ false) where
     abbrev p : VbvParams
     p = w .model .params
 
     -- so many zero bytes, and no fewer, keep the next removal from overflow
     pub stuffing-least : (k : ℕ) → (stuffing w o ≤ k) ↔ (deliveredNext w o ≤ (content w o + 8 * k + p .«buffer_size_bits») * unit p)
-    unfolding stuffing
     stuffing-least k = (there, back)
       where
         there : stuffing w o ≤ k → deliveredNext w o ≤ (content w o + 8 * k + p .«buffer_size_bits») * unit p
         there a =
-            let b = other-le (o .last) _ _ k e a in
-            let l : leastEnd p (deliveredNext w o) ≤ content w o + 8 * k = omega arith in
+            let l : leastEnd p (deliveredNext w o) ≤ content w o + 8 * k = omega (arith, stuffing-other e) in
             over-units p _ _ (least-end p f (content w o + 8 * k) (deliveredNext w o) ∙ le-ltb _ _ l)
 
         back : deliveredNext w o ≤ (content w o + 8 * k + p .«buffer_size_bits») * unit p → stuffing w o ≤ k
         back a =
             let l : leastEnd p (deliveredNext w o) ≤ content w o + 8 * k
             = ltb-false _ _ (sym (least-end p f (content w o + 8 * k) (deliveredNext w o)) ∙ units-over p _ _ a) in
-            le-other (o .last) _ _ k e (omega arith)
+            omega (arith, stuffing-other e)
 
     pub next-room : overflows p (end w o) (deliveredNext w o) ≡ false
     unfolding end

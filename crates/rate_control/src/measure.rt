@@ -23,6 +23,7 @@ use vbv::VbvViolation;
 // Positions and ends go up to 2^48 bits.
 const FAR: u64 = 281474976710656;
 
+// More bytes than these pass it.
 const FAR_BYTES: u64 = 35184372088832;
 
 // Three quarters of the buffer.
@@ -131,7 +132,7 @@ fn removed(model: VbvCbrModel, extent: Extent, zeros: u64, interval: RemovalInte
     }
 }
 
-// 14 of the end.
+// 14 of the stuffed end, and what follows.
 fn ended(model: VbvCbrModel, extent: Extent, interval: RemovalInterval, last: bool) -> Judged
     requires { ⌜ extent .content ≤ 2 ^ 48 ⌝ }
     requires { ⌜ extent .bytes ≤ 2 ^ 48 ⌝ }
@@ -164,7 +165,7 @@ fn tail_bytes(last: bool) -> u64
     if last { 4 } else { 0 }
 }
 
-// 14 of the position, and what follows.
+// 14 of the position and of the end without stuffing, and what follows.
 pub(crate) fn measured(
     model: VbvCbrModel,
     headers: u64,
