@@ -5,14 +5,14 @@ use mathlib.Core.Bool.{Bool, true, false}
 use mathlib.Core.List.{List, [], _∷_, _++_, append-assoc}
 use Prim.Native.Nat.{ℕ, zero, suc, _+_, _-_, _≤_, _<_}
 use native.Mathlib.Omega.{arith}
-use native.Mathlib.Nat.{add-zero, add-suc, suc-add}
 use native.Mathlib.Numerals.{add-one}
-use lib.ListN.{length, getD, take, drop, set, replicate, length-append, length-replicate}
+use lib.ListN.{length, getD, take, drop, set, replicate, drop-of-length-le, length-append, length-replicate}
 use lib.Seq.{sets, sets-eq, length-sets, drop-cons, take-at, drop-at, length-take-le}
 use Rattle.bits.specs.Answers.{over}
 use Rattle.bits.proofs.Over.{over-sets}
 use Rattle.vbv.specs.Patch.{patched}
 use Rattle.vbv.proofs.After.{patched-size}
+use Rattle.verify.proofs.Storing.{sets-append}
 use Rattle.rate_control.specs.Offer.{tail}
 
 -- one byte more
@@ -23,13 +23,7 @@ put-step out bytes at k h =
     rw (e, add-one k, drop-cons bytes k 0 h)
 
 pub put-done : (out bytes : List ℕ) (at k : ℕ) → length bytes ≤ k → sets out at (drop k bytes) ≡ out
-put-done out bytes at k h = ap (sets out at) (drop-past bytes k h)
-  where
-    drop-past : (s : List ℕ) (n : ℕ) → length s ≤ n → drop n s ≡ []
-    drop-past [] zero l = refl
-    drop-past [] (suc n) l = refl
-    drop-past (b ∷ s) zero l = absurd (omega arith)
-    drop-past (b ∷ s) (suc n) l = drop-past s n (omega arith)
+put-done out bytes at k h = ap (sets out at) (drop-of-length-le bytes h)
 
 pub zeros-step : (out : List ℕ) (k left : ℕ) → 0 < left → sets (set out k 0) (k + 1) (replicate (left - 1) 0) ≡ sets out k (replicate left 0)
 zeros-step out k zero h = absurd (omega arith)
@@ -51,11 +45,6 @@ end-none out at last h = rw h
 pub end-size : (last : Bool) → last ≡ true → length (tail last) ≡ 4
 unfolding tail
 end-size last h = rw h
-
--- one run behind another
-sets-append : (x y out : List ℕ) (k : ℕ) → sets out k (x ++ y) ≡ sets (sets out k x) (k + length x) y
-sets-append [] y out k = rw (add-zero k)
-sets-append (b ∷ x) y out k = rw (add-suc k (length x), ← suc-add k (length x)) (sets-append x y (set out k b) (suc k))
 
 -- a run over another one of its length, in its place: what a part lent becomes
 module _ (s x y : List ℕ) (a : ℕ) (h : a + length x ≤ length s) (l : length y ≡ length x) where
