@@ -34,6 +34,7 @@ use Rattle.rate_control.specs.declared.Extent.{Extent}
 use Rattle.rate_control.specs.declared.Placement.{Placement}
 use Rattle.rate_control.specs.declared.Judged.{Judged}
 use Rattle.rate_control.specs.declared.Judged.the-variants.{Refused, TooLarge, Ready}
+use Rattle.rate_control.proofs.Chain.{pick-elim}
 use Rattle.rate_control.proofs.Fitting.{writer-fits}
 use Rattle.rate_control.proofs.Placing.{delivered-later, delivered-first, placed-size}
 use Rattle.rate_control.proofs.Ways.{first-low}
@@ -277,6 +278,9 @@ module _ (w : CbrWriter) (o : Offer) (f : writerFits w ≡ true) (n : VbvCbrMode
 -- ---- 14
 
 module _ (w : CbrWriter) (o : Offer) where
+  abbrev Same : Judged → Type 0
+  Same j = j ≡ measuredFor w o
+
   far-told : 281474976710656 < max (position w o) (end w o) → Refused (Model Range) ≡ measuredFor w o
   unfolding measuredFor
   far-told h = sym (one _ _ _ (either (position w o) (end w o) h))
@@ -284,19 +288,10 @@ module _ (w : CbrWriter) (o : Offer) where
   module _ (f : writerFits w ≡ true) where
     zeros-told : (n : VbvCbrModel) → Begun w o n → position w o ≤ 2 ^ 48 → withZeros n (extent w o) (o .interval) (stuffing w o) ≡ measuredFor w o
     unfolding withZeros
-    zeros-told n b near = go (ltb (2 ^ 45) (stuffing w o)) refl
-      where
-        near-end : (t : Bool) → ltb (2 ^ 48) (content w o + 8 * stuffing w o) ≡ t
-            → pick (ltb (2 ^ 48) (content w o + 8 * stuffing w o)) (Refused (Model Range)) (byMost n (extent w o) (stuffing w o) (o .interval) (maxEndBits n))
-            ≡ measuredFor w o
-        near-end true e = let l = ltb-true (2 ^ 48) (content w o + 8 * stuffing w o) e in one _ _ _ e ∙ far-told (omega (arith, end-same w o))
-        near-end false e =
-            let l = ltb-false (2 ^ 48) (content w o + 8 * stuffing w o) e in
-            other _ _ _ e ∙ position-told w o f n b near (omega (arith, end-same w o))
-
-        go : (t : Bool) → ltb (2 ^ 45) (stuffing w o) ≡ t → withZeros n (extent w o) (o .interval) (stuffing w o) ≡ measuredFor w o
-        go true e = let l = ltb-true (2 ^ 45) (stuffing w o) e in one _ _ _ e ∙ far-told (omega (arith, end-same w o))
-        go false e = other _ _ _ e ∙ near-end (ltb (2 ^ 48) (content w o + 8 * stuffing w o)) refl
+    zeros-told n b near =
+        pick-elim Same _ (λ e. far-told (omega (arith, ltb-true (2 ^ 45) (stuffing w o) e, end-same w o))) λ z.
+        pick-elim Same _ (λ e. far-told (omega (arith, ltb-true (2 ^ 48) (content w o + 8 * stuffing w o) e, end-same w o))) λ e.
+        position-told w o f n b near (omega (arith, ltb-false (2 ^ 48) (content w o + 8 * stuffing w o) e, end-same w o))
 
     start-told : position w o ≤ 2 ^ 48
         → byStart (extent w o) (o .interval) (o .last) (startedAt (w .model) (position w o)) ≡ measuredFor w o
@@ -311,19 +306,8 @@ module _ (w : CbrWriter) (o : Offer) where
 
     pub measured-is : measured (w .model) (length (o .headers)) (length (o .layer)) (o .interval) (o .last) ≡ measuredFor w o
     unfolding measured within14
-    measured-is = rw (extent-is w o) (go (ltb (2 ^ 45) (max (length (o .headers)) (length (o .layer)))) refl)
-      where
-        near : (t : Bool) → ltb (2 ^ 48) (max (position w o) (content w o)) ≡ t
-            → pick (ltb (2 ^ 48) (max (position w o) (content w o))) (Refused (Model Range))
-            (byStart (extent w o) (o .interval) (o .last) (startedAt (w .model) (position w o)))
-            ≡ measuredFor w o
-        near true e = let l = ltb-true (2 ^ 48) (max (position w o) (content w o)) e in one _ _ _ e ∙ far-told (omega (arith, end-same w o))
-        near false e = let l = ltb-false (2 ^ 48) (max (position w o) (content w o)) e in other _ _ _ e ∙ start-told (omega arith)
-
-        go : (t : Bool) → ltb (2 ^ 45) (max (length (o .headers)) (length (o .layer))) ≡ t
-            → pick (ltb (2 ^ 45) (max (length (o .headers)) (length (o .layer)))) (Refused (Model Range))
-            (pick (ltb (2 ^ 48) (max (position w o) (content w o))) (Refused (Model Range))
-            (byStart (extent w o) (o .interval) (o .last) (startedAt (w .model) (position w o))))
-            ≡ measuredFor w o
-        go true e = one _ _ _ e ∙ far-told (bytes-far (ltb-true _ _ e))
-        go false e = other _ _ _ e ∙ near (ltb (2 ^ 48) (max (position w o) (content w o))) refl
+    measured-is =
+        rw (extent-is w o)
+        (pick-elim Same _ (λ e. far-told (bytes-far (ltb-true _ _ e))) λ b.
+        pick-elim Same _ (λ e. far-told (omega (arith, ltb-true (2 ^ 48) (max (position w o) (content w o)) e, end-same w o))) λ e.
+        start-told (omega (arith, ltb-false (2 ^ 48) (max (position w o) (content w o)) e)))

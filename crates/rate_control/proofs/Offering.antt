@@ -29,7 +29,7 @@ use Rattle.rate_control.specs.declared.CbrOffered.{CbrOffered}
 use Rattle.rate_control.specs.declared.Placement.{Placement}
 use Rattle.rate_control.specs.declared.Judged.{Judged}
 use Rattle.rate_control.specs.declared.Judged.the-variants.{Refused, TooLarge, Ready}
-use Rattle.rate_control.proofs.Chain.{or-right}
+use Rattle.rate_control.proofs.Chain.{pick-elim, or-right}
 use Rattle.rate_control.proofs.Fitting.{every-get, writer-fits}
 use Rattle.rate_control.proofs.Placing.{placed-size}
 use Rattle.rate_control.proofs.Judging.{through, placement, measuredFor, measured-is}
@@ -190,12 +190,9 @@ unfolding outAfter refused outOf
 out-refused w o e h = rw h
 
 out-large : (w : CbrWriter) (o : Offer) (k : PictureKind) (q : ℕ) → offer w o ≡ tooLarge w k q → o .out ≡ outAfter w o
-unfolding outAfter tooLarge outOf pick
-out-large w o k q h = go (eqb q 31) refl
-  where
-    go : (t : Bool) → eqb q 31 ≡ t → o .out ≡ outAfter w o
-    go true e = rw (h, e)
-    go false e = rw (h, e)
+unfolding outAfter tooLarge outOf
+out-large w o k q h =
+    rw h (pick-elim (λ (r : CbrOffered). o .out ≡ outOf (r .answer) (placedBytes w o) (o .out)) (eqb q 31) (λ e. refl) (λ e. refl))
 
 out-placed : (w : CbrWriter) (o : Offer) (q : ℕ) → offer w o ≡ placed w o q → over (placedBytes w o) (o .out) ≡ outAfter w o
 unfolding outAfter placed outOf

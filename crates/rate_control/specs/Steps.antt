@@ -1,4 +1,4 @@
--- The writer as the code goes: the promises of the private functions. proofs/Judging.antt says that they come to specs/Offer.antt.
+-- The writer as the code goes: the promises of the private functions. proofs/Judging and proofs/Offering say that they come to specs/Offer.
 -- Assumes nothing.
 use Prim.Native.Nat.{ℕ, _+_, _-_, _*_, _/_, _^_, _≤_, max}
 use mathlib.Core.Bool.{Bool, not, _||_}
