@@ -17,8 +17,8 @@ use Rattle.rate_control.specs.declared.CbrWriter.{CbrWriter}
 use Rattle.rate_control.specs.declared.CbrCreation.{CbrCreation}
 use Rattle.rate_control.specs.declared.CbrCreation.the-variants.{Created, Refused}
 use Rattle.rate_control.proofs.Demand.{demand}
-use Rattle.rate_control.proofs.Lists.{run-append}
-use Rattle.rate_control.proofs.Keeping.{run-none, run-one, final-none, final-one, final-append, after-offer, after-withdrawal, Whole, created-whole, after-whole, final-whole}
+use Rattle.rate_control.proofs.Lists.{run-none, run-one, run-append, final-none, final-one, final-append, after-offer, after-withdrawal}
+use Rattle.rate_control.proofs.Keeping.{Whole, created-whole, after-whole, final-whole}
 use Rattle.layout.specs.State.{stateBytes, stateFits, writerAt}
 use Rattle.layout.specs.Words.{laid}
 use Rattle.layout.proofs.RoundTrip.{read-put, length-state, laid-laid}

@@ -1,11 +1,9 @@
 -- Every refusal has a number: 0 from the check says that the stream is accepted, 0 from a creation that there is a state.
 -- Assumes nothing.
 use mathlib.Core.Path.{_≡_, refl, subst}
-use mathlib.Core.Bool.{Bool, true, false}
 use Prim.Native.Nat.{ℕ, _≤_}
 use mathlib.Core.List.{List}
 use native.Mathlib.Omega.{arith}
-use Rattle.bits.specs.Bits.{pick}
 use Rattle.headers.specs.Answers.{errorNumber}
 use Rattle.headers.specs.declared.Error.{Error}
 use Rattle.headers.specs.declared.Error.the-variants as h
@@ -24,6 +22,7 @@ use Rattle.verify.specs.declared.VbvVerifyError.the-variants.{Parse, Model, NoS
 use Rattle.rate_control.specs.Answers.{refusalOf as sentRefusal}
 use Rattle.rate_control.specs.declared.CbrError.{CbrError}
 use Rattle.rate_control.specs.declared.CbrError.the-variants as s
+use Rattle.rate_control.proofs.Chain.{pick-elim}
 use Rattle.hipokuta.specs.Check.{Checked, refused, reported, answered, judged, checked}
 
 header-number : (e : Error) → 1 ≤ errorNumber e
@@ -60,36 +59,27 @@ error-number VariableRate = omega arith
 error-number RecordPlaces = omega arith
 error-number (Violation v) = violation-range v .0
 
-pub offer-number : (e : CbrError) → 1 ≤ sentRefusal e .number
-offer-number (s.Model e) = model-number e
-offer-number (s.Violation v) = violation-range v .0
-offer-number s.Kind = omega arith
-offer-number s.Headers = omega arith
-offer-number s.Layer = omega arith
-offer-number s.TooLarge = omega arith
-offer-number s.Stuffing = omega arith
-offer-number s.Output = omega arith
+-- the numbers of an offer's refusals: no 0; 19 is the output part's alone, and 21 the size's
+offer-range : (e : CbrError) → (1 ≤ sentRefusal e .number) × (sentRefusal e .number ≡ 19 → e ≡ s.Output) × (sentRefusal e .number ≡ 21 → e ≡ s.TooLarge)
+offer-range (s.Model e) = let m = model-range e in (m .0, λ h. absurd (m .1 h), λ h. absurd (omega (arith, m .2)))
+offer-range (s.Violation v) =
+    let m = violation-range v in
+    (m .0, λ h. absurd (omega (arith, m .1)), λ h. absurd (omega (arith, m .1)))
+offer-range s.Kind = (omega arith, λ h. absurd (omega arith), λ h. absurd (omega arith))
+offer-range s.Headers = (omega arith, λ h. absurd (omega arith), λ h. absurd (omega arith))
+offer-range s.Layer = (omega arith, λ h. absurd (omega arith), λ h. absurd (omega arith))
+offer-range s.TooLarge = (omega arith, λ h. absurd (omega arith), λ h. refl)
+offer-range s.Stuffing = (omega arith, λ h. absurd (omega arith), λ h. absurd (omega arith))
+offer-range s.Output = (omega arith, λ h. refl, λ h. absurd (omega arith))
 
--- 19 of an offer is the output part, and 21 the size
+pub offer-number : (e : CbrError) → 1 ≤ sentRefusal e .number
+offer-number e = offer-range e .0
+
 pub only-output : (e : CbrError) → sentRefusal e .number ≡ 19 → e ≡ s.Output
-only-output (s.Model e) h = absurd (model-range e .1 h)
-only-output (s.Violation v) h = absurd (omega (arith, violation-range v .1))
-only-output s.Kind h = absurd (omega arith)
-only-output s.Headers h = absurd (omega arith)
-only-output s.Layer h = absurd (omega arith)
-only-output s.TooLarge h = absurd (omega arith)
-only-output s.Stuffing h = absurd (omega arith)
-only-output s.Output h = refl
+only-output e = offer-range e .1
 
 pub only-size : (e : CbrError) → sentRefusal e .number ≡ 21 → e ≡ s.TooLarge
-only-size (s.Model e) h = absurd (omega (arith, model-range e .2))
-only-size (s.Violation v) h = absurd (omega (arith, violation-range v .1))
-only-size s.Kind h = absurd (omega arith)
-only-size s.Headers h = absurd (omega arith)
-only-size s.Layer h = absurd (omega arith)
-only-size s.TooLarge h = refl
-only-size s.Stuffing h = absurd (omega arith)
-only-size s.Output h = absurd (omega arith)
+only-size e = offer-range e .2
 
 -- ---- the check
 
@@ -102,17 +92,12 @@ unfolding answered
 answer-numbered (Refused e) rs = error-number e
 answer-numbered (Report r) rs = tt
 
-pick-numbered : (t : Bool) (a b : Checked) → Numbered a → Numbered b → Numbered (pick t a b)
-unfolding pick
-pick-numbered true a b x y = x
-pick-numbered false a b x y = y
-
 numbered : (s : List ℕ) (standard : ℕ) (report recs refusal : List ℕ) → Numbered (checked s standard report recs refusal)
 unfolding checked judged
 numbered s standard report recs refusal =
-    pick-numbered _ _ _
-    (pick-numbered _ _ _ (answer-numbered _ _) (pick-numbered _ _ _ (answer-numbered _ _) (omega arith)))
-    (omega arith)
+    pick-elim Numbered _
+    (λ e. pick-elim Numbered _ (λ e. answer-numbered _ _) (λ e. pick-elim Numbered _ (λ e. answer-numbered _ _) (λ e. omega arith)))
+    (λ e. omega arith)
 
 pub refusal-number : (s : List ℕ) (standard : ℕ) (report recs refusal : List ℕ) (r : VbvRefusal) → checked s standard report recs refusal ≡ refused r
     → 1 ≤ r .number

@@ -1,14 +1,15 @@
 -- What a refused call leaves: state and output part as they were, but that 21 closes the pending picture; and the output part that has room for every picture.
 -- Assumes nothing.
-use mathlib.Core.Path.{_≡_, refl, ap, _∙_}
+use mathlib.Core.Path.{_≡_, refl, sym, ap, _∙_}
 use mathlib.Core.Bool.{Bool, true, false}
 use mathlib.Core.List.{List}
-use Prim.Native.Nat.{ℕ, _*_, _≤_, _<_}
+use Prim.Native.Nat.{ℕ, _*_, _≤_}
 use native.Mathlib.Omega.{arith}
 use lib.Dec.{ltb}
-use lib.ListN.{length, getD}
+use lib.ListN.{length}
 use borrow.Author.Tests.{not-false, ltb-true}
 use Rattle.bits.specs.Bits.{pick}
+use Rattle.headers.specs.RoundTrips.{Bytes}
 use Rattle.rate_control.specs.Create.{create}
 use Rattle.rate_control.specs.Offer.{Offer, offer, outAfter, withdraw}
 use Rattle.rate_control.specs.declared.CbrConfig.{CbrConfig}
@@ -20,14 +21,15 @@ use Rattle.rate_control.specs.declared.CbrAnswer.{CbrAnswer}
 use Rattle.rate_control.specs.declared.CbrAnswer.the-variants.{Placed, Again, Refused}
 use Rattle.rate_control.specs.declared.Pending.the-variants.{Nothing}
 use Rattle.rate_control.proofs.Chain.{pick-elim}
-use Rattle.rate_control.proofs.Lists.{refused-keeps, refused-closes, room-enough}
+use Rattle.rate_control.proofs.Placing.{room-enough}
 use Rattle.rate_control.proofs.Each.{withdraw-told}
-use Rattle.rate_control.proofs.Keeping.{refused-out, withdraw-unpending, created-whole}
+use Rattle.rate_control.proofs.Keeping.{refused-keeps, refused-closes, refused-out, withdraw-unpending}
 use Rattle.layout.specs.State.{stateBytes, stateFits, writerAt}
 use Rattle.layout.specs.Words.{laid}
-use Rattle.layout.proofs.RoundTrip.{read-back, state-fits, length-state, laid-short}
+use Rattle.layout.proofs.RoundTrip.{read-back, state-fits}
 use Rattle.hipokuta.specs.Send.{creationNumber, createNumber, created, createState, COffer, offerOf, Reached, stopped, reached, asking, reach, answerNumber, offerNumber, offerState, offerOut, withdrawalNumber, withdrawNumber, withdrawState}
 use Rattle.hipokuta.specs.Calls.{IsRefused, OwedOfRefusals}
+use Rattle.hipokuta.proofs.Sending.{short-state}
 use Rattle.hipokuta.proofs.Numbers.{offer-number, only-output, only-size}
 
 -- an answer with a number is a refusal
@@ -56,7 +58,7 @@ way s o =
     W : Reached → Type 0
     W r = Way s o r
 
-module _ (s : List ℕ) (o : COffer) (b : (k : ℕ) → getD s k 0 < 256) where
+module _ (s : List ℕ) (o : COffer) (b : Bytes s) where
   abbrev w : CbrWriter
   w = writerAt s
 
@@ -115,9 +117,7 @@ module _ (s : List ℕ) (o : COffer) (b : (k : ℕ) → getD s k 0 < 256) where
     where
       go : (t : Bool) (a : CbrCreation) → ltb (length s) 152 ≡ t → create c .answer ≡ a → 1 ≤ pick t 19 (creationNumber a) → created a (create c .writer) s ≡ s
       go t (NotCreated x) e f h = refl
-      go true Created e f h =
-          let l = created-whole c f in
-          laid-short (stateBytes (create c .writer)) s (omega (arith, length-state (create c .writer) (l .targets) (l .inv .three), ltb-true (length s) 152 e))
+      go true Created e f h = sym (short-state c s (ltb-true (length s) 152 e) Created f)
       go false Created e f h = absurd (omega arith)
 
   refusal-numbered : (v : CbrWriter) (p : Offer) → reach s o ≡ reached v p → IsRefused (offer v p .answer) → 1 ≤ offerNumber (reach s o)

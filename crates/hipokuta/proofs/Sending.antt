@@ -24,7 +24,7 @@ use Rattle.rate_control.specs.declared.CbrCreation.the-variants.{Created, Refus
 use Rattle.rate_control.specs.declared.CbrOffered.{CbrOffered}
 use Rattle.rate_control.specs.declared.CbrWithdrawal.the-variants.{Withdrawn, Refused as NotWithdrawn}
 use Rattle.rate_control.specs.declared.CbrWithdrawn.{CbrWithdrawn}
-use Rattle.rate_control.proofs.Creating.{within-is}
+use Rattle.rate_control.proofs.Creation.{within-is}
 use Rattle.rate_control.proofs.Keeping.{created-whole}
 use Rattle.layout.specs.Answers.{refusedWords, answerWords}
 use Rattle.layout.specs.State.{stateBytes, held}
@@ -42,7 +42,7 @@ module _ (c : CbrConfig) (place : List ℕ) where
   Creates n after = (n ≡ createNumber c place) × (after ≡ createState c place)
 
   -- a new state has no room
-  short-state : length place < 152 → (a : CbrCreation) → create c .answer ≡ a → place ≡ created a (create c .writer) place
+  pub short-state : length place < 152 → (a : CbrCreation) → create c .answer ≡ a → place ≡ created a (create c .writer) place
   unfolding created
   short-state h Created e =
       let w = created-whole c e in

@@ -1,13 +1,14 @@
 -- Lists of calls from C on the state that `cbr_create` left (paper 01, 'Rust forms to replace'): demand 3 covers them, since those that reach the writer are answered as the same
 -- calls on the writer itself; a refusal leaves the state's bytes alone, but for 21; and what output part is large enough.
 -- Assumes nothing.
-use Prim.Native.Nat.{ℕ, _*_, _≤_, _<_}
+use Prim.Native.Nat.{ℕ, _*_, _≤_}
 use mathlib.Core.Path.{_≡_}
 use mathlib.Core.List.{List, [], _∷_, _++_}
 use mathlib.Core.Bool.{true, _&&_}
 use lib.Dec.{leb}
-use lib.ListN.{length, getD}
+use lib.ListN.{length}
 use Rattle.bits.specs.Bits.{pick}
+use Rattle.headers.specs.RoundTrips.{Bytes}
 use Rattle.rate_control.specs.Create.{create}
 use Rattle.rate_control.specs.Offer.{Offer, offer, withdraw}
 use Rattle.rate_control.specs.Calls.{Call, offering, withdrawing, Step, stepOf, run, final}
@@ -125,4 +126,4 @@ pub record Keeps (s : List ℕ) (o : COffer) : Type 0 where
   pub creation : (c : CbrConfig) → 1 ≤ createNumber c s → createState c s ≡ s
 
 abbrev pub OwedOfRefusals : Type 0
-OwedOfRefusals = (s : List ℕ) (o : COffer) → ((k : ℕ) → getD s k 0 < 256) → Keeps s o
+OwedOfRefusals = (s : List ℕ) (o : COffer) → Bytes s → Keeps s o
