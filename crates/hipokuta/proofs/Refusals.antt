@@ -11,7 +11,7 @@ use borrow.Author.Tests.{not-false, ltb-true}
 use Rattle.bits.specs.Bits.{pick}
 use Rattle.headers.specs.RoundTrips.{Bytes}
 use Rattle.rate_control.specs.Create.{create}
-use Rattle.rate_control.specs.Offer.{Offer, offer, outAfter, withdraw}
+use Rattle.rate_control.specs.Offer.{Offer, offer, withdraw}
 use Rattle.rate_control.specs.declared.CbrConfig.{CbrConfig}
 use Rattle.rate_control.specs.declared.CbrCreation.{CbrCreation}
 use Rattle.rate_control.specs.declared.CbrCreation.the-variants.{Created, Refused as NotCreated}
@@ -33,14 +33,15 @@ use Rattle.hipokuta.proofs.Sending.{short-state}
 use Rattle.hipokuta.proofs.Numbers.{offer-number, only-output, only-size}
 
 -- an answer with a number is a refusal
-data Numbered : CbrAnswer → Type 0 where
-  numbered : (e : CbrError) → Numbered (Refused e)
+record Refusal (a : CbrAnswer) : Type 0 where
+  error : CbrError
+  is : a ≡ Refused error
 
-number-refuses : (a : CbrAnswer) → 1 ≤ answerNumber a → Numbered a
+number-refuses : (a : CbrAnswer) → 1 ≤ answerNumber a → Refusal a
 unfolding answerNumber
 number-refuses (Placed q d n z) h = absurd (omega arith)
 number-refuses (Again q) h = absurd (omega arith)
-number-refuses (Refused e) h = numbered e
+number-refuses (Refused e) h = record { error = e; is = refl }
 
 -- how far an offer comes
 data Way (s : List ℕ) (o : COffer) : Reached → Type 0 where
@@ -69,26 +70,24 @@ module _ (s : List ℕ) (o : COffer) (b : Bytes s) where
   state-kept : {r : Reached} → Way s o r → 1 ≤ offerNumber r → (offerNumber r ≡ 21 → ⊥) → offerState r s ≡ s
   unfolding offerNumber offerState answerNumber
   state-kept (stops n k l) h t = refl
-  state-kept (reaches f) h t = go refl (number-refuses _ h)
-    where
-      go : {a : CbrAnswer} → offer w (offerOf o) .answer ≡ a → Numbered a → laid (stateBytes (offer w (offerOf o) .writer)) s ≡ s
-      go q (numbered e) = same-writer f (refused-keeps w (offerOf o) e q (λ l. t (ap answerNumber q ∙ ap answerNumber (ap Refused l))))
+  state-kept (reaches f) h t =
+      let r = number-refuses (offer w (offerOf o) .answer) h in
+      same-writer f (refused-keeps w (offerOf o) (r .error) (r .is) (λ l. t (ap answerNumber (r .is ∙ ap Refused l))))
 
   closing : {r : Reached} → Way s o r → offerNumber r ≡ 21 → offerState r s ≡ withdrawState s
   unfolding offerNumber offerState answerNumber withdrawState pick
   closing (stops n k l) h = absurd (omega arith)
-  closing (reaches f) h = go refl (number-refuses _ (omega arith)) h
-    where
-      go : {a : CbrAnswer} → offer w (offerOf o) .answer ≡ a → Numbered a → answerNumber a ≡ 21 → laid (stateBytes (offer w (offerOf o) .writer)) s ≡ withdrawState s
-      go q (numbered e) h = rw (f, refused-closes w (offerOf o) (state-fits s f .2) (q ∙ ap Refused (only-size e h)))
+  closing (reaches f) h =
+      let r = number-refuses (offer w (offerOf o) .answer) (omega arith) in
+      let l = only-size (r .error) (sym (ap answerNumber (r .is)) ∙ h) in
+      rw (f, refused-closes w (offerOf o) (state-fits s f .2) (r .is ∙ ap Refused l))
 
   out-kept : {r : Reached} → Way s o r → 1 ≤ offerNumber r → offerOut r (o .out) ≡ o .out
   unfolding offerNumber offerOut offerOf
   out-kept (stops n k l) h = refl
-  out-kept (reaches f) h = go refl (number-refuses _ h)
-    where
-      go : {a : CbrAnswer} → offer w (offerOf o) .answer ≡ a → Numbered a → outAfter w (offerOf o) ≡ o .out
-      go q (numbered e) = refused-out w (offerOf o) e q
+  out-kept (reaches f) h =
+      let r = number-refuses (offer w (offerOf o) .answer) h in
+      refused-out w (offerOf o) (r .error) (r .is)
 
   withdrawal-kept : w .pending ≡ Nothing → withdrawState s ≡ s
   unfolding withdrawState
@@ -97,10 +96,10 @@ module _ (s : List ℕ) (o : COffer) (b : Bytes s) where
   room-kept : {r : Reached} → Way s o r → 72 ≤ length (o .answer) → w .model .params .«buffer_size_bits» ≤ 8 * length (o .out) → offerNumber r ≡ 19 → ⊥
   unfolding offerNumber answerNumber offerOf
   room-kept (stops n k m) a l h = omega (arith, k a)
-  room-kept (reaches f) a l h = go refl (number-refuses _ (omega arith)) h
-    where
-      go : {a : CbrAnswer} → offer w (offerOf o) .answer ≡ a → Numbered a → answerNumber a ≡ 19 → ⊥
-      go q (numbered e) h = room-enough w (offerOf o) l (q ∙ ap Refused (only-output e h))
+  room-kept (reaches f) a l h =
+      let r = number-refuses (offer w (offerOf o) .answer) (omega arith) in
+      let k = only-output (r .error) (sym (ap answerNumber (r .is)) ∙ h) in
+      room-enough w (offerOf o) l (r .is ∙ ap Refused k)
 
   -- a withdrawal is refused only where the state does not fit
   refused-withdrawal : 1 ≤ withdrawNumber s → withdrawState s ≡ s
