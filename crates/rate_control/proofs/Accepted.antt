@@ -8,7 +8,7 @@ use native.Mathlib.Omega.{arith}
 use lib.ListN.{length}
 use Rattle.vbv.specs.Model.{paramsFit}
 use Rattle.vbv.specs.declared.VbvParams.{VbvParams}
-use Rattle.vbv.proofs.Laws.{units-over, units-under}
+use Rattle.vbv.proofs.Laws.{units-over, units-beyond}
 use Rattle.verify.specs.Run.{ran, run}
 use Rattle.verify.specs.Coded.{read, codedPictures}
 use Rattle.verify.specs.Sequence.{declared}
@@ -29,7 +29,7 @@ done-passed {p} r = record {
   delay-exact = r .removed .delay-exact;
   delay-told = r .removed .delay-told;
   no-overflow = units-over p _ _ (r .removed .no-overflow);
-  no-underflow = units-under p _ _ (r .removed .no-underflow);
+  no-underflow = units-beyond p _ _ (r .removed .no-underflow);
 }
 
 done-record : {p : VbvParams} {d previous : ℕ} {x : Sent} → Done p d previous x → exactRecord p previous d (codedOf x) ≡ recordOf p d previous x

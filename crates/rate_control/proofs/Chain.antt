@@ -7,7 +7,7 @@ use lib.Dec.{ltb, eqb}
 use lib.ListN.{length}
 use borrow.Author.Tests.{ltb-false, ltb-true, eqb-true, eqb-false, not-true, not-false}
 use Rattle.bits.specs.Bits.{pick}
-use Rattle.vbv.specs.Annex.{overflows, underflows, early}
+use Rattle.vbv.specs.Annex.{overflows, beyond}
 use Rattle.vbv.specs.declared.VbvError.the-variants.{Early, Params, Range}
 use Rattle.vbv.specs.declared.VbvViolation.the-variants.{Overflow}
 use Rattle.layers.specs.Headers.{headersFit}
@@ -48,9 +48,9 @@ pub record Placing (w : CbrWriter) (o : Offer) : Type 0 where
   pub layer-fits : layerFits (o .kind) (o .interval) (o .layer) ≡ true
   pub position-far : position w o ≤ 2 ^ 48
   pub end-far : end w o ≤ 2 ^ 48
-  pub in-time : early (w .model .params) (position w o) (deliveredAt w o) ≡ false
+  pub in-time : beyond (w .model .params) (position w o) (deliveredAt w o) ≡ false
   pub no-overflow : overflows (w .model .params) (w .model .«prev_end_bits») (deliveredAt w o) ≡ false
-  pub no-underflow : underflows (w .model .params) (end w o) (deliveredAt w o) ≡ false
+  pub no-underflow : beyond (w .model .params) (end w o) (deliveredAt w o) ≡ false
   pub room : length (placedBytes w o) ≤ length (o .out)
 
 -- why an offer is refused
@@ -60,12 +60,12 @@ pub data Reason (w : CbrWriter) (o : Offer) : CbrError → Type 0 where
   bad-headers : headersFit (w .model .params) (w .model .started) (o .headers) ≡ false → Reason w o Headers
   bad-layer : layerFits (o .kind) (o .interval) (o .layer) ≡ false → Reason w o Layer
   too-far : (ltb (2 ^ 48) (position w o) || ltb (2 ^ 48) (end w o)) ≡ true → Reason w o (Model Range)
-  too-early : early (w .model .params) (position w o) (deliveredAt w o) ≡ true → Reason w o (Model Early)
+  too-early : beyond (w .model .params) (position w o) (deliveredAt w o) ≡ true → Reason w o (Model Early)
   over-full : w .finished ≡ false → overflows (w .model .params) (w .model .«prev_end_bits») (deliveredAt w o) ≡ true
       → Reason w o (Violation (Overflow (w .model .removed) 0 0))
-  no-edge : underflows (w .model .params) (end w o) (deliveredAt w o) ≡ true → Reason w o Stuffing
+  no-edge : beyond (w .model .params) (end w o) (deliveredAt w o) ≡ true → Reason w o Stuffing
   no-room : writerFits w ≡ true → overflows (w .model .params) (w .model .«prev_end_bits») (deliveredAt w o) ≡ false
-      → underflows (w .model .params) (end w o) (deliveredAt w o) ≡ false → length (o .out) < length (placedBytes w o) → Reason w o Output
+      → beyond (w .model .params) (end w o) (deliveredAt w o) ≡ false → length (o .out) < length (placedBytes w o) → Reason w o Output
 
 pub data Outcome (w : CbrWriter) (o : Offer) : CbrOffered → Type 0 where
   stays : (e : CbrError) → Reason w o e → Outcome w o (refused w e)

@@ -8,7 +8,7 @@ use lib.Dec.{ltb}
 use lib.ListN.{length}
 use borrow.Author.Tests.{ltb-true, ltb-false, lt-ltb, le-ltb}
 use Rattle.bits.specs.Bits.{pick}
-use Rattle.vbv.specs.Annex.{firstDelivered, overflows, underflows, early, expectedDelay, greatestEnd, leastEnd}
+use Rattle.vbv.specs.Annex.{firstDelivered, overflows, beyond, expectedDelay, greatestEnd, leastEnd}
 use Rattle.vbv.specs.Steps.{EndFits}
 use Rattle.vbv.specs.Model.{paramsFit, delivered, modelFits, atDelivered, afterRemoval, nextDelivered, delayForPicture, removePicture, maxEndBits, minEndBits}
 use Rattle.vbv.specs.declared.RemovalInterval.{RemovalInterval}
@@ -22,7 +22,7 @@ use Rattle.vbv.specs.declared.VbvRemoval.the-variants as rm
 use Rattle.vbv.specs.declared.VbvDelay.the-variants as dl
 use Rattle.vbv.specs.declared.VbvBits.the-variants as bt
 use Rattle.vbv.proofs.Fitting.{params-fit, model-fits}
-use Rattle.vbv.proofs.Laws.{early-is, delay-most, fits-params, started, starts, delays, max-end, min-end}
+use Rattle.vbv.proofs.Laws.{beyond-is, delay-most, fits-params, started, starts, delays, max-end, min-end}
 use Rattle.vbv.proofs.Told.{next-told, removal-told}
 use Rattle.vbv.proofs.After.{after-same}
 use Rattle.rate_control.specs.Writer.{writerFits}
@@ -84,10 +84,10 @@ placement w o = record {
 unfoldable pub measuredFor : CbrWriter → Offer → Judged
 measuredFor w o =
     pick (ltb (2 ^ 48) (position w o) || ltb (2 ^ 48) (end w o)) (Refused (Model Range))
-    (pick (early (w .model .params) (position w o) (deliveredAt w o)) (Refused (Model Early))
+    (pick (beyond (w .model .params) (position w o) (deliveredAt w o)) (Refused (Model Early))
     (pick (overflows (w .model .params) (w .model .«prev_end_bits») (deliveredAt w o)) (Refused (Violation (Overflow (w .model .removed) 0 0)))
-    (pick (underflows (w .model .params) (content w o) (deliveredAt w o)) TooLarge
-    (pick (underflows (w .model .params) (end w o) (deliveredAt w o)) (Refused Stuffing)
+    (pick (beyond (w .model .params) (content w o) (deliveredAt w o)) TooLarge
+    (pick (beyond (w .model .params) (end w o) (deliveredAt w o)) (Refused Stuffing)
     (Ready (placement w o))))))
 
 -- ---- the model that the pending picture is removed from
@@ -215,7 +215,7 @@ module _ (w : CbrWriter) (o : Offer) (f : writerFits w ≡ true) (n : VbvCbrMode
   removal : (e : ℕ) → w .model .«prev_end_bits» ≤ e → e ≤ 2 ^ 48
       → removePicture n e (o .interval)
       ≡ pick (overflows p (w .model .«prev_end_bits») (deliveredAt w o)) (rm.Violation (Overflow (w .model .removed) 0 0))
-      (pick (underflows p e (deliveredAt w o)) (rm.Violation (Underflow (w .model .removed) 0 0))
+      (pick (beyond p e (deliveredAt w o)) (rm.Violation (Underflow (w .model .removed) 0 0))
       (rm.Model (afterRemoval (w .model) e (deliveredNext w o))))
   removal e l h =
       removal-told n (b .fits) (b .is-started) e (o .interval) (ends e l h)
@@ -233,32 +233,32 @@ module _ (w : CbrWriter) (o : Offer) (f : writerFits w ≡ true) (n : VbvCbrMode
   inside = omega arith
 
   -- in time and no overflow: the delay can be measuredFor
-  ready-told : position w o ≤ 2 ^ 48 → early p (position w o) (deliveredAt w o) ≡ false
+  ready-told : position w o ≤ 2 ^ 48 → beyond p (position w o) (deliveredAt w o) ≡ false
       → overflows p (w .model .«prev_end_bits») (deliveredAt w o) ≡ false
       → byDelay (afterRemoval (w .model) (end w o) (deliveredNext w o)) x (stuffing w o) (delayForPicture n (position w o)) ≡ Ready (placement w o)
   unfolding placement delay
   ready-told h t g =
-      let e : early (n .params) (position w o) (delivered n) ≡ false = rw (b .delivered-is, b .same-params) t in
+      let e : beyond (n .params) (position w o) (delivered n) ≡ false = rw (b .delivered-is, b .same-params) t in
       let l = delay-most p params-fits (w .model .«prev_end_bits») (position w o) (deliveredAt w o) g before in
       let k : expectedDelay (n .params) (position w o) (delivered n) ≤ 65534 = rw (b .delivered-is, b .same-params) l in
       rw (delays n (position w o) (b .fits) (b .is-started) h e k, b .delivered-is, b .same-params)
       (delay-case n x (stuffing w o) (o .interval) _ _ ∙ rw sizes)
 
   module _ (near : position w o ≤ 2 ^ 48) (far : end w o ≤ 2 ^ 48) where
-    end-told : early p (position w o) (deliveredAt w o) ≡ false → overflows p (w .model .«prev_end_bits») (deliveredAt w o) ≡ false
+    end-told : beyond p (position w o) (deliveredAt w o) ≡ false → overflows p (w .model .«prev_end_bits») (deliveredAt w o) ≡ false
         → byEnd n x (stuffing w o) (removePicture n (end w o) (o .interval))
-        ≡ pick (underflows p (end w o) (deliveredAt w o)) (Refused Stuffing) (Ready (placement w o))
+        ≡ pick (beyond p (end w o) (deliveredAt w o)) (Refused Stuffing) (Ready (placement w o))
     end-told t g =
         let i = o .interval in
         ap (byEnd n x (stuffing w o)) (removal (end w o) (omega (arith, inside, end-same w o)) far ∙ other _ _ _ g)
         ∙ through (byEnd n x (stuffing w o)) _ _ _ _ _ (end-violated n x (stuffing w o) i _)
         (λ h22. end-model n x (stuffing w o) i _ ∙ ready-told near t g)
 
-    size-told : early p (position w o) (deliveredAt w o) ≡ false
+    size-told : beyond p (position w o) (deliveredAt w o) ≡ false
         → bySize n x (stuffing w o) (o .interval) (removePicture n (content w o) (o .interval))
         ≡ pick (overflows p (w .model .«prev_end_bits») (deliveredAt w o)) (Refused (Violation (Overflow (w .model .removed) 0 0)))
-        (pick (underflows p (content w o) (deliveredAt w o)) TooLarge
-        (pick (underflows p (end w o) (deliveredAt w o)) (Refused Stuffing) (Ready (placement w o))))
+        (pick (beyond p (content w o) (deliveredAt w o)) TooLarge
+        (pick (beyond p (end w o) (deliveredAt w o)) (Refused Stuffing) (Ready (placement w o))))
     size-told t =
         let i = o .interval in
         let z = stuffing w o in
@@ -272,7 +272,7 @@ module _ (w : CbrWriter) (o : Offer) (f : writerFits w ≡ true) (n : VbvCbrMode
     position-told =
         rw most-told
         (most-case n x (stuffing w o) (o .interval) _
-        ∙ rw (← early-is p params-fits (position w o) (deliveredAt w o))
+        ∙ rw (← beyond-is p params-fits (position w o) (deliveredAt w o))
         (pick-no _ _ (λ h7. size-told h7) ∙ sym (other _ _ _ (neither (position w o) (end w o) near far))))
 
 -- ---- 14

@@ -10,12 +10,12 @@ use native.Mathlib.Nat.{le-of-mul-le-mul-right}
 use lib.ListN.{length, length-append, length-replicate, replicate}
 use borrow.Author.Tests.{ltb-false, le-ltb}
 use Rattle.bits.specs.Bits.{pick}
-use Rattle.vbv.specs.Annex.{unit, firstDelivered, overflows, underflows, leastEnd}
+use Rattle.vbv.specs.Annex.{unit, firstDelivered, overflows, beyond, leastEnd}
 use Rattle.vbv.specs.Model.{paramsFit, delivered}
 use Rattle.vbv.specs.Patch.{patched}
 use Rattle.vbv.specs.declared.VbvParams.{VbvParams}
 use Rattle.vbv.proofs.Fitting.{unit-pos}
-use Rattle.vbv.proofs.Laws.{over-units, units-over, under-units, least-end, delay-most, first-delay, fits-params}
+use Rattle.vbv.proofs.Laws.{over-units, units-over, beyond-units, least-end, delay-most, first-delay, fits-params}
 use Rattle.vbv.proofs.After.{patched-size}
 use Rattle.rate_control.specs.Writer.{writerFits}
 use Rattle.rate_control.specs.Offer.{Offer, position, content, end, firstDelay, deliveredAt, deliveredNext, stuffing, delay, tail, placedBytes, offer}
@@ -108,11 +108,11 @@ module _ (w : CbrWriter) (o : Offer) (g : Placing w o) where
 
 -- what is placed lies between the previous end and the bits delivered, and these are at most a buffer apart
 placed-most : (w : CbrWriter) (o : Offer) → writerFits w ≡ true → overflows (w .model .params) (w .model .«prev_end_bits») (deliveredAt w o) ≡ false
-    → underflows (w .model .params) (end w o) (deliveredAt w o) ≡ false → 8 * length (placedBytes w o) ≤ w .model .params .«buffer_size_bits»
+    → beyond (w .model .params) (end w o) (deliveredAt w o) ≡ false → 8 * length (placedBytes w o) ≤ w .model .params .«buffer_size_bits»
 placed-most w o f a b =
     let p : VbvParams = w .model .params in
     let h = over-units p _ _ a in
-    let g = under-units p _ _ b in
+    let g = beyond-units p _ _ b in
     let k : end w o * unit p ≤ (w .model .«prev_end_bits» + p .«buffer_size_bits») * unit p = omega arith in
     let l = le-of-mul-le-mul-right k (unit-pos p (fits-params (w .model) (writer-fits f .model-fits))) in
     omega (arith, end-is w o)

@@ -6,10 +6,10 @@ use mathlib.Core.List.{List, [], _∷_}
 use Prim.Native.Nat.{ℕ, _+_, _*_}
 use native.Mathlib.Omega.{arith}
 use lib.ListN.{length}
-use Rattle.vbv.specs.Annex.{firstDelivered, gain, early}
+use Rattle.vbv.specs.Annex.{firstDelivered, gain, beyond}
 use Rattle.vbv.specs.Model.{delivered, periods}
 use Rattle.vbv.specs.declared.VbvParams.{VbvParams}
-use Rattle.vbv.proofs.Laws.{over-units, under-units}
+use Rattle.vbv.proofs.Laws.{over-units, beyond-units}
 use Rattle.vbv.proofs.After.{after as model-after}
 use Rattle.rate_control.specs.Offer.{Offer, position, content, end, deliveredAt, deliveredNext, stuffing, delay, placedBytes, withPending, refused, placed}
 use Rattle.rate_control.specs.Calls.{Call, offering, withdrawing, stepOf, after, run}
@@ -42,7 +42,7 @@ sentOf n w o = record {
 -- a removal, and what the check needs besides: the start code is there in time, and the bytes before are those that were removed
 pub record Done (p : VbvParams) (d previous : ℕ) (x : Sent) : Type 0 where
   pub removed : Removed p d previous x
-  pub in-time : early p (sentPosition x) d ≡ false
+  pub in-time : beyond p (sentPosition x) d ≡ false
   pub begins : previous ≡ 8 * x .before
 
 pub data Course (p : VbvParams) : ℕ → ℕ → List Sent → Type 0 where
@@ -75,7 +75,7 @@ module _ (n : ℕ) (w : CbrWriter) (o : Offer) (k : w .model .«prev_end_bits» 
         removed =
             record {
               no-overflow = over-units p _ _ (g .no-overflow);
-              no-underflow = rw end-same (under-units p _ _ (g .no-underflow));
+              no-underflow = rw end-same (beyond-units p _ _ (g .no-underflow));
               delay-exact = rw position-same;
               delay-told = delay-told w o g;
               all-bytes = placed-size w o;

@@ -7,7 +7,7 @@ use lib.Dec.{ltb, eqb}
 use lib.ListN.{length, replicate, set}
 use Rattle.bits.specs.Bits.{pick}
 use Rattle.bits.specs.Answers.{over}
-use Rattle.vbv.specs.Annex.{firstDelivered, gain, overflows, underflows, early, expectedDelay, leastEnd}
+use Rattle.vbv.specs.Annex.{firstDelivered, gain, overflows, beyond, expectedDelay, leastEnd}
 use Rattle.vbv.specs.Model.{delivered, periods, afterRemoval}
 use Rattle.vbv.specs.Patch.{patched}
 use Rattle.vbv.specs.declared.RemovalInterval.{RemovalInterval}
@@ -132,10 +132,10 @@ offer w o =
     (pick (not (headersFit (w .model .params) (w .model .started) (o .headers))) (refused w Headers)
     (pick (not (layerFits (o .kind) (o .interval) (o .layer))) (refused w Layer)
     (pick (ltb (2 ^ 48) (position w o) || ltb (2 ^ 48) (end w o)) (refused w (Model Range))
-    (pick (early (w .model .params) (position w o) (deliveredAt w o)) (refused w (Model Early))
+    (pick (beyond (w .model .params) (position w o) (deliveredAt w o)) (refused w (Model Early))
     (pick (overflows (w .model .params) (w .model .«prev_end_bits») (deliveredAt w o)) (refused w (Violation (Overflow (w .model .removed) 0 0)))
-    (pick (underflows (w .model .params) (content w o) (deliveredAt w o)) (tooLarge w (o .kind) (asked w (o .kind)))
-    (pick (underflows (w .model .params) (end w o) (deliveredAt w o)) (refused w Stuffing)
+    (pick (beyond (w .model .params) (content w o) (deliveredAt w o)) (tooLarge w (o .kind) (asked w (o .kind)))
+    (pick (beyond (w .model .params) (end w o) (deliveredAt w o)) (refused w Stuffing)
     (pick (ltb (length (o .out)) (length (placedBytes w o))) (refused w Output)
     (placed w o (asked w (o .kind))))))))))))
 

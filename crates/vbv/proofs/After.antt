@@ -9,7 +9,7 @@ use native.Mathlib.Nat.{mod-lt, div-lt-iff-lt-mul}
 use lib.ListN.{length}
 use Rattle.vbv.specs.declared.RemovalInterval.{RemovalInterval}
 use Rattle.vbv.specs.declared.VbvCbrModel.{VbvCbrModel}
-use Rattle.vbv.specs.Annex.{unit, gain, overflows, underflows}
+use Rattle.vbv.specs.Annex.{unit, gain, overflows, beyond}
 use Rattle.vbv.specs.Model.{delivered, modelFits, atDelivered, afterRemoval, periods}
 use Rattle.vbv.specs.Steps.{EndFits}
 use Rattle.vbv.specs.Patch.{startsPicture, patched}
@@ -47,7 +47,7 @@ module _ (m : VbvCbrModel) (f : modelFits m ≡ true) (d : ℕ) (o : overflows (
       (record { params-fit = v .params-fit; whole-high = omega arith; rest-low = mod-lt d u; end-high = v .end-high; removed-high = v .removed-high })
 
   -- validity is kept
-  pub after-fits : (end : ℕ) (i : RemovalInterval) → EndFits m end → underflows (m .params) end d ≡ false
+  pub after-fits : (end : ℕ) (i : RemovalInterval) → EndFits m end → beyond (m .params) end d ≡ false
       → modelFits (afterRemoval m end (d + gain (m .params) (periods i))) ≡ true
   unfolding atDelivered afterRemoval
   after-fits end i g u =

@@ -45,8 +45,8 @@ ceiling-more w r u g h =
     rw e (digits-div (w + 1) {m = u} {r = r - 1} (omega arith))
 
 -- the floor and the ceiling of what is beyond k whole ones
-pub beyond : (w r k u : ℕ) → k ≤ w → w * u + r - k * u ≡ (w - k) * u + r
-beyond w r k u h =
+pub above : (w r k u : ℕ) → k ≤ w → w * u + r - k * u ≡ (w - k) * u + r
+above w r k u h =
     let e : (w - k + k) * u ≡ w * u = ap (λ (x : ℕ). x * u) (omega arith) in
     omega arith
 
@@ -56,7 +56,7 @@ floor-beyond w r k u h =
     (λ (g : w < k).
     let e : w * u + r - k * u ≡ 0 = omega (arith, mul-le-mul {n₁ = w + 1} {m₁ = u} {n₂ = k} {m₂ = u} (omega arith) (omega arith)) in
     rw (e, div-eq-of-lt {n = 0} {m = u} (omega arith)) (omega arith))
-    (λ (g : k ≤ w). rw (beyond w r k u g) (digits-div (w - k) h))
+    (λ (g : k ≤ w). rw (above w r k u g) (digits-div (w - k) h))
     (lt-or-le w k)
 
 pub ceiling-beyond : (n k u : ℕ) → 0 < u → (n - k * u + (u - 1)) / u ≡ (n + (u - 1)) / u - k

@@ -7,7 +7,7 @@ use lib.Dec.{lit<, lit≤}
 use lib.ListN.{getD}
 use Rattle.bits.specs.Bits.{pick}
 use Rattle.bits.proofs.Reading.{same-self}
-use Rattle.vbv.specs.Annex.{unit, firstDelivered, gain, overflows, underflows, early, expectedDelay}
+use Rattle.vbv.specs.Annex.{unit, firstDelivered, gain, overflows, beyond, expectedDelay}
 use Rattle.vbv.specs.Model.{paramsFit, delivered, modelFits, atDelivered, afterRemoval, nextDelivered, newModel, startModel, delayForPicture, endFits, removePicture}
 use Rattle.vbv.specs.Patch.{startsPicture}
 use Rattle.vbv.specs.Figures.{Figures}
@@ -32,7 +32,7 @@ header-starts : startsPicture header ≡ true
 header-starts = sym (starts-is header (lit≤ tt)) ∙ same-self (0x00 ∷ 0x00 ∷ 0x01 ∷ 0x00 ∷ [])
 
 pub figures : Figures
-unfolding pick unit firstDelivered gain overflows underflows early expectedDelay paramsFit delivered modelFits atDelivered afterRemoval nextDelivered newModel startModel delayForPicture endFits removePicture
+unfolding pick unit firstDelivered gain overflows beyond expectedDelay paramsFit delivered modelFits atDelivered afterRemoval nextDelivered newModel startModel delayForPicture endFits removePicture
 figures = record {
   end-246755 = refl;
   end-246756 = refl;

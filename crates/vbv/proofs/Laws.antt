@@ -19,7 +19,7 @@ use Rattle.vbv.specs.declared.VbvModel.the-variants.{Model, Refused}
 use Rattle.vbv.specs.declared.VbvRemoval.the-variants as rm
 use Rattle.vbv.specs.declared.VbvDelay.the-variants as dl
 use Rattle.vbv.specs.declared.VbvBits.the-variants as bt
-use Rattle.vbv.specs.Annex.{unit, firstDelivered, gain, overflows, underflows, early, expectedDelay, occupancy, greatestEnd, leastEnd}
+use Rattle.vbv.specs.Annex.{unit, firstDelivered, gain, overflows, beyond, expectedDelay, occupancy, greatestEnd, leastEnd}
 use Rattle.vbv.specs.Model.{paramsFit, delivered, modelFits, atDelivered, afterRemoval, periods, nextDelivered, newModel, startModel, delayForPicture, endFits, removePicture, ofStarted, maxEndBits, minEndBits, occupancyBeforeRemoval}
 use Rattle.vbv.specs.Steps.{ModelFits, EndFits}
 use Rattle.vbv.proofs.Arith.{same-lt, below-floor, above-ceiling, ceiling-beyond, start-div, next-div, ticks-most, next-most}
@@ -36,35 +36,28 @@ module _ (p : VbvParams) where
   unfolding overflows
   units-over previous d h = le-ltb _ _ h
 
-  pub under-units : (end d : ℕ) → underflows p end d ≡ false → end * unit p ≤ d
-  unfolding underflows
-  under-units end d h = ltb-false _ _ h
+  pub beyond-units : (end d : ℕ) → beyond p end d ≡ false → end * unit p ≤ d
+  unfolding beyond
+  beyond-units end d h = ltb-false _ _ h
 
-  pub units-under : (end d : ℕ) → end * unit p ≤ d → underflows p end d ≡ false
-  unfolding underflows
-  units-under end d h = le-ltb _ _ h
+  pub units-beyond : (end d : ℕ) → end * unit p ≤ d → beyond p end d ≡ false
+  unfolding beyond
+  units-beyond end d h = le-ltb _ _ h
 
-  pub early-units : (position d : ℕ) → early p position d ≡ false → position * unit p ≤ d
-  unfolding early
-  early-units position d h = ltb-false _ _ h
-
-  pub units-early : (position d : ℕ) → position * unit p ≤ d → early p position d ≡ false
-  unfolding early
-  units-early position d h = le-ltb _ _ h
+  -- the first removal's position is not
+  pub first-in-time : (position delay : ℕ) → beyond p position (firstDelivered p position delay) ≡ false
+  unfolding firstDelivered
+  first-in-time position delay = units-beyond position (firstDelivered p position delay) (omega arith)
 
   -- what was all there stays so
-  pub later-under : (end d later : ℕ) → d ≤ later → underflows p end d ≡ false → underflows p end later ≡ false
-  later-under end d later h g = units-under end later (omega (arith, under-units end d g))
+  pub later-under : (end d later : ℕ) → d ≤ later → beyond p end d ≡ false → beyond p end later ≡ false
+  later-under end d later h g = units-beyond end later (omega (arith, beyond-units end d g))
 
 -- the ends: a test of either kind is a comparison with the greatest or the least end
 module _ (p : VbvParams) (f : paramsFit p ≡ true) where
-  pub underflow-is : (end d : ℕ) → underflows p end d ≡ ltb (greatestEnd p d) end
-  unfolding underflows greatestEnd
-  underflow-is end d = below-floor d end (unit p) (unit-pos p f)
-
-  pub early-is : (position d : ℕ) → early p position d ≡ ltb (greatestEnd p d) position
-  unfolding early greatestEnd
-  early-is position d = below-floor d position (unit p) (unit-pos p f)
+  pub beyond-is : (end d : ℕ) → beyond p end d ≡ ltb (greatestEnd p d) end
+  unfolding beyond greatestEnd
+  beyond-is end d = below-floor d end (unit p) (unit-pos p f)
 
   pub overflow-is : (previous d : ℕ) → overflows p previous d ≡ ltb (previous + p .«buffer_size_bits») ((d + (unit p - 1)) / unit p)
   unfolding overflows
@@ -87,20 +80,17 @@ module _ (p : VbvParams) (f : paramsFit p ≡ true) where
       least-end (8 * k) d
       ∙ same-lt _ _ _ _ (λ (h : 8 * k < leastEnd p d). omega arith) (λ (h : k < (leastEnd p d + 7) / 8). omega arith)
 
-  pub not-early : (position d : ℕ) → position ≤ greatestEnd p d → early p position d ≡ false
-  not-early position d h = early-is position d ∙ le-ltb _ _ h
-
-  pub not-under : (end d : ℕ) → end ≤ greatestEnd p d → underflows p end d ≡ false
-  not-under end d h = underflow-is end d ∙ le-ltb _ _ h
+  pub not-beyond : (end d : ℕ) → end ≤ greatestEnd p d → beyond p end d ≡ false
+  not-beyond end d h = beyond-is end d ∙ le-ltb _ _ h
 
   pub not-over : (end d : ℕ) → leastEnd p d ≤ end → overflows p end d ≡ false
   not-over end d h = least-end end d ∙ le-ltb _ _ h
 
   -- a position is in time where a later end is
-  pub before-end : (position end d : ℕ) → position ≤ end → underflows p end d ≡ false → early p position d ≡ false
+  pub before-end : (position end d : ℕ) → position ≤ end → beyond p end d ≡ false → beyond p position d ≡ false
   before-end position end d h g =
-      let l : end ≤ greatestEnd p d = ltb-false _ _ (sym (underflow-is end d) ∙ g) in
-      not-early position d (omega arith)
+      let l : end ≤ greatestEnd p d = ltb-false _ _ (sym (beyond-is end d) ∙ g) in
+      not-beyond position d (omega arith)
 
   -- the buffer: at most full before a removal, and all of the picture is in it
   pub occupancy-most : (previous d : ℕ) → overflows p previous d ≡ false → occupancy p previous d ≤ p .«buffer_size_bits»
@@ -111,10 +101,10 @@ module _ (p : VbvParams) (f : paramsFit p ≡ true) where
       let q = div-lt-iff-lt-mul {k = unit p} {x = d - previous * unit p} {y = p .«buffer_size_bits» + 1} u .1 (omega arith) in
       omega arith
 
-  pub occupancy-least : (previous end d : ℕ) → underflows p end d ≡ false → end - previous ≤ occupancy p previous d
+  pub occupancy-least : (previous end d : ℕ) → beyond p end d ≡ false → end - previous ≤ occupancy p previous d
   unfolding occupancy
   occupancy-least previous end d h =
-      let l = under-units p end d h in
+      let l = beyond-units p end d h in
       ⊎-elim
       (λ (g : end < previous). omega arith)
       (λ (g : previous ≤ end).
@@ -291,7 +281,7 @@ pub record Delayed (m : VbvCbrModel) (position r : ℕ) : Type 0 where
   pub fitted : modelFits m ≡ true
   pub was-started : m .started ≡ true
   pub position-far : position ≤ 2 ^ 48
-  pub in-time : early (m .params) position (delivered m) ≡ false
+  pub in-time : beyond (m .params) position (delivered m) ≡ false
   pub delay-is : r ≡ expectedDelay (m .params) position (delivered m)
   pub delay-low : r ≤ 65534
 
@@ -314,7 +304,7 @@ delayed m position r h =
     }
 
 pub delays : (m : VbvCbrModel) (position : ℕ) → modelFits m ≡ true → m .started ≡ true → position ≤ 2 ^ 48
-    → early (m .params) position (delivered m) ≡ false → expectedDelay (m .params) position (delivered m) ≤ 65534
+    → beyond (m .params) position (delivered m) ≡ false → expectedDelay (m .params) position (delivered m) ≤ 65534
     → delayForPicture m position ≡ dl.Delay (expectedDelay (m .params) position (delivered m))
 unfolding delayForPicture
 delays m position f s h e l =
@@ -326,7 +316,7 @@ pub record Removed (m : VbvCbrModel) (end : ℕ) (i : RemovalInterval) (next : V
   pub was-started : m .started ≡ true
   pub end-fitted : EndFits m end
   pub no-overflow : overflows (m .params) (m .«prev_end_bits») (delivered m) ≡ false
-  pub no-underflow : underflows (m .params) end (delivered m) ≡ false
+  pub no-underflow : beyond (m .params) end (delivered m) ≡ false
   pub next-is : next ≡ afterRemoval m end (nextDelivered m i)
   pub delivered-is : delivered next ≡ nextDelivered m i
   pub params-kept : next .params ≡ m .params
@@ -362,7 +352,7 @@ removed m end i next h =
     })
 
 pub removes : (m : VbvCbrModel) (end : ℕ) (i : RemovalInterval) → modelFits m ≡ true → m .started ≡ true → endFits m end ≡ true
-    → overflows (m .params) (m .«prev_end_bits») (delivered m) ≡ false → underflows (m .params) end (delivered m) ≡ false
+    → overflows (m .params) (m .«prev_end_bits») (delivered m) ≡ false → beyond (m .params) end (delivered m) ≡ false
     → removePicture m end i ≡ rm.Model (afterRemoval m end (nextDelivered m i))
 unfolding removePicture
 removes m end i f s g o u = sym (yes _ _ _ f (yes _ _ _ s (yes _ _ _ g (no _ _ _ o (no _ _ _ u refl)))))

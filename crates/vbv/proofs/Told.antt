@@ -14,7 +14,7 @@ use Rattle.vbv.specs.declared.VbvViolation.the-variants.{Overflow, Under
 use Rattle.vbv.specs.declared.VbvModel.the-variants.{Model, Refused}
 use Rattle.vbv.specs.declared.VbvRemoval.the-variants as rm
 use Rattle.vbv.specs.declared.VbvDelay.the-variants as dl
-use Rattle.vbv.specs.Annex.{gain, overflows, underflows, early, expectedDelay}
+use Rattle.vbv.specs.Annex.{gain, overflows, beyond, expectedDelay}
 use Rattle.vbv.specs.Model.{paramsFit, delivered, modelFits, afterRemoval, periods, nextDelivered, newModel, delayForPicture, removePicture}
 use Rattle.vbv.specs.Steps.{EndFits}
 use Rattle.vbv.proofs.Picks.{yes, no}
@@ -37,7 +37,7 @@ next-told m i = refl
 module _ (m : VbvCbrModel) (f : modelFits m ≡ true) (s : m .started ≡ true) where
   pub delay-told : (position : ℕ) → position ≤ 2 ^ 48
       → delayForPicture m position
-      ≡ pick (early (m .params) position (delivered m)) (dl.Refused Early)
+      ≡ pick (beyond (m .params) position (delivered m)) (dl.Refused Early)
       (pick (leb (expectedDelay (m .params) position (delivered m)) 65534)
       (dl.Delay (expectedDelay (m .params) position (delivered m)))
       (dl.Refused DelayTooLong))
@@ -47,7 +47,7 @@ module _ (m : VbvCbrModel) (f : modelFits m ≡ true) (s : m .started ≡ true) 
   pub removal-told : (end : ℕ) (i : RemovalInterval) → EndFits m end
       → removePicture m end i
       ≡ pick (overflows (m .params) (m .«prev_end_bits») (delivered m)) (rm.Violation (Overflow (m .removed) 0 0))
-      (pick (underflows (m .params) end (delivered m)) (rm.Violation (Underflow (m .removed) 0 0))
+      (pick (beyond (m .params) end (delivered m)) (rm.Violation (Underflow (m .removed) 0 0))
       (rm.Model (afterRemoval m end (nextDelivered m i))))
   unfolding removePicture
   removal-told end i h = sym (yes _ _ _ f (yes _ _ _ s (yes _ _ _ (fitting-end m end h) refl)))

@@ -16,13 +16,13 @@ use Rattle.vbv.specs.declared.VbvRemoval.the-variants as rm
 use Rattle.vbv.specs.declared.VbvDelay.{VbvDelay}
 use Rattle.vbv.specs.declared.VbvDelay.the-variants as dl
 use Rattle.vbv.specs.declared.VbvBits.the-variants as bt
-use Rattle.vbv.specs.Annex.{unit, firstDelivered, gain, overflows, underflows, early, expectedDelay, occupancy, greatestEnd, leastEnd}
+use Rattle.vbv.specs.Annex.{unit, firstDelivered, gain, overflows, beyond, expectedDelay, occupancy, greatestEnd, leastEnd}
 use Rattle.vbv.specs.Steps.{ModelFits, EndFits}
 use Rattle.vbv.specs.Model.{delivered, modelFits, atDelivered, afterRemoval, periods, nextDelivered, delayForPicture, removePicture, ofStarted}
-use Rattle.vbv.proofs.Arith.{ceiling-whole, ceiling-more, beyond, floor-beyond, start-div, start-mod, next-div, next-mod, delay-split, delay-large}
+use Rattle.vbv.proofs.Arith.{ceiling-whole, ceiling-more, above, floor-beyond, start-div, start-mod, next-div, next-mod, delay-split, delay-large}
 use Rattle.vbv.proofs.Picks.{yes, no}
 use Rattle.vbv.proofs.Fitting.{model-fits, fitting-params, fitting-model, fitting-end, unit-pos, delivered-div}
-use Rattle.vbv.proofs.Laws.{underflow-is, early-is, overflow-is, least-is, fits-params, delivered-at, next-whole}
+use Rattle.vbv.proofs.Laws.{beyond-is, overflow-is, least-is, fits-params, delivered-at, next-whole}
 
 -- delivered, as whole bits and a remainder: at the start, and one interval on
 pub begun-is : (m : VbvCbrModel) (delay position : ℕ) → 1 ≤ m .params .frn
@@ -84,11 +84,8 @@ module _ (m : VbvCbrModel) (v : ModelFits m) where
   unfolding greatestEnd
   greatest-whole = delivered-div m fits
 
-  early-test : (position : ℕ) → early (m .params) position (delivered m) ≡ ltb (m .whole) position
-  early-test position = early-is (m .params) (fits-params m fits) position (delivered m) ∙ rw greatest-whole
-
-  under-test : (end : ℕ) → underflows (m .params) end (delivered m) ≡ ltb (m .whole) end
-  under-test end = underflow-is (m .params) (fits-params m fits) end (delivered m) ∙ rw greatest-whole
+  beyond-test : (end : ℕ) → beyond (m .params) end (delivered m) ≡ ltb (m .whole) end
+  beyond-test end = beyond-is (m .params) (fits-params m fits) end (delivered m) ∙ rw greatest-whole
 
   over-test : (u : ℕ) → u ≡ (delivered m + (unit (m .params) - 1)) / unit (m .params)
       → overflows (m .params) (m .«prev_end_bits») (delivered m) ≡ ltb (m .«prev_end_bits» + m .params .«buffer_size_bits») u
@@ -101,12 +98,12 @@ module _ (m : VbvCbrModel) (v : ModelFits m) where
         ≡ (180000 * (m .whole - position) + m .rest / m .params .frn + m .params .«bit_rate») / (2 * m .params .«bit_rate»)
     unfolding expectedDelay delivered unit
     expected-is g =
-        rw (beyond (m .whole) (m .rest) position (180000 * m .params .frn) g)
+        rw (above (m .whole) (m .rest) position (180000 * m .params .frn) g)
         (delay-split (m .whole - position) (m .rest) (m .params .frn) (m .params .«bit_rate») (omega arith))
 
     pub delay-early : m .whole < position → dl.Refused Early ≡ delayForPicture m position
     unfolding delayForPicture
-    delay-early g = yes _ _ _ fits (yes _ _ _ s (yes _ _ _ (le-leb _ _ h) (yes _ _ _ (early-test position ∙ lt-ltb _ _ g) refl)))
+    delay-early g = yes _ _ _ fits (yes _ _ _ s (yes _ _ _ (le-leb _ _ h) (yes _ _ _ (beyond-test position ∙ lt-ltb _ _ g) refl)))
 
     -- beyond the test of the position
     there : position ≤ m .whole → (r : VbvDelay)
@@ -116,7 +113,7 @@ module _ (m : VbvCbrModel) (v : ModelFits m) where
         (dl.Refused DelayTooLong)
         → r ≡ delayForPicture m position
     unfolding delayForPicture
-    there g r e = yes _ _ _ fits (yes _ _ _ s (yes _ _ _ (le-leb _ _ h) (no _ _ _ (early-test position ∙ le-ltb _ _ g) e)))
+    there g r e = yes _ _ _ fits (yes _ _ _ s (yes _ _ _ (le-leb _ _ h) (no _ _ _ (beyond-test position ∙ le-ltb _ _ g) e)))
 
     pub delay-long : position ≤ m .whole
         → 65534 < (180000 * (m .whole - position) + m .rest / m .params .frn + m .params .«bit_rate») / (2 * m .params .«bit_rate»)
@@ -150,7 +147,7 @@ module _ (m : VbvCbrModel) (v : ModelFits m) where
         yes _ _ _ fits
         (yes _ _ _ s
         (yes _ _ _ (fitting-end m end g)
-        (no _ _ _ (over-test u e ∙ le-ltb _ _ o) (yes _ _ _ (under-test end ∙ lt-ltb _ _ k) refl))))
+        (no _ _ _ (over-test u e ∙ le-ltb _ _ o) (yes _ _ _ (beyond-test end ∙ lt-ltb _ _ k) refl))))
 
     pub remove-is : u ≤ m .«prev_end_bits» + m .params .«buffer_size_bits» → end ≤ m .whole
         → (x : VbvCbrModel) → x ≡ atDelivered m (nextDelivered m i)
@@ -169,7 +166,7 @@ module _ (m : VbvCbrModel) (v : ModelFits m) where
         yes _ _ _ fits
         (yes _ _ _ s
         (yes _ _ _ (fitting-end m end g)
-        (no _ _ _ (over-test u e ∙ le-ltb _ _ o) (no _ _ _ (under-test end ∙ le-ltb _ _ k) (rw a)))))
+        (no _ _ _ (over-test u e ∙ le-ltb _ _ o) (no _ _ _ (beyond-test end ∙ le-ltb _ _ k) (rw a)))))
 
 -- bits that a started model answers
 module _ (m : VbvCbrModel) (b : ℕ) where

@@ -21,13 +21,9 @@ gain p periods = p .«bit_rate» * 90000 * p .frd * periods
 unfoldable pub overflows : VbvParams → ℕ → ℕ → Bool
 overflows p previous d = ltb ((previous + p .«buffer_size_bits») * unit p) d
 
--- C.6; 11172-2 C.1.4: the picture that ends at `end` is not all there
-unfoldable pub underflows : VbvParams → ℕ → ℕ → Bool
-underflows p end d = ltb d (end * unit p)
-
--- the picture start code that ends at `position` is not all there
-unfoldable pub early : VbvParams → ℕ → ℕ → Bool
-early p position d = ltb d (position * unit p)
+-- C.6; 11172-2 C.1.4: `end` lies beyond the bits delivered, so the picture, or the start code, that ends there is not all there
+unfoldable pub beyond : VbvParams → ℕ → ℕ → Bool
+beyond p end d = ltb d (end * unit p)
 
 -- C.3.1, 6.3.9; 11172-2 2.4.3.4: ticks from the arrival of `position` to the removal; halves up (paper 01)
 unfoldable pub expectedDelay : VbvParams → ℕ → ℕ → ℕ

@@ -4,7 +4,7 @@ use Prim.Native.Nat.{ℕ, _+_, _*_, _/_, _%_, _^_}
 use mathlib.Core.Bool.{Bool, true, false, _&&_}
 use lib.Dec.{ltb, leb}
 use Rattle.bits.specs.Bits.{pick}
-use Rattle.vbv.specs.Annex.{unit, firstDelivered, gain, overflows, underflows, early, expectedDelay, occupancy, greatestEnd, leastEnd}
+use Rattle.vbv.specs.Annex.{unit, firstDelivered, gain, overflows, beyond, expectedDelay, occupancy, greatestEnd, leastEnd}
 use Rattle.vbv.specs.declared.RemovalInterval.{RemovalInterval}
 use Rattle.vbv.specs.declared.RemovalInterval.the-variants.{Frame, Field}
 use Rattle.vbv.specs.declared.VbvParams.{VbvParams}
@@ -96,7 +96,7 @@ delayForPicture m position =
     pick (modelFits m)
     (pick (m .started)
     (pick (leb position (2 ^ 48))
-    (pick (early (m .params) position (delivered m)) (dl.Refused Early)
+    (pick (beyond (m .params) position (delivered m)) (dl.Refused Early)
     (pick (leb (expectedDelay (m .params) position (delivered m)) 65534)
     (dl.Delay (expectedDelay (m .params) position (delivered m)))
     (dl.Refused DelayTooLong)))
@@ -114,7 +114,7 @@ removePicture m end i =
     (pick (m .started)
     (pick (endFits m end)
     (pick (overflows (m .params) (m .«prev_end_bits») (delivered m)) (rm.Violation (Overflow (m .removed) 0 0))
-    (pick (underflows (m .params) end (delivered m)) (rm.Violation (Underflow (m .removed) 0 0))
+    (pick (beyond (m .params) end (delivered m)) (rm.Violation (Underflow (m .removed) 0 0))
     (rm.Model (afterRemoval m end (nextDelivered m i)))))
     (rm.Refused Range))
     (rm.Refused Order))

@@ -8,7 +8,7 @@ use native.Mathlib.Omega.{arith}
 use lib.ListN.{length}
 use borrow.Author.Tests.{le-leb, le-ltb, ne-eqb}
 use Rattle.bits.specs.Bits.{pick}
-use Rattle.vbv.specs.Annex.{firstDelivered, gain, overflows, underflows, early, expectedDelay, occupancy}
+use Rattle.vbv.specs.Annex.{firstDelivered, gain, overflows, beyond, expectedDelay, occupancy}
 use Rattle.vbv.specs.Model.{paramsFit, periods}
 use Rattle.vbv.specs.declared.VbvParams.{VbvParams}
 use Rattle.verify.specs.declared.VbvStandard.{VbvStandard}
@@ -22,11 +22,11 @@ use Rattle.verify.specs.Check.{yes, judged, withPictures, withParams, ve
 
 -- a picture whose coded delay is the expected one, in a buffer that neither overflows nor underflows
 pub record Passed (p : VbvParams) (previous d : ℕ) (c : CodedPicture) : Type 0 where
-  pub in-time : early p (c .«pos_bits») d ≡ false
+  pub in-time : beyond p (c .«pos_bits») d ≡ false
   pub delay-exact : c .«vbv_delay» ≡ expectedDelay p (c .«pos_bits») d
   pub delay-told : c .«vbv_delay» ≤ 65534
   pub no-overflow : overflows p previous d ≡ false
-  pub no-underflow : underflows p (c .«end_bits») d ≡ false
+  pub no-underflow : beyond p (c .«end_bits») d ≡ false
 
 -- the record of such a picture
 abbrev pub exactRecord : VbvParams → ℕ → ℕ → CodedPicture → VbvPictureRecord

@@ -7,7 +7,7 @@ use Prim.Native.Nat.{ℕ, suc, _+_, _≤_}
 use native.Mathlib.Omega.{arith}
 use native.Mathlib.Numerals.{add-one}
 use borrow.Author.Tests.{ltb-false}
-use Rattle.vbv.specs.Annex.{gain, overflows, underflows, early, expectedDelay}
+use Rattle.vbv.specs.Annex.{gain, overflows, beyond, expectedDelay}
 use Rattle.vbv.specs.Model.{paramsFit, delivered, modelFits, afterRemoval, periods, nextDelivered}
 use Rattle.vbv.specs.Steps.{EndFits}
 use Rattle.vbv.specs.declared.VbvParams.{VbvParams}
@@ -34,10 +34,10 @@ pub record Ready (p : VbvParams) (m : VbvCbrModel) : Type 0 where
 
 -- a removal that Annex C records: it passed each test
 pub record WasRecorded (p : VbvParams) (previous d : ℕ) (c : CodedPicture) (r : VbvPictureRecord) : Type 0 where
-  pub in-time : early p (c .«pos_bits») d ≡ false
+  pub in-time : beyond p (c .«pos_bits») d ≡ false
   pub delay-low : expectedDelay p (c .«pos_bits») d ≤ 65534
   pub no-overflow : overflows p previous d ≡ false
-  pub no-underflow : underflows p (c .«end_bits») d ≡ false
+  pub no-underflow : beyond p (c .«end_bits») d ≡ false
   pub record-is : r ≡ recordOf p previous d c
 
 recorded-not : {e : VbvVerifyError} {r : VbvPictureRecord} → refused e ≡ recorded r → ⊥

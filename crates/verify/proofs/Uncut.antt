@@ -9,7 +9,7 @@ use mathlib.Core.Path.{_≡_}
 use Rattle.vbv.specs.Annex.{unit}
 use Rattle.vbv.specs.Model.{paramsFit}
 use Rattle.vbv.specs.declared.VbvParams.{VbvParams}
-use Rattle.vbv.proofs.Laws.{under-units, early-units, occupancy-least}
+use Rattle.vbv.proofs.Laws.{beyond-units, occupancy-least}
 use Rattle.verify.specs.declared.CodedPicture.{CodedPicture}
 use Rattle.verify.specs.declared.VbvPictureRecord.{VbvPictureRecord}
 use Rattle.verify.specs.Run.{recordOf}
@@ -23,11 +23,11 @@ module _ {p : VbvParams} (f : paramsFit p ≡ true) where
   removal-uncut : {previous d : ℕ} {c : CodedPicture} {r : VbvPictureRecord} → Placed previous c → WasRecorded p previous d c r → Uncut p previous d c r
   unfolding recordOf
   removal-uncut {previous} {d} {c} q w =
-      let e = under-units p (c .«end_bits») d (w .no-underflow) in
+      let e = beyond-units p (c .«end_bits») d (w .no-underflow) in
       let l : previous * unit p ≤ c .«end_bits» * unit p = mul-le-mul-right (unit p) (omega (arith, q .grows)) in
       record {
         record-is = w .record-is;
-        for-expected = early-units p (c .«pos_bits») d (w .in-time);
+        for-expected = beyond-units p (c .«pos_bits») d (w .in-time);
         for-data = omega (arith, q .grows);
         for-before = omega arith;
         for-after = rw (w .record-is) (occupancy-least p f previous (c .«end_bits») d (w .no-underflow));

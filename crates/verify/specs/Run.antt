@@ -5,7 +5,7 @@ use mathlib.Core.List.{List, [], _∷_}
 use mathlib.Core.Bool.{Bool, _||_}
 use lib.Dec.{ltb}
 use Rattle.bits.specs.Bits.{pick}
-use Rattle.vbv.specs.Annex.{gain, overflows, underflows, early, expectedDelay, occupancy}
+use Rattle.vbv.specs.Annex.{gain, overflows, beyond, expectedDelay, occupancy}
 use Rattle.vbv.specs.Model.{periods}
 use Rattle.vbv.specs.declared.VbvParams.{VbvParams}
 use Rattle.vbv.specs.declared.VbvError.the-variants.{Early, DelayTooLong}
@@ -34,12 +34,12 @@ recordOf p previous d c = record {
 
 unfoldable pub removal : VbvParams → ℕ → ℕ → ℕ → CodedPicture → Removal
 removal p n previous d c =
-    pick (early p (c .«pos_bits») d) (refused (Model Early))
+    pick (beyond p (c .«pos_bits») d) (refused (Model Early))
     (pick (ltb 65534 (expectedDelay p (c .«pos_bits») d)) (refused (Model DelayTooLong))
     (pick (apart (c .«vbv_delay») (expectedDelay p (c .«pos_bits») d))
     (refused (Violation (DelayMismatch n (c .«vbv_delay») (expectedDelay p (c .«pos_bits») d))))
     (pick (overflows p previous d) (refused (Violation (Overflow n (c .«vbv_delay») (expectedDelay p (c .«pos_bits») d))))
-    (pick (underflows p (c .«end_bits») d) (refused (Violation (Underflow n (c .«vbv_delay») (expectedDelay p (c .«pos_bits») d))))
+    (pick (beyond p (c .«end_bits») d) (refused (Violation (Underflow n (c .«vbv_delay») (expectedDelay p (c .«pos_bits») d))))
     (recorded (recordOf p previous d c))))))
 
 -- the records of all removals, or the first refusal
