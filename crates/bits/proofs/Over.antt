@@ -1,14 +1,15 @@
--- New bytes over the first of the old ones.
+-- New ones over the first of the old ones.
 -- Assumes nothing.
-use mathlib.Core.Path.{_≡_, refl, ap, _∙_}
-use mathlib.Core.List.{List, [], _++_}
-use Prim.Native.Nat.{ℕ, _+_, _-_, _≤_}
+use mathlib.Core.Path.{_≡_, refl, _∙_}
+use mathlib.Core.List.{List, [], _∷_, _++_}
+use Prim.Native.Nat.{ℕ, suc, _+_, _≤_}
 use native.Mathlib.Omega.{arith}
-use lib.ListN.{length, take, drop, length-append, length-drop}
+use native.Mathlib.Nat.{add-zero, add-suc, suc-add}
+use lib.ListN.{length, take, drop, set, length-append, length-drop}
 use lib.Seq.{sets, sets-eq, take-append-seam, drop-append-seam}
 use Rattle.bits.specs.Answers.{over}
 
-module _ (new old : List ℕ) where
+module _ {X : Type 0} (new old : List X) where
   pub over-is : over new old ≡ new ++ drop (length new) old
   unfolding over
   over-is = refl
@@ -29,6 +30,11 @@ module _ (new old : List ℕ) where
       let e : 0 + length new ≡ length new = omega arith in
       rw over-is (sets-eq new old 0 l ∙ rw e)
 
-pub over-none : (old : List ℕ) → over [] old ≡ old
+pub over-none : {X : Type 0} (old : List X) → over [] old ≡ old
 unfolding over
 over-none old = refl
+
+-- stored one run behind another
+pub sets-append : {X : Type 0} (x y out : List X) (k : ℕ) → sets out k (x ++ y) ≡ sets (sets out k x) (k + length x) y
+sets-append [] y out k = rw (add-zero k)
+sets-append (b ∷ x) y out k = rw (add-suc k (length x), ← suc-add k (length x)) (sets-append x y (set out k b) (suc k))

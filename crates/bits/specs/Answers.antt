@@ -16,8 +16,8 @@ use Rattle.bits.specs.declared.Outcome.{Outcome}
 use Rattle.bits.specs.declared.Outcome.the-variants.{Done, Short, Bad}
 use Rattle.bits.specs.declared.Fields.{Fields}
 
--- new bytes laid over the first of the old ones
-unfoldable pub over : List ℕ → List ℕ → List ℕ
+-- new ones laid over the first of the old ones
+unfoldable pub over : {X : Type 0} → List X → List X → List X
 over new old = new ++ drop (length new) old
 
 unfoldable pub readBits : List ℕ → ℕ → ℕ → Bits

@@ -2,7 +2,7 @@
 ghost use mathlib.Core.Path.{_≡_};
 ghost use lib.ListN.{replicate};
 ghost use Rattle.verify.specs.Check.{verdict, verified, records as recordsOf};
-ghost use Rattle.lent.specs.Laid.{laid};
+ghost use Rattle.bits.specs.Answers.{over};
 ghost use Rattle.vbv.specs.Lent.{startStep, removeStep};
 use vbv::RemovalInterval;
 use vbv::VbvCbrModel;
@@ -39,7 +39,7 @@ pub(crate) fn places(
     standard: VbvStandard,
     filling: VbvPictureRecord,
 ) -> [VbvPictureRecord; 4]
-    ensures { λ r. ⌜ r ≡ laid (recordsOf (verdict standard (now (stream .entry)) 4)) (replicate 4 filling) ⌝ }
+    ensures { λ r. ⌜ r ≡ over (recordsOf (verdict standard (now (stream .entry)) 4)) (replicate 4 filling) ⌝ }
 {
     let mut records = [filling; 4];
     lent::verify_cbr_stream(stream, standard, &mut records);

@@ -1,12 +1,14 @@
 -- Records stored one by one in a slice, from the walk of the check by value, come to be laid over its first places.
 -- Assumes nothing.
-use mathlib.Core.Path.{_≡_, refl, sym, ap, _∙_}
+use mathlib.Core.Path.{_≡_, refl, ap, _∙_}
 use Prim.Native.Nat.{ℕ, zero, suc, _+_, _≤_}
-use mathlib.Core.List.{List, [], _∷_}
+use mathlib.Core.List.{List}
 use native.Mathlib.Omega.{arith}
 use native.Mathlib.Nat.{add-zero, add-suc, suc-add}
 use lib.ListN.{length, set, length-set}
-use lib.Seq.{sets, sets-eq}
+use lib.Seq.{sets}
+use Rattle.bits.specs.Answers.{over}
+use Rattle.bits.proofs.Over.{over-sets}
 use Rattle.verify.specs.declared.VbvPictureRecord.{VbvPictureRecord}
 use Rattle.verify.specs.declared.VbvStandard.{VbvStandard}
 use Rattle.verify.specs.declared.recorder.VbvRecorder.{VbvRecorder}
@@ -14,7 +16,6 @@ use Rattle.verify.specs.Check.{verdict, verified, records}
 use Rattle.verify.specs.Sequence.{declared}
 use Rattle.verify.specs.Recorder.{recordCount, recorderOf, nextRecord}
 use Rattle.verify.proofs.Recording.{Yields, no-more, one-more, records-placed, count-is}
-use Rattle.lent.specs.Laid.{laid}
 
 -- the walk behind i pictures, and the places once the first i records are stored
 abbrev pub stateOf : List ℕ → VbvRecorder → ℕ → VbvRecorder
@@ -55,14 +56,12 @@ yielded {s} (one-more {w} {r} {rs} e y) j ys = stored-front s w j (length rs) ys
 
 -- as many as the answer has
 pub stored-is : (standard : VbvStandard) (s : List ℕ) (ys : List VbvPictureRecord)
-    → storedOf s (recorderOf standard (declared standard s)) (recordCount (verified (verdict standard s (length ys)))) ys ≡ laid (records (verdict standard s (length ys))) ys
+    → storedOf s (recorderOf standard (declared standard s)) (recordCount (verified (verdict standard s (length ys)))) ys ≡ over (records (verdict standard s (length ys))) ys
 stored-is standard s ys =
     let w = recorderOf standard (declared standard s) in
     let rs = records (verdict standard s (length ys)) in
     let k = records-placed standard s (length ys) in
-    let l : 0 + length rs ≤ length ys = omega (arith, k .few) in
-    let e : 0 + length rs ≡ length rs = omega arith in
-    rw (count-is (verdict standard s (length ys)), from-first s w (length rs) ys) (yielded (k .each) 0 ys ∙ sets-eq rs ys 0 l ∙ rw e)
+    rw (count-is (verdict standard s (length ys)), from-first s w (length rs) ys) (yielded (k .each) 0 ys ∙ over-sets rs ys (k .few))
 
 pub count-few : (standard : VbvStandard) (s : List ℕ) (places : ℕ) → recordCount (verified (verdict standard s places)) ≤ places
 count-few standard s places = omega (arith, count-is (verdict standard s places), records-placed standard s places .few)

@@ -9,10 +9,9 @@ use native.Mathlib.Numerals.{add-one}
 use lib.ListN.{length, getD, take, drop, set, replicate, drop-of-length-le, length-append, length-replicate}
 use lib.Seq.{sets, sets-eq, length-sets, drop-cons, take-at, drop-at, length-take-le}
 use Rattle.bits.specs.Answers.{over}
-use Rattle.bits.proofs.Over.{over-sets}
+use Rattle.bits.proofs.Over.{over-sets, sets-append}
 use Rattle.vbv.specs.Patch.{patched}
 use Rattle.vbv.proofs.After.{patched-size}
-use Rattle.verify.proofs.Storing.{sets-append}
 use Rattle.rate_control.specs.Offer.{tail}
 
 -- one byte more

@@ -52,7 +52,7 @@ use Rattle.verify.specs.Check.{verdict, verified, records}
 use Rattle.verify.specs.declared.VbvStandard.{VbvStandard}
 use Rattle.verify.specs.declared.VbvVerified.{VbvVerified}
 use Rattle.verify.specs.declared.VbvPictureRecord.{VbvPictureRecord}
-use Rattle.lent.specs.Laid.{laid}
+use Rattle.bits.specs.Answers.{over}
 use Rattle.verify.proofs.VbvPictureRecord as T
 use Rattle.verify.proofs.VbvPictureRecord.Laws as T′
 use Rattle.verify.proofs.VbvStandard as N
@@ -114,7 +114,7 @@ module _ {M : Type 1} (𝓤 : URA M) (H : Heap 𝓤) (A : Atoms 𝓤) (W : Given
   vd = verified (verdict standard xs 4)
 
   abbrev zs : List VbvPictureRecord
-  zs = laid (records (verdict standard xs 4)) ws₀
+  zs = over (records (verdict standard xs 4)) ws₀
 
   abbrev x : RefT (List ℕ) × (VbvStandard × (VbvPictureRecord × Unit {0}))
   x = (s, (standard, (filling, tt)))
