@@ -21,19 +21,19 @@ use Rattle.verify.specs.declared.VbvVerifyError.{VbvVerifyError}
 use Rattle.verify.specs.declared.VbvStreamReport.{VbvStreamReport}
 use Rattle.verify.specs.declared.VbvRefusal.{VbvRefusal}
 use Rattle.verify.proofs.Verdict.{unstored}
-use Rattle.layout.specs.Words.{laid}
-use Rattle.layout.specs.Answers.{reportBytes, refusalBytes}
+use Rattle.words.specs.Words.{wordsBytes, laid}
+use Rattle.layout.specs.Answers.{reportWords, refusalWords}
 use Rattle.hipokuta.specs.Check.{Checked, refused, answered, judged, checked, numberOf, reportAfter, recordsAfter, refusalAfter}
 
 -- ---- an answer of the check, without its records
 
 pub refuses : {v : VbvVerified} {e : VbvVerifyError} {r : VbvRefusal} {n : ℕ} (report place : List ℕ) {after : List ℕ}
-    → v ≡ Refused e → r ≡ refusalOf e → n ≡ r .number → after ≡ laid (refusalBytes r) place
+    → v ≡ Refused e → r ≡ refusalOf e → n ≡ r .number → after ≡ laid (wordsBytes (refusalWords r)) place
     → (n ≡ numberOf (answered v [])) × ((report ≡ reportAfter (answered v []) report) × (after ≡ refusalAfter (answered v []) place))
 unfolding answered numberOf reportAfter refusalAfter
 refuses report place a b n f = rw (a, ← b) (n, (refl, f))
 
-pub reports : {v : VbvVerified} {r : VbvStreamReport} (place refusal : List ℕ) {after : List ℕ} → v ≡ Report r → after ≡ laid (reportBytes r) place
+pub reports : {v : VbvVerified} {r : VbvStreamReport} (place refusal : List ℕ) {after : List ℕ} → v ≡ Report r → after ≡ laid (wordsBytes (reportWords r)) place
     → (0 ≡ numberOf (answered v [])) × ((after ≡ reportAfter (answered v []) place) × (refusal ≡ refusalAfter (answered v []) refusal))
 unfolding answered numberOf reportAfter refusalAfter
 reports place refusal a p = rw a (refl, (p, refl))
@@ -57,7 +57,7 @@ module _ (s : List ℕ) (standard : ℕ) (p q f : List ℕ) where
   abbrev Leaves : Checked → ℕ → List ℕ → List ℕ → List ℕ → Type 0
   Leaves c n p' q' f' = (n ≡ numberOf c) × ((p' ≡ reportAfter c p) × ((q' ≡ recordsAfter c q) × (f' ≡ refusalAfter c f)))
 
-  leaves-refused : (k : ℕ) {r : VbvRefusal} {n : ℕ} {f' : List ℕ} → r ≡ plain k → n ≡ r .number → f' ≡ laid (refusalBytes r) f
+  leaves-refused : (k : ℕ) {r : VbvRefusal} {n : ℕ} {f' : List ℕ} → r ≡ plain k → n ≡ r .number → f' ≡ laid (wordsBytes (refusalWords r)) f
       → Leaves (refused (plain k)) n p q f'
   unfolding numberOf reportAfter recordsAfter refusalAfter
   leaves-refused k {n = n} {f'} e m w = subst (λ x. Leaves (refused x) n p q f') e (m, (refl, (refl, w)))
@@ -77,13 +77,13 @@ module _ (s : List ℕ) (standard : ℕ) (p q f : List ℕ) where
   -- ---- the ways of the chain
 
   pub no-place : {r : VbvRefusal} {n : ℕ} {f' : List ℕ} → (ltb (length f) 32 || ltb (length p) 40) ≡ true
-      → r ≡ plain 19 → n ≡ r .number → f' ≡ laid (refusalBytes r) f → Leaves (checked s standard p q f) n p q f'
+      → r ≡ plain 19 → n ≡ r .number → f' ≡ laid (wordsBytes (refusalWords r)) f → Leaves (checked s standard p q f) n p q f'
   unfolding checked pick
   no-place h e n w = rw (room (length f) (length p) 32 40 true h) (leaves-refused 19 e n w)
 
   module _ (h : (ltb (length f) 32 || ltb (length p) 40) ≡ false) where
     pub no-standard : {r : VbvRefusal} {n : ℕ} {f' : List ℕ} → (standard ≡ 1 → ⊥) → (standard ≡ 2 → ⊥)
-        → r ≡ plain 12 → n ≡ r .number → f' ≡ laid (refusalBytes r) f → Leaves (checked s standard p q f) n p q f'
+        → r ≡ plain 12 → n ≡ r .number → f' ≡ laid (wordsBytes (refusalWords r)) f → Leaves (checked s standard p q f) n p q f'
     unfolding checked pick
     no-standard a b e n w =
         rw (room (length f) (length p) 32 40 false h, ne-eqb standard 1 a, ne-eqb standard 2 b) (leaves-refused 12 e n w)

@@ -20,8 +20,9 @@ use Rattle.rate_control.proofs.Demand.{demand}
 use Rattle.rate_control.proofs.Lists.{run-none, run-one, run-append, final-none, final-one, final-append, after-offer, after-withdrawal}
 use Rattle.rate_control.proofs.Keeping.{Whole, created-whole, after-whole, final-whole}
 use Rattle.layout.specs.State.{stateBytes, stateFits, writerAt}
-use Rattle.layout.specs.Words.{laid}
-use Rattle.layout.proofs.RoundTrip.{read-put, length-state, laid-laid}
+use Rattle.words.specs.Words.{laid}
+use Rattle.layout.proofs.RoundTrip.{read-put, length-state}
+use Rattle.words.proofs.Laying.{laid-laid}
 use Rattle.hipokuta.specs.Send.{creationNumber, createNumber, createState, created, COffer, codesFit, offerOf, stopped, reached, asking, reach, offerState, withdrawNumber, withdrawState}
 use Rattle.hipokuta.specs.Calls.{CCall, offers, withdraws, after, offerSteps, steps, runC, finalC, callsOf, calls, seen, seenC, shown, shownAll, OwedFromC}
 use Rattle.hipokuta.proofs.Numbers.{model-number}

@@ -25,7 +25,7 @@ use Rattle.rate_control.proofs.Placing.{room-enough}
 use Rattle.rate_control.proofs.Each.{withdraw-told}
 use Rattle.rate_control.proofs.Keeping.{refused-keeps, refused-closes, refused-out, withdraw-unpending}
 use Rattle.layout.specs.State.{stateBytes, stateFits, writerAt}
-use Rattle.layout.specs.Words.{laid}
+use Rattle.words.specs.Words.{laid}
 use Rattle.layout.proofs.RoundTrip.{read-back, state-fits}
 use Rattle.hipokuta.specs.Send.{creationNumber, createNumber, created, createState, COffer, offerOf, Reached, stopped, reached, asking, reach, answerNumber, offerNumber, offerState, offerOut, withdrawalNumber, withdrawNumber, withdrawState}
 use Rattle.hipokuta.specs.Calls.{IsRefused, OwedOfRefusals}

@@ -28,11 +28,12 @@ use Rattle.rate_control.proofs.Creation.{within-is}
 use Rattle.rate_control.proofs.Keeping.{created-whole}
 use Rattle.layout.specs.Answers.{refusedWords, answerWords}
 use Rattle.layout.specs.State.{stateBytes, held}
-use Rattle.layout.specs.Words.{wordsBytes, laid}
+use Rattle.words.specs.Words.{wordsBytes, laid}
 use Rattle.layout.specs.declared.CbrState.{CbrState}
 use Rattle.layout.proofs.Answering.{length-refused}
 use Rattle.layout.proofs.Held.{holds, holds-none}
-use Rattle.layout.proofs.RoundTrip.{length-state, laid-short}
+use Rattle.layout.proofs.RoundTrip.{length-state}
+use Rattle.words.proofs.Laying.{laid-short}
 use Rattle.hipokuta.specs.Send.{creationNumber, createNumber, created, createState, COffer, kindOf, intervalOf, codesFit, offerOf, Reached, stopped, reached, asking, reach, answerNumber, offerNumber, offerState, offerOut, offerAnswer, withdrawalNumber, withdrawNumber, withdrawState}
 
 -- ---- creation: the number, and the place afterwards

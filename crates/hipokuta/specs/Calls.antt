@@ -20,7 +20,7 @@ use Rattle.rate_control.specs.declared.CbrAnswer.{CbrAnswer}
 use Rattle.rate_control.specs.declared.CbrAnswer.the-variants.{Placed, Again, Refused}
 use Rattle.rate_control.specs.declared.Pending.the-variants.{Nothing}
 use Rattle.layout.specs.State.{stateBytes, stateFits, writerAt}
-use Rattle.layout.specs.Words.{laid}
+use Rattle.words.specs.Words.{laid}
 use Rattle.hipokuta.specs.Send.{createNumber, createState, COffer, codesFit, offerOf, Reached, stopped, reached, asking, reach, offerNumber, offerState, offerOut, offerAnswer, withdrawalNumber, withdrawNumber, withdrawState}
 
 pub data CCall : Type 0 where

@@ -16,8 +16,8 @@ use Rattle.verify.specs.declared.VbvVerified.the-variants.{Report, Refused}
 use Rattle.verify.specs.declared.VbvPictureRecord.{VbvPictureRecord}
 use Rattle.verify.specs.declared.VbvStreamReport.{VbvStreamReport}
 use Rattle.verify.specs.declared.VbvRefusal.{VbvRefusal}
-use Rattle.layout.specs.Words.{laid}
-use Rattle.layout.specs.Answers.{reportBytes, refusalBytes}
+use Rattle.words.specs.Words.{wordsBytes, laid}
+use Rattle.layout.specs.Answers.{reportWords, refusalWords}
 
 -- a report with its records, or a refusal
 pub data Checked : Type 0 where
@@ -48,12 +48,12 @@ numberOf (reported r rs) = 0
 -- the places afterwards; a refusal place that is too short is left alone
 unfoldable pub reportAfter : Checked → List ℕ → List ℕ
 reportAfter (refused r) place = place
-reportAfter (reported r rs) place = laid (reportBytes r) place
+reportAfter (reported r rs) place = laid (wordsBytes (reportWords r)) place
 
 unfoldable pub recordsAfter : Checked → List ℕ → List ℕ
 recordsAfter (refused r) place = place
 recordsAfter (reported r rs) place = over (recordsBytes rs) place
 
 unfoldable pub refusalAfter : Checked → List ℕ → List ℕ
-refusalAfter (refused r) place = laid (refusalBytes r) place
+refusalAfter (refused r) place = laid (wordsBytes (refusalWords r)) place
 refusalAfter (reported r rs) place = place

@@ -24,7 +24,7 @@ use Rattle.rate_control.specs.declared.CbrAnswer.{CbrAnswer}
 use Rattle.rate_control.specs.declared.CbrAnswer.the-variants.{Placed, Again, Refused}
 use Rattle.rate_control.specs.declared.CbrWithdrawal.{CbrWithdrawal}
 use Rattle.rate_control.specs.declared.CbrWithdrawal.the-variants.{Withdrawn, Refused as NotWithdrawn}
-use Rattle.layout.specs.Words.{wordsBytes, laid}
+use Rattle.words.specs.Words.{wordsBytes, laid}
 use Rattle.layout.specs.State.{stateBytes, stateFits, writerAt}
 use Rattle.layout.specs.Answers.{refusedWords, answerWords}
 

@@ -1,8 +1,8 @@
 // The check of a stream, its report, records and refusal as bytes.
 ghost use mathlib.Core.Path.{_≡_};
 ghost use mathlib.Core.List.{[]};
-ghost use Rattle.layout.specs.Words.{laid};
-ghost use Rattle.layout.specs.Answers.{refusalBytes};
+ghost use Rattle.words.specs.Words.{wordsBytes, laid};
+ghost use Rattle.layout.specs.Answers.{refusalWords};
 ghost use Rattle.hipokuta.specs.Check.{answered, checked, numberOf, reportAfter, recordsAfter, refusalAfter};
 use layout::put_refusal;
 use layout::put_report;
@@ -19,7 +19,7 @@ const REFUSAL_BYTES: usize = 32;
 // A refusal in its place: its number.
 fn refuse(place: &mut [u8], r: VbvRefusal) -> u64
     ensures { λ n. ⌜ n ≡ r .«number» ⌝ }
-    ensures { λ n. ⌜ now (place .exit) ≡ laid (refusalBytes r) (now (place .entry)) ⌝ }
+    ensures { λ n. ⌜ now (place .exit) ≡ laid (wordsBytes (refusalWords r)) (now (place .entry)) ⌝ }
 {
     put_refusal(place, r);
     r.number as u64

@@ -10,9 +10,9 @@ use Rattle.rate_control.specs.Answers.{refusalOf}
 use Rattle.rate_control.specs.declared.CbrError.{CbrError}
 use Rattle.rate_control.specs.declared.CbrAnswer.{CbrAnswer}
 use Rattle.rate_control.specs.declared.CbrAnswer.the-variants.{Placed, Again, Refused}
-use Rattle.layout.specs.Words.{wordsBytes, laid}
+use Rattle.words.specs.Words.{wordsBytes, laid}
 use Rattle.layout.specs.Answers.{refusedWords, answerWords}
-use Rattle.layout.proofs.Bytes.{length-words}
+use Rattle.words.proofs.Bytes.{length-words}
 
 pub length-refused : (r : VbvRefusal) → length (wordsBytes (refusedWords r)) ≡ 72
 unfolding refusedWords

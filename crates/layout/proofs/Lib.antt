@@ -1,6 +1,5 @@
 pub mod Laying
 pub mod Reading
-pub mod Bytes
 pub mod Ranges
 pub mod RoundTrip
 pub mod Held

@@ -18,7 +18,7 @@ use Rattle.vbv.proofs.Fitting.{model-fits}
 use Rattle.rate_control.proofs.Fitting.{every-at, quantiser-is, writer-fits}
 use Rattle.rate_control.proofs.States.{pending-some}
 use Rattle.layout.specs.State.{pendingCode, pendingQuantiser, stateWords}
-use Rattle.layout.proofs.Bytes.{AllSmall, none, some, each-small, small-append}
+use Rattle.words.proofs.Bytes.{AllSmall, none, some, each-small, small-append}
 
 pub code-low : (p : Pending) → pendingCode p ≤ 3
 unfolding pendingCode

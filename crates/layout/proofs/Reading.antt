@@ -1,14 +1,12 @@
--- A word read from its high byte down, and the ways through the reading of a state.
+-- The ways through the reading of a state.
 -- Assumes nothing.
 use mathlib.Core.Path.{_≡_, refl, sym, _∙_}
-use Prim.Native.Nat.{ℕ, zero, suc, _+_, _-_, _*_, _^_, _≤_, _<_}
+use Prim.Native.Nat.{ℕ, _≤_, _<_}
 use mathlib.Core.Bool.{Bool, true, false, not, _||_, _&&_, true≢false}
 use mathlib.Core.List.{List, [], _∷_}
 use native.Mathlib.Omega.{arith}
-use native.Mathlib.Nat.{add-zero, pow-le-pow-right}
 use lib.Dec.{leb, eqb}
-use lib.ListN.{length, getD, take, drop}
-use lib.Seq.{drop-cons}
+use lib.ListN.{length}
 use borrow.Author.Tests.{leb-true, le-leb, eqb-true}
 use Rattle.bits.specs.Bits.{pick}
 use Rattle.bits.proofs.Reading.{both-true}
@@ -23,48 +21,11 @@ use Rattle.rate_control.specs.declared.CbrWriter.{CbrWriter}
 use Rattle.rate_control.proofs.Chain.{pick-elim}
 use Rattle.rate_control.proofs.Fitting.{every-at, quantiser-is, writer-fits}
 use Rattle.rate_control.proofs.States.{pending-some}
-use Rattle.layout.specs.Words.{fromLow, wordAt}
+use Rattle.words.specs.Words.{wordAt}
 use Rattle.layout.specs.State.{codesFit, pendingOf, writerAt, stateFits, held}
 use Rattle.layout.specs.Steps.{Narrow, narrow}
 use Rattle.layout.specs.declared.CbrState.{CbrState}
 use Rattle.layout.proofs.RoundTrip.{state-fits}
-
--- the bytes from place `left` of a word on, as a number
-abbrev pub high : List ℕ → ℕ → ℕ → ℕ
-high s at left = fromLow (take (8 - left) (drop (at + left) s))
-
-pub high-none : (s : List ℕ) (at : ℕ) → 0 ≡ high s at 8
-unfolding fromLow
-high-none s at = refl
-
--- the next byte down
-pub high-step : (s : List ℕ) (at left v b : ℕ) → 0 < left → left ≤ 8 → at + 8 ≤ length s → v ≡ high s at left
-    → b ≡ getD s (at + (left - 1)) 0 → v * 256 + b ≡ high s at (left - 1)
-unfolding fromLow
-high-step s at zero v b h l m e f = absurd (omega arith)
-high-step s at (suc n) v b h l m e f =
-    let a : suc n - 1 ≡ n = omega arith in
-    let g : 8 - n ≡ suc (8 - suc n) = omega arith in
-    let d : suc (at + n) ≡ at + suc n = omega arith in
-    rw (e, f, a, g, drop-cons s (at + n) 0 (omega arith), d) (omega arith)
-
-pub high-all : (s : List ℕ) (k v left : ℕ) → left ≤ 0 → v ≡ high s (8 * k) left → v ≡ wordAt s k
-unfolding wordAt
-high-all s k v zero h e = rw (add-zero (8 * k)) at (e)
-high-all s k v (suc n) h e = absurd (omega arith)
-
--- its size
-pub size-step : (v b left : ℕ) → 0 < left → left ≤ 8 → v < 256 ^ (8 - left) → b < 256 → v * 256 + b < 256 ^ (8 - (left - 1))
-size-step v b zero h l e f = absurd (omega arith)
-size-step v b (suc n) h l e f =
-    let a : suc n - 1 ≡ n = omega arith in
-    let d : 8 - n ≡ suc (8 - suc n) = omega arith in
-    rw (a, d) (omega arith)
-
-pub size-most : (v left : ℕ) → 0 < left → left ≤ 8 → v < 256 ^ (8 - left) → v < 256 ^ 7
-size-most v left h l e = omega (arith, pow-le-pow-right {n = 256} (omega arith) {i = 8 - left} {j = 7} (omega arith))
-
--- ---- a state
 
 abbrev unfit : CbrState
 unfit = record { fits = false; writer = noWriter }

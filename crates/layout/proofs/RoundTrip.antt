@@ -1,18 +1,16 @@
--- A writer's state put over a place and read from it, and the other way; and what laying bytes over a place leaves.
+-- A writer's state put over a place and read from it, and the other way.
 -- Assumes nothing.
 use mathlib.Core.Path.{_≡_, refl, sym}
-use mathlib.Core.Bool.{Bool, true, false}
+use mathlib.Core.Bool.{Bool, true}
 use mathlib.Core.List.{List, [], _∷_, _++_}
 use Prim.Native.Nat.{ℕ, zero, suc, _≤_, _<_}
 use native.Mathlib.Omega.{arith}
-use native.Mathlib.Decide.{decLe}
 use lib.Dec.{T, leb, ltb, eqb, lit<}
 use lib.ListN.{length, getD, take, drop, length-append, take-append-drop}
 use lib.Seq.{length-take-le}
-use borrow.Author.Tests.{leb-true, eqb-true, le-leb, lt-leb}
+use borrow.Author.Tests.{leb-true, eqb-true, le-leb}
 use Rattle.bits.specs.Bits.{pick}
-use Rattle.bits.specs.Answers.{over}
-use Rattle.bits.proofs.Over.{over-is, over-drop, over-length}
+use Rattle.bits.proofs.Over.{over-is}
 use Rattle.bits.proofs.Reading.{both-true}
 use Rattle.headers.specs.Answers.{flagOf}
 use Rattle.headers.proofs.Answers.{flag-same, flag-back, flag-bound}
@@ -22,38 +20,11 @@ use Rattle.rate_control.specs.Writer.{writerFits}
 use Rattle.rate_control.specs.declared.Pending.{Pending}
 use Rattle.rate_control.specs.declared.Pending.the-variants.{Nothing, Waits}
 use Rattle.rate_control.specs.declared.CbrWriter.{CbrWriter}
-use Rattle.layout.specs.Words.{wordsBytes, laid, wordAt}
+use Rattle.words.specs.Words.{wordsBytes, laid, wordAt}
+use Rattle.words.proofs.Bytes.{length-words, word-put, wordsFrom, words-back}
+use Rattle.words.proofs.Laying.{laid-over, length-laid}
 use Rattle.layout.specs.State.{pendingCode, pendingQuantiser, stateWords, stateBytes, pendingOf, codesFit, writerAt, stateFits, held}
-use Rattle.layout.proofs.Bytes.{length-words, word-put, wordsFrom, words-back}
 use Rattle.layout.proofs.Ranges.{code-low, state-small}
-
--- ---- bytes laid over a place
-
-pub laid-over : (bytes place : List ℕ) → length bytes ≤ length place → laid bytes place ≡ over bytes place
-unfolding laid pick
-laid-over bytes place h = rw (le-leb _ _ h)
-
-pub laid-short : (bytes place : List ℕ) → length place < length bytes → laid bytes place ≡ place
-unfolding laid pick
-laid-short bytes place h = rw (lt-leb _ _ h)
-
-pub length-laid : (bytes place : List ℕ) → length (laid bytes place) ≡ length place
-length-laid bytes place = go (decLe (length bytes) (length place))
-  where
-    go : Dec (length bytes ≤ length place) → length (laid bytes place) ≡ length place
-    go (yes h) = rw (laid-over bytes place h) (over-length bytes place h)
-    go (no h) = rw (laid-short bytes place (omega arith))
-
--- what is laid last stays
-pub laid-laid : (new old place : List ℕ) → length new ≡ length old → laid new (laid old place) ≡ laid new place
-laid-laid new old place e = go (decLe (length old) (length place))
-  where
-    go : Dec (length old ≤ length place) → laid new (laid old place) ≡ laid new place
-    go (yes h) =
-        let l : length new ≤ length (over old place) = omega (arith, over-length old place h) in
-        let d : drop (length new) (over old place) ≡ drop (length new) place = rw e (over-drop old place) in
-        rw (laid-over old place h, laid-over new (over old place) l, laid-over new place (omega arith), over-is new (over old place), over-is new place, d)
-    go (no h) = rw (laid-short old place (omega arith))
 
 -- ---- a writer's lists
 

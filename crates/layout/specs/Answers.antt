@@ -7,20 +7,13 @@ use Rattle.verify.specs.declared.VbvRefusal.{VbvRefusal}
 use Rattle.rate_control.specs.Answers.{refusalOf}
 use Rattle.rate_control.specs.declared.CbrAnswer.{CbrAnswer}
 use Rattle.rate_control.specs.declared.CbrAnswer.the-variants.{Placed, Again, Refused}
-use Rattle.layout.specs.Words.{wordsBytes}
 
-unfoldable pub reportBytes : VbvStreamReport → List ℕ
-reportBytes r =
-    wordsBytes
-    (r .«bit_rate»
-    ∷ r .«buffer_size_bits»
-    ∷ r .pictures
-    ∷ r .«min_occupancy_after_bits»
-    ∷ r .«max_occupancy_before_bits»
-    ∷ [])
+unfoldable pub reportWords : VbvStreamReport → List ℕ
+reportWords r =
+    r .«bit_rate» ∷ r .«buffer_size_bits» ∷ r .pictures ∷ r .«min_occupancy_after_bits» ∷ r .«max_occupancy_before_bits» ∷ []
 
-unfoldable pub refusalBytes : VbvRefusal → List ℕ
-refusalBytes r = wordsBytes (r .number ∷ r .picture ∷ r .coded ∷ r .expected ∷ [])
+unfoldable pub refusalWords : VbvRefusal → List ℕ
+refusalWords r = r .number ∷ r .picture ∷ r .coded ∷ r .expected ∷ []
 
 -- outcome (0 placed, 1 again, 2 refused), number, picture, coded, expected, quantiser, delay, bytes placed, stuffing bytes among them; 0 where an outcome has no use for it
 unfoldable pub refusedWords : VbvRefusal → List ℕ

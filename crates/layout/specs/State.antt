@@ -14,7 +14,7 @@ use Rattle.rate_control.specs.Writer.{index, writerFits}
 use Rattle.rate_control.specs.declared.Pending.{Pending}
 use Rattle.rate_control.specs.declared.Pending.the-variants.{Nothing, Waits}
 use Rattle.rate_control.specs.declared.CbrWriter.{CbrWriter}
-use Rattle.layout.specs.Words.{wordsBytes, wordAt}
+use Rattle.words.specs.Words.{wordsBytes, wordAt}
 use Rattle.layout.specs.declared.CbrState.{CbrState}
 
 -- ---- written

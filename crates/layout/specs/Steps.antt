@@ -4,7 +4,7 @@ use Prim.Native.Nat.{ℕ, _≤_}
 use mathlib.Core.List.{List}
 use mathlib.Core.Bool.{Bool, _&&_}
 use lib.Dec.{leb}
-use Rattle.layout.specs.Words.{wordAt}
+use Rattle.words.specs.Words.{wordAt}
 use Rattle.layout.specs.State.{codesFit}
 
 -- quantisers are kept in 8 bits: none of these words is above 31

@@ -1,15 +1,15 @@
 // Report, refusal and the answer to an offer in their places; a place that is too short is left alone.
 ghost use mathlib.Core.Path.{_≡_};
-ghost use Rattle.layout.specs.Words.{wordsBytes, laid};
-ghost use Rattle.layout.specs.Answers.{reportBytes, refusalBytes, refusedWords, answerWords};
-use crate::words::put_words;
+ghost use Rattle.words.specs.Words.{wordsBytes, laid};
+ghost use Rattle.layout.specs.Answers.{reportWords, refusalWords, refusedWords, answerWords};
 use rate_control::CbrAnswer;
 use verify::VbvRefusal;
 use verify::VbvStreamReport;
+use words::put_words;
 
 // The report of a stream.
 pub fn put_report(place: &mut [u8], r: VbvStreamReport)
-    ensures { λ n. ⌜ now (place .exit) ≡ laid (reportBytes r) (now (place .entry)) ⌝ }
+    ensures { λ n. ⌜ now (place .exit) ≡ laid (wordsBytes (reportWords r)) (now (place .entry)) ⌝ }
 {
     let words = [
         r.bit_rate,
@@ -23,7 +23,7 @@ pub fn put_report(place: &mut [u8], r: VbvStreamReport)
 
 // The refusal of a stream.
 pub fn put_refusal(place: &mut [u8], r: VbvRefusal)
-    ensures { λ n. ⌜ now (place .exit) ≡ laid (refusalBytes r) (now (place .entry)) ⌝ }
+    ensures { λ n. ⌜ now (place .exit) ≡ laid (wordsBytes (refusalWords r)) (now (place .entry)) ⌝ }
 {
     let words = [
         r.number as u64,

@@ -1,5 +1,4 @@
 // Report, refusal, answer and a writer's state as bytes, laid out as docs/LAYOUT.md says.
-mod words; // words as bytes, and words read
 mod state; // a writer's state
 mod answers; // report, refusal and answer
 

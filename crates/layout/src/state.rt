@@ -1,22 +1,20 @@
 // A writer's state as bytes, and the writer that a place holds.
 ghost use mathlib.Core.Path.{_≡_};
 ghost use mathlib.Core.Bool.{false};
-ghost use Prim.Native.Nat.{_≤_};
-ghost use lib.ListN.{length};
 ghost use Rattle.headers.specs.Answers.{flagOf};
 ghost use Rattle.rate_control.specs.Create.{noWriter};
-ghost use Rattle.layout.specs.Words.{laid};
+ghost use Rattle.words.specs.Words.{laid};
 ghost use Rattle.layout.specs.State.{pendingCode, pendingQuantiser, pendingOf, writerAt, stateBytes, held};
 ghost use Rattle.layout.specs.Steps.{Narrow, narrow as narrowOf};
 use crate::CbrState;
-use crate::words::put_words;
-use crate::words::word_at;
 use layers::PictureKind;
 use rate_control::CbrWriter;
 use rate_control::Pending;
 use rate_control::no_writer;
 use vbv::VbvCbrModel;
 use vbv::VbvParams;
+use words::put_words;
+use words::word_at;
 
 const STATE_BYTES: usize = 152;
 
@@ -83,7 +81,6 @@ pub fn put_state(place: &mut [u8], writer: CbrWriter)
 }
 
 fn model_at(place: &[u8]) -> VbvCbrModel
-    requires { ⌜ 152 ≤ length (now place) ⌝ }
     ensures { λ r. ⌜ r ≡ writerAt (now (place .entry)) .model ⌝ }
 {
     let params = VbvParams {
@@ -104,7 +101,6 @@ fn model_at(place: &[u8]) -> VbvCbrModel
 
 // The words that a writer has in fewer bits: flags, the pending picture, quantisers up to 31.
 fn narrow(place: &[u8]) -> bool
-    requires { ⌜ 152 ≤ length (now place) ⌝ }
     ensures { λ r. ⌜ r ≡ narrowOf (now (place .entry)) ⌝ }
 {
     let code = word_at(place, 15);
@@ -128,7 +124,6 @@ fn pending_at(code: u64, q: u8) -> Pending
 }
 
 fn writer_at(place: &[u8]) -> CbrWriter
-    requires { ⌜ 152 ≤ length (now place) ⌝ }
     requires { ⌜ Narrow (now place) ⌝ }
     ensures { λ r. ⌜ r ≡ writerAt (now (place .entry)) ⌝ }
 {

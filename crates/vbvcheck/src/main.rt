@@ -1,7 +1,6 @@
 // Prints the buffer report of an MPEG-2 stream that it reads on standard input, or why the stream is refused (paper 01).
 // What is printed is worked out in `text`; here it is read and written.
 mod text; // what is printed
-mod words; // words of a record
 
 use libc::STDIN_FILENO;
 use libc::STDOUT_FILENO;

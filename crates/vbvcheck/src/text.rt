@@ -6,12 +6,12 @@ ghost use lib.ListN.{length, take, drop};
 ghost use Rattle.io.specs.Counts.{Counts};
 ghost use Rattle.vbvcheck.specs.Text.{ascii, decimal, line, reportText, refusalText, printed};
 ghost use Rattle.vbvcheck.specs.Words.{lineOf, linesOf};
-use crate::words::word64;
 use verify::VbvRefusal;
 use verify::VbvStandard;
 use verify::VbvStreamReport;
 use verify::VbvVerified;
 use verify::verify_cbr_stream;
+use words::word_at;
 
 fn put(out: &mut [u8], at: usize, text: &[u8]) -> usize
     requires { ⌜ at + length (now text) ≤ length (now out) ⌝ }
@@ -63,11 +63,12 @@ fn put_record(out: &mut [u8], at: usize, records: &[u8], k: usize) -> usize
     ensures { λ r. ⌜ take r (now (out .exit)) ≡ take at (now (out .entry)) ++ lineOf (drop (32 * k) (now (records .entry))) ⌝ }
 {
     let from = 32 * k;
+    let record = &records[from..];
     let numbers = [
-        word64(records, from),
-        word64(records, from + 8),
-        word64(records, from + 16),
-        word64(records, from + 24),
+        word_at(record, 0),
+        word_at(record, 1),
+        word_at(record, 2),
+        word_at(record, 3),
     ];
     put_line(out, at, &numbers)
 }

@@ -1,68 +1,29 @@
--- Records stored word by word and byte by byte.
+-- Records stored in their places.
 -- Assumes nothing.
-use mathlib.Core.Path.{_≡_, refl, sym, ap, _∙_}
-use Prim.Native.Nat.{ℕ, zero, suc, _+_, _-_, _*_, _/_, _%_, _≤_, _<_}
-use mathlib.Core.List.{List, [], _∷_, _++_, append-assoc}
+use mathlib.Core.Path.{_≡_, refl, sym, _∙_}
+use Prim.Native.Nat.{ℕ, _+_, _-_, _*_, _≤_}
+use mathlib.Core.List.{List, [], _∷_, _++_}
 use native.Mathlib.Omega.{arith}
-use native.Mathlib.Nat.{add-zero, add-suc, suc-add}
-use native.Mathlib.Numerals.{add-one}
-use lib.ListN.{length, set, length-append}
+use lib.ListN.{length, take, drop, length-append}
 use lib.Seq.{sets}
 use Rattle.bits.specs.Answers.{over}
-use Rattle.bits.proofs.Over.{over-sets}
-use Rattle.verify.specs.Layout.{lowFirst, recordBytes, recordsBytes}
+use Rattle.bits.proofs.Over.{over-sets, sets-append}
+use Rattle.words.specs.Words.{wordsBytes, laid}
+use Rattle.words.proofs.Bytes.{length-words}
+use Rattle.words.proofs.Laying.{laid-part}
+use Rattle.verify.specs.Layout.{recordBytes, recordsBytes}
 use Rattle.verify.specs.declared.VbvPictureRecord.{VbvPictureRecord}
-
--- a byte of a word
-pub word-step : (out : List ℕ) (k rest left : ℕ) → 0 < left
-    → sets (set out k (rest % 256)) (k + 1) (lowFirst (left - 1) (rest / 256)) ≡ sets out k (lowFirst left rest)
-unfolding lowFirst
-word-step out k rest zero h = absurd (omega arith)
-word-step out k rest (suc left) h = let e : suc left - 1 ≡ left = omega arith in rw (e, add-one k)
-
-pub word-end : (out : List ℕ) (k rest left : ℕ) → left ≤ 0 → sets out k (lowFirst left rest) ≡ out
-unfolding lowFirst
-word-end out k rest zero h = refl
-word-end out k rest (suc left) h = absurd (omega arith)
-
-pub length-low : (n v : ℕ) → length (lowFirst n v) ≡ n
-unfolding lowFirst
-length-low zero v = refl
-length-low (suc n) v = ap suc (length-low n (v / 256))
-
--- what a word's bytes are
-pub low-more : (n v : ℕ) → lowFirst (suc n) v ≡ v % 256 ∷ lowFirst n (v / 256)
-unfolding lowFirst
-low-more n v = refl
-
--- one run behind another
-pub sets-append : (x y out : List ℕ) (k : ℕ) → sets out k (x ++ y) ≡ sets (sets out k x) (k + length x) y
-sets-append [] y out k = rw (add-zero k)
-sets-append (b ∷ x) y out k = rw (add-suc k (length x), ← suc-add k (length x)) (sets-append x y (set out k b) (suc k))
-
--- so the words of a record
-pub record-words : (out : List ℕ) (k : ℕ) (r : VbvPictureRecord)
-    → sets
-    (sets (sets (sets out k (lowFirst 8 (r .«vbv_delay»))) (k + 8) (lowFirst 8 (r .«expected_delay»))) (k + 16) (lowFirst 8 (r .«data_bits»)))
-    (k + 24) (lowFirst 8 (r .«occupancy_before_bits»))
-    ≡ sets out k (recordBytes r)
-unfolding recordBytes
-record-words out k r =
-    let a = lowFirst 8 (r .«vbv_delay») in
-    let b = lowFirst 8 (r .«expected_delay») in
-    let d = lowFirst 8 (r .«data_bits») in
-    let o = lowFirst 8 (r .«occupancy_before_bits») in
-    let e2 : k + 8 + 8 ≡ k + 16 = omega arith in
-    let e3 : k + 16 + 8 ≡ k + 24 = omega arith in
-    sym
-    (sets-append a (b ++ (d ++ o)) out k ∙ rw (length-low 8 (r .«vbv_delay»))
-    (sets-append b (d ++ o) (sets out k a) (k + 8) ∙ rw (length-low 8 (r .«expected_delay»), e2)
-    (sets-append d o (sets (sets out k a) (k + 8) b) (k + 16) ∙ rw (length-low 8 (r .«data_bits»), e3))))
 
 length-record : (r : VbvPictureRecord) → length (recordBytes r) ≡ 32
 unfolding recordBytes
-length-record r =
-    simp (length-append, length-low 8 (r .«vbv_delay»), length-low 8 (r .«expected_delay»), length-low 8 (r .«data_bits»), length-low 8 (r .«occupancy_before_bits»))
+length-record r = length-words _
+
+-- four words laid over the part from a place on
+pub record-laid : (out new : List ℕ) (at : ℕ) (r : VbvPictureRecord) → at + 32 ≤ length out
+    → new ≡ laid (wordsBytes (r .«vbv_delay» ∷ r .«expected_delay» ∷ r .«data_bits» ∷ r .«occupancy_before_bits» ∷ [])) (take (length out - at) (drop at out))
+    → take at out ++ (new ++ drop (length out - at) (drop at out)) ≡ sets out at (recordBytes r)
+unfolding recordBytes
+record-laid out new at r h e = rw e (laid-part (recordBytes r) out at (omega (arith, length-record r)))
 
 pub length-records : (rs : List VbvPictureRecord) → length (recordsBytes rs) ≡ 32 * length rs
 unfolding recordsBytes
@@ -77,13 +38,12 @@ records-cons out n r rs =
     let e : 32 * n + 32 ≡ 32 * (n + 1) = omega arith in
     sym (sets-append (recordBytes r) (recordsBytes rs) out (32 * n) ∙ rw (length-record r, e))
 
--- the words of a record, and the records behind it
-pub records-words : (r : VbvPictureRecord) (rs : List VbvPictureRecord)
+-- what the bytes of records are
+pub records-more : (r : VbvPictureRecord) (rs : List VbvPictureRecord)
     → recordsBytes (r ∷ rs)
-    ≡ lowFirst 8 (r .«vbv_delay»)
-    ++ (lowFirst 8 (r .«expected_delay») ++ (lowFirst 8 (r .«data_bits») ++ (lowFirst 8 (r .«occupancy_before_bits») ++ recordsBytes rs)))
+    ≡ wordsBytes (r .«vbv_delay» ∷ r .«expected_delay» ∷ r .«data_bits» ∷ r .«occupancy_before_bits» ∷ []) ++ recordsBytes rs
 unfolding recordsBytes recordBytes
-records-words r rs = rw (append-assoc, append-assoc, append-assoc)
+records-more r rs = refl
 
 -- all of them from place 0 on
 pub records-over : (out : List ℕ) (rs : List VbvPictureRecord) → 32 * length rs ≤ length out → sets out 0 (recordsBytes rs) ≡ over (recordsBytes rs) out

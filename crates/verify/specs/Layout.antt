@@ -1,20 +1,12 @@
--- Records as bytes (docs/LAYOUT.md): four words of 64 bits each, low byte first.
+-- Records as bytes (docs/LAYOUT.md): four words each.
 -- Assumes nothing.
-use Prim.Native.Nat.{ℕ, zero, suc, _/_, _%_}
+use Prim.Native.Nat.{ℕ}
 use mathlib.Core.List.{List, [], _∷_, _++_}
+use Rattle.words.specs.Words.{wordsBytes}
 use Rattle.verify.specs.declared.VbvPictureRecord.{VbvPictureRecord}
 
--- n bytes of v, low byte first
-unfoldable pub lowFirst : ℕ → ℕ → List ℕ
-lowFirst zero v = []
-lowFirst (suc n) v = v % 256 ∷ lowFirst n (v / 256)
-
 unfoldable pub recordBytes : VbvPictureRecord → List ℕ
-recordBytes r =
-    lowFirst 8 (r .«vbv_delay»)
-    ++ (lowFirst 8 (r .«expected_delay»)
-    ++ (lowFirst 8 (r .«data_bits»)
-    ++ lowFirst 8 (r .«occupancy_before_bits»)))
+recordBytes r = wordsBytes (r .«vbv_delay» ∷ r .«expected_delay» ∷ r .«data_bits» ∷ r .«occupancy_before_bits» ∷ [])
 
 unfoldable pub recordsBytes : List VbvPictureRecord → List ℕ
 recordsBytes [] = []

@@ -1,5 +1,5 @@
 use borrow.Author.Needs.{needs}
-use Rattle.layout.specs.Answers.{refusalBytes}
+use Rattle.layout.specs.Answers.{refusalWords}
 use Rattle.layout.proofs.answers.put_refusal.Statement.{statement}
 use Rattle.layout.proofs.answers.put_refusal.Tie as tie
 
@@ -22,7 +22,7 @@ same-length : tie.Need-same-length
 same-length c = search needs
 
 returns : tie.Need-returns
-unfolding refusalBytes
+unfolding refusalWords
 returns c = c .before .before .put-words .ensures
 
 pub put-refusal-spec : {M : Type 1} → statement M

@@ -1,5 +1,5 @@
 use borrow.Author.Needs.{needs}
-use Rattle.layout.specs.Answers.{reportBytes}
+use Rattle.layout.specs.Answers.{reportWords}
 use Rattle.layout.proofs.answers.put_report.Statement.{statement}
 use Rattle.layout.proofs.answers.put_report.Tie as tie
 
@@ -13,7 +13,7 @@ same-length : tie.Need-same-length
 same-length c = search needs
 
 returns : tie.Need-returns
-unfolding reportBytes
+unfolding reportWords
 returns c = c .before .before .put-words .ensures
 
 pub put-report-spec : {M : Type 1} → statement M

@@ -1,5 +1,4 @@
 use mathlib.Core.Logic.{⊎-elim}
-use native.Mathlib.Omega.{arith}
 use Rattle.layout.proofs.Reading.{few-bits, way-short, way-wide, way-unfit, way-held}
 use borrow.Author.Needs.{needs}
 use Rattle.layout.proofs.state.read_state.Statement.{statement}
@@ -15,7 +14,7 @@ narrow-requires : tie.Need-narrow-requires
 narrow-requires c κs = search needs
 
 writer-at-requires : tie.Need-writer-at-requires
-writer-at-requires c κs = (omega arith, search (needs, few-bits))
+writer-at-requires c κs = search (needs, few-bits)
 
 fits-requires : tie.Need-fits-requires
 fits-requires c κs = search needs

@@ -1,6 +1,6 @@
 use mathlib.Core.Path.{_∙_}
-use native.Mathlib.Omega.{arith}
 use Prim.Native.Nat.{_*_}
+use native.Mathlib.Omega.{arith}
 use Rattle.vbvcheck.proofs.Lines.{line-read}
 use borrow.Author.Needs.{needs}
 use Rattle.vbvcheck.proofs.text.put_record.Statement.{statement}
@@ -9,26 +9,26 @@ use Rattle.vbvcheck.proofs.text.put_record.Tie as tie
 mul-from : tie.Need-mul-from
 mul-from c = search needs
 
-word64-requires : tie.Need-word64-requires
-word64-requires c κs = search needs
+sub-record : tie.Need-sub-record
+sub-record c = search needs
 
-add-word64 : tie.Need-add-word64
-add-word64 c = search needs
+part-record-start : tie.Need-part-record-start
+part-record-start c = search needs
 
-word64-requires-2 : tie.Need-word64-requires-2
-word64-requires-2 c κs = search needs
+part-record-end : tie.Need-part-record-end
+part-record-end c = search needs
 
-add-word64-2 : tie.Need-add-word64-2
-add-word64-2 c = search needs
+word-at-requires : tie.Need-word-at-requires
+word-at-requires c κs = search needs
 
-word64-requires-3 : tie.Need-word64-requires-3
-word64-requires-3 c κs = search needs
+word-at-requires-2 : tie.Need-word-at-requires-2
+word-at-requires-2 c κs = search needs
 
-add-word64-3 : tie.Need-add-word64-3
-add-word64-3 c = search needs
+word-at-requires-3 : tie.Need-word-at-requires-3
+word-at-requires-3 c κs = search needs
 
-word64-requires-4 : tie.Need-word64-requires-4
-word64-requires-4 c κs = search needs
+word-at-requires-4 : tie.Need-word-at-requires-4
+word-at-requires-4 c κs = search needs
 
 slice-aggregate-put-line : tie.Need-slice-aggregate-put-line
 slice-aggregate-put-line c = search needs
@@ -42,8 +42,9 @@ same-length c = search needs
 returns : tie.Need-returns
 returns c =
     let l = c .before .before .put-line .ensures in
-    let a = c .before .before .before .before .before .before .before .before .before .before .before .args in
-    let e = line-read (a .records .now) (32 * a .k) (c .before .before .before .before .before .before .before .before .word64 .ensures) (c .before .before .before .before .before .before .before .word642 .ensures) (c .before .before .before .before .before .before .word643 .ensures) (c .before .before .before .before .before .word644 .ensures) in
+    let w = c .before .before .before .before .before in
+    let a = c .before .before .before .before .before .before .before .before .before .before .before .before .args in
+    let e = line-read (a .records .now) (32 * a .k) (w .before .before .before .word-at .ensures) (w .before .before .word-at2 .ensures) (w .before .word-at3 .ensures) (w .word-at4 .ensures) in
     (omega (arith, l .0), l .1 ∙ rw e)
 
 pub put-record-spec : {M : Type 1} → statement M
@@ -51,13 +52,13 @@ put-record-spec =
     tie.close
     (tie.spec
     mul-from
-    word64-requires
-    add-word64
-    word64-requires-2
-    add-word64-2
-    word64-requires-3
-    add-word64-3
-    word64-requires-4
+    sub-record
+    part-record-start
+    part-record-end
+    word-at-requires
+    word-at-requires-2
+    word-at-requires-3
+    word-at-requires-4
     slice-aggregate-put-line
     put-line-requires
     same-length

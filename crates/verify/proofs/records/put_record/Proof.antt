@@ -1,53 +1,45 @@
-use Rattle.verify.proofs.Storing.{record-words}
+use Rattle.verify.proofs.Storing.{record-laid}
 use borrow.Author.Needs.{needs}
 use Rattle.verify.proofs.records.put_record.Statement.{statement}
 use Rattle.verify.proofs.records.put_record.Tie as tie
 
-cast-put-word : tie.Need-cast-put-word
-cast-put-word c = search needs
+cast-t5 : tie.Need-cast-t5
+cast-t5 c = search needs
 
-put-word-requires : tie.Need-put-word-requires
-put-word-requires c κs = search needs
+cast-t6 : tie.Need-cast-t6
+cast-t6 c = search needs
 
-add-put-word : tie.Need-add-put-word
-add-put-word c = search needs
+sub-put-words : tie.Need-sub-put-words
+sub-put-words c = search needs
 
-cast-put-word-2 : tie.Need-cast-put-word-2
-cast-put-word-2 c = search needs
+part-put-words-start : tie.Need-part-put-words-start
+part-put-words-start c = search needs
 
-put-word-requires-2 : tie.Need-put-word-requires-2
-put-word-requires-2 c κs = search needs
+part-put-words-end : tie.Need-part-put-words-end
+part-put-words-end c = search needs
 
-add-put-word-2 : tie.Need-add-put-word-2
-add-put-word-2 c = search needs
+slice-aggregate-put-words : tie.Need-slice-aggregate-put-words
+slice-aggregate-put-words c = search needs
 
-put-word-requires-3 : tie.Need-put-word-requires-3
-put-word-requires-3 c κs = search needs
-
-add-put-word-3 : tie.Need-add-put-word-3
-add-put-word-3 c = search needs
-
-put-word-requires-4 : tie.Need-put-word-requires-4
-put-word-requires-4 c κs = search needs
+put-words-requires : tie.Need-put-words-requires
+put-words-requires c κs = search needs
 
 same-length : tie.Need-same-length
 same-length c = search needs
 
 returns : tie.Need-returns
-returns c = rw (c .before .before .put-word4 .ensures, c .before .before .before .before .before .before .put-word3 .ensures, c .before .before .before .before .before .before .before .before .before .before .put-word2 .ensures, c .before .before .before .before .before .before .before .before .before .before .before .before .before .before .before .put-word .ensures) (record-words _ _ _)
+returns c = search (needs, record-laid)
 
 pub put-record-spec : {M : Type 1} → statement M
 put-record-spec =
     tie.close
     (tie.spec
-    cast-put-word
-    put-word-requires
-    add-put-word
-    cast-put-word-2
-    put-word-requires-2
-    add-put-word-2
-    put-word-requires-3
-    add-put-word-3
-    put-word-requires-4
+    cast-t5
+    cast-t6
+    sub-put-words
+    part-put-words-start
+    part-put-words-end
+    slice-aggregate-put-words
+    put-words-requires
     same-length
     returns)

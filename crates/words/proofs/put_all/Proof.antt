@@ -4,10 +4,10 @@ use native.Mathlib.Omega.{arith}
 use lib.ListN.{length, drop}
 use lib.Seq.{sets, length-sets}
 use borrow.Author.Needs.{needs}
-use Rattle.layout.specs.Words.{wordsBytes}
-use Rattle.layout.proofs.Laying.{words-step, words-end, words-over}
-use Rattle.layout.proofs.words.put_all.Statement.{statement}
-use Rattle.layout.proofs.words.put_all.Tie as tie
+use Rattle.words.specs.Words.{wordsBytes}
+use Rattle.words.proofs.Laying.{words-step, words-end, words-over}
+use Rattle.words.proofs.put_all.Statement.{statement}
+use Rattle.words.proofs.put_all.Tie as tie
 
 abbrev Inv-loop : tie.InvT-loop
 Inv-loop out₀ words k₀ out k =

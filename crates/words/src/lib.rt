@@ -1,11 +1,10 @@
-// Words of 64 bits as bytes, low byte first.
+// Numbers as bytes (docs/LAYOUT.md): words of 64 bits, low byte first.
 ghost use mathlib.Core.Path.{_≡_};
 ghost use Prim.Native.Nat.{_+_, _*_, _≤_, _<_};
 ghost use lib.ListN.{length};
 ghost use lib.Seq.{sets};
 ghost use Rattle.bits.specs.Answers.{over};
-ghost use Rattle.verify.specs.Layout.{lowFirst};
-ghost use Rattle.layout.specs.Words.{wordsBytes, laid, wordAt};
+ghost use Rattle.words.specs.Words.{lowFirst, wordsBytes, laid, wordAt};
 
 // A word, from byte `at` on.
 fn put_word(out: &mut [u8], at: usize, word: u64)
@@ -37,7 +36,7 @@ fn put_all(out: &mut [u8], words: &[u64])
 }
 
 // Words over the first bytes of a place; a place that is too short is left alone.
-pub(crate) fn put_words(place: &mut [u8], words: &[u64])
+pub fn put_words(place: &mut [u8], words: &[u64])
     ensures { λ r. ⌜ now (place .exit) ≡ laid (wordsBytes (now (words .entry))) (now (place .entry)) ⌝ }
 {
     if words.len() <= place.len() / 8 {
@@ -51,14 +50,17 @@ fn wide(x: u8) -> u64
     x as u64
 }
 
-// Word k of a place, from 0.
-pub(crate) fn word_at(place: &[u8], k: usize) -> u64
-    requires { ⌜ 8 * k + 8 ≤ length (now place) ⌝ }
+// Word k of a place, from 0; bytes past the end count for nothing.
+pub fn word_at(place: &[u8], k: usize) -> u64
     ensures { λ r. ⌜ r ≡ wordAt (now (place .entry)) k ⌝ }
 {
+    if place.len() / 8 < k {
+        return 0;
+    }
     let at = 8 * k;
+    let behind = place.len() - at;
+    let mut left = if behind < 8 { behind } else { 8 };
     let mut value: u64 = 0;
-    let mut left: usize = 8;
     while 0 < left {
         left -= 1;
         value = value * 256 + wide(place[at + left]);

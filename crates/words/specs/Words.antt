@@ -1,12 +1,16 @@
--- Numbers as bytes (docs/LAYOUT.md): words of 64 bits, low byte first, and the places that they are laid over.
+-- Numbers as bytes (docs/LAYOUT.md): words of 64 bits, low byte first, the places that they are laid over, and words read.
 -- Assumes nothing.
-use Prim.Native.Nat.{ℕ, _+_, _*_}
+use Prim.Native.Nat.{ℕ, zero, suc, _+_, _*_, _/_, _%_}
 use mathlib.Core.List.{List, [], _∷_, _++_}
 use lib.Dec.{leb}
 use lib.ListN.{length, take, drop}
 use Rattle.bits.specs.Bits.{pick}
 use Rattle.bits.specs.Answers.{over}
-use Rattle.verify.specs.Layout.{lowFirst}
+
+-- n bytes of v, low byte first
+unfoldable pub lowFirst : ℕ → ℕ → List ℕ
+lowFirst zero v = []
+lowFirst (suc n) v = v % 256 ∷ lowFirst n (v / 256)
 
 unfoldable pub wordsBytes : List ℕ → List ℕ
 wordsBytes [] = []
@@ -21,6 +25,6 @@ unfoldable pub fromLow : List ℕ → ℕ
 fromLow [] = 0
 fromLow (b ∷ bs) = b + 256 * fromLow bs
 
--- word k, from 0, of a place
+-- word k, from 0, of a place; bytes past its end count for nothing
 unfoldable pub wordAt : List ℕ → ℕ → ℕ
 wordAt place k = fromLow (take 8 (drop (8 * k) place))

@@ -1,36 +1,36 @@
 -- Numbers and words as bytes, and read back.
 -- Assumes nothing.
-use mathlib.Core.Path.{_≡_, refl}
+use mathlib.Core.Path.{_≡_, refl, ap}
 use mathlib.Core.List.{List, [], _∷_, _++_, append-assoc}
 use Prim.Native.Nat.{ℕ, zero, suc, _+_, _*_, _/_, _%_, _^_, _≤_, _<_}
 use native.Mathlib.Omega.{arith}
 use native.Mathlib.Nat.{pow-suc, pow-zero, div-lt-iff-lt-mul, div-add-mod'}
-use lib.ListN.{length, getD, take, drop, length-append, length-drop, drop-of-length-le}
+use lib.ListN.{length, getD, take, drop, length-append, length-drop}
 use lib.Seq.{length-take-le, take-at, drop-at, take-add, drop-drop, getD-take, getD-drop}
-use Rattle.verify.specs.Layout.{lowFirst}
-use Rattle.verify.proofs.Storing.{length-low, low-more}
-use Rattle.layout.specs.Words.{wordsBytes, fromLow, wordAt}
+use Rattle.words.specs.Words.{lowFirst, wordsBytes, fromLow, wordAt}
 
 -- ---- a number
 
-low-none : (v : ℕ) → lowFirst 0 v ≡ []
-low-none v = drop-of-length-le (lowFirst 0 v) {i = 0} (omega (arith, length-low 0 v))
+pub length-low : (n v : ℕ) → length (lowFirst n v) ≡ n
+unfolding lowFirst
+length-low zero v = refl
+length-low (suc n) v = ap suc (length-low n (v / 256))
 
-pub from-low : (n v : ℕ) → v < 256 ^ n → fromLow (lowFirst n v) ≡ v
-unfolding fromLow
-from-low zero v h = rw (low-none v) (omega (arith, pow-zero 256))
+from-low : (n v : ℕ) → v < 256 ^ n → fromLow (lowFirst n v) ≡ v
+unfolding lowFirst fromLow
+from-low zero v h = omega (arith, pow-zero 256)
 from-low (suc n) v h =
     let q : v / 256 < 256 ^ n = div-lt-iff-lt-mul {k = 256} {x = v} {y = 256 ^ n} (omega arith) .1 (omega (arith, pow-suc 256 n)) in
-    rw (low-more n v, from-low n (v / 256) q) (omega (arith, div-add-mod' v 256))
+    rw (from-low n (v / 256) q) (omega (arith, div-add-mod' v 256))
 
-pub low-from : (bs : List ℕ) → ((k : ℕ) → k < length bs → getD bs k 0 < 256) → lowFirst (length bs) (fromLow bs) ≡ bs
-unfolding fromLow
-low-from [] h = low-none 0
+low-from : (bs : List ℕ) → ((k : ℕ) → k < length bs → getD bs k 0 < 256) → lowFirst (length bs) (fromLow bs) ≡ bs
+unfolding lowFirst fromLow
+low-from [] h = refl
 low-from (b ∷ bs) h =
     let l = h 0 (omega arith) in
     let d : (b + 256 * fromLow bs) / 256 ≡ fromLow bs = omega arith in
     let m : (b + 256 * fromLow bs) % 256 ≡ b = omega arith in
-    rw (low-more (length bs) (b + 256 * fromLow bs), d, m, low-from bs (λ k g. h (suc k) (omega arith)))
+    rw (d, m, low-from bs (λ k g. h (suc k) (omega arith)))
 
 -- ---- words
 

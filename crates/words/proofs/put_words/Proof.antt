@@ -1,7 +1,7 @@
-use Rattle.layout.proofs.Laying.{way-laid, way-short}
+use Rattle.words.proofs.Laying.{way-laid, way-short}
 use borrow.Author.Needs.{needs}
-use Rattle.layout.proofs.words.put_words.Statement.{statement}
-use Rattle.layout.proofs.words.put_words.Tie as tie
+use Rattle.words.proofs.put_words.Statement.{statement}
+use Rattle.words.proofs.put_words.Tie as tie
 
 put-all-requires : tie.Need-put-all-requires
 put-all-requires c κs = search needs

@@ -3,10 +3,10 @@ use Prim.Native.Nat.{_+_}
 use native.Mathlib.Omega.{arith}
 use lib.ListN.{length, length-set}
 use lib.Seq.{sets}
-use Rattle.verify.specs.Layout.{lowFirst}
-use Rattle.verify.proofs.Storing.{word-step, word-end}
-use Rattle.verify.proofs.records.put_word.Statement.{statement}
-use Rattle.verify.proofs.records.put_word.Tie as tie
+use Rattle.words.specs.Words.{lowFirst}
+use Rattle.words.proofs.Laying.{word-step, word-end}
+use Rattle.words.proofs.put_word.Statement.{statement}
+use Rattle.words.proofs.put_word.Tie as tie
 
 abbrev Inv-loop : tie.InvT-loop
 Inv-loop out₀ at word k₀ rest₀ left₀ out k rest left =

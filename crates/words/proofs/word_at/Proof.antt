@@ -1,0 +1,91 @@
+use mathlib.Core.Path.{_≡_}
+use mathlib.Core.Logic.{⊎-elim}
+use Prim.Native.Nat.{_+_, _*_, _-_, _^_, _<_, _≤_}
+use native.Mathlib.Omega.{arith}
+use lib.ListN.{length}
+use borrow.Author.Needs.{needs}
+use Rattle.words.proofs.Reading.{high, high-none, high-past, high-step, high-all, word-past, size-none, size-step, size-most}
+use Rattle.words.proofs.word_at.Statement.{statement}
+use Rattle.words.proofs.word_at.Tie as tie
+
+abbrev Inv-loop : tie.InvT-loop
+Inv-loop place k at behind left₀ value₀ left value =
+    (value ≡ high place at left) × (value < 256 ^ (8 - left)) × (left ≤ 8) × (at + left ≤ length place)
+
+abbrev μ-loop : tie.MeasureT-loop
+μ-loop place k at behind left₀ value₀ left value = left
+
+returns : tie.Need-returns Inv-loop μ-loop
+returns c = search (needs, word-past)
+
+mul-at : tie.Need-mul-at Inv-loop μ-loop
+mul-at c = omega arith
+
+sub-behind : tie.Need-sub-behind Inv-loop μ-loop
+sub-behind c = omega arith
+
+loop-holds : tie.Need-loop-holds Inv-loop μ-loop
+loop-holds c =
+    let a = c .before .before .before .args in
+    let i = c .if2 in (
+      ⊎-elim (λ w. high-past (a .place .now) (8 * a .k) (i .left) (omega arith)) (λ w. high-none _ _ _ (w .1)) (i .came),
+      size-none _,
+      ⊎-elim (λ w. omega arith) (λ w. omega arith) (i .came),
+      ⊎-elim (λ w. omega arith) (λ w. omega arith) (i .came),
+    )
+
+sub-left : tie.Need-sub-left Inv-loop μ-loop
+sub-left c = omega arith
+
+mul-value : tie.Need-mul-value Inv-loop μ-loop
+mul-value c =
+    omega (arith, size-most _ _ (c .before .loop-test .taken) (c .before .before .loop .inv .2) (c .before .before .loop .inv .1))
+
+add-wide : tie.Need-add-wide Inv-loop μ-loop
+add-wide c = omega arith
+
+shared-slice-read-wide : tie.Need-shared-slice-read-wide Inv-loop μ-loop
+shared-slice-read-wide c = omega arith
+
+wide-requires : tie.Need-wide-requires Inv-loop μ-loop
+wide-requires c κs = search needs
+
+add-value : tie.Need-add-value Inv-loop μ-loop
+add-value c =
+    let p = c .before .before .before .before in
+    omega (arith, size-most _ _ (c .before .before .before .loop-test .taken) (p .loop .inv .2) (p .loop .inv .1))
+
+loop-less : tie.Need-loop-less Inv-loop μ-loop
+loop-less c = omega arith
+
+loop-again : tie.Need-loop-again Inv-loop μ-loop
+loop-again c =
+    let p = c .before .before .before .before in (
+      high-step _ _ _ _ _ (c .before .before .before .loop-test .taken) (p .loop .inv .2) (p .loop .inv .3) (p .loop .inv .0) (c .wide .ensures .0),
+      size-step _ _ _ (omega arith) (p .loop .inv .2) (p .loop .inv .1) (omega arith),
+      omega arith,
+      omega arith,
+    )
+
+returns-2 : tie.Need-returns-2 Inv-loop μ-loop
+returns-2 c = high-all _ _ _ _ (c .loop-test .left) (c .before .loop .inv .0)
+
+pub word-at-spec : {M : Type 1} → statement M
+word-at-spec =
+    tie.close
+    (tie.spec
+    Inv-loop
+    μ-loop
+    returns
+    mul-at
+    sub-behind
+    loop-holds
+    sub-left
+    mul-value
+    add-wide
+    shared-slice-read-wide
+    wide-requires
+    add-value
+    loop-less
+    loop-again
+    returns-2)
