@@ -16,7 +16,7 @@ use Rattle.bits.proofs.Laws.{bits-bound, bits-split, length-digits}
 use Rattle.bits.proofs.Appending.{Below, below-take, below-drop, digit-bound}
 use Rattle.bits.proofs.Patching.{byte-bits, set-length, set-below, set-before, set-behind, set-digits, set-within}
 use Rattle.vbv.specs.Patch.{startsPicture, patchAnswer, patched}
-use Rattle.vbv.specs.declared.VbvError.the-variants.{NoPicture}
+use Rattle.vbv.specs.declared.VbvError.the-variants.{NotAPicture}
 use Rattle.vbv.specs.declared.VbvPatch.the-variants.{Done, Refused}
 use Rattle.vbv.proofs.Picks.{yes, no}
 
@@ -84,7 +84,7 @@ module _ (s : List ℕ) (d : ℕ) where
   unfolding patched
   patched-is h = sym (yes _ _ _ h refl)
 
-  pub patch-none : startsPicture s ≡ false → (Refused NoPicture ≡ patchAnswer s) × (s ≡ patched s d)
+  pub patch-none : startsPicture s ≡ false → (Refused NotAPicture ≡ patchAnswer s) × (s ≡ patched s d)
   unfolding patchAnswer patched
   patch-none h = (no _ _ _ h refl, no _ _ _ h refl)
 

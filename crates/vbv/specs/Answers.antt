@@ -4,7 +4,7 @@ use Prim.Native.Nat.{ℕ}
 use lib.Dec.{eqb}
 use Rattle.bits.specs.Bits.{pick}
 use Rattle.vbv.specs.declared.VbvError.{VbvError}
-use Rattle.vbv.specs.declared.VbvError.the-variants.{FrameRateCode, Early, DelayTooLong, Params, Order, Range, NoPicture}
+use Rattle.vbv.specs.declared.VbvError.the-variants.{FrameRateCode, Early, DelayTooLong, Params, Order, Range, NotAPicture}
 use Rattle.vbv.specs.declared.VbvViolation.{VbvViolation}
 use Rattle.vbv.specs.declared.VbvViolation.the-variants.{Overflow, Underflow, DelayMismatch}
 use Rattle.vbv.specs.declared.FrameRate.{FrameRate}
@@ -13,10 +13,6 @@ use Rattle.vbv.specs.declared.VbvModel.{VbvModel}
 use Rattle.vbv.specs.declared.VbvModel.the-variants as md
 use Rattle.vbv.specs.declared.VbvRemoval.{VbvRemoval}
 use Rattle.vbv.specs.declared.VbvRemoval.the-variants as rm
-use Rattle.vbv.specs.declared.VbvDelay.{VbvDelay}
-use Rattle.vbv.specs.declared.VbvDelay.the-variants as dl
-use Rattle.vbv.specs.declared.VbvBits.{VbvBits}
-use Rattle.vbv.specs.declared.VbvBits.the-variants as bt
 use Rattle.vbv.specs.declared.VbvPatch.{VbvPatch}
 use Rattle.vbv.specs.declared.VbvPatch.the-variants as pt
 
@@ -27,7 +23,7 @@ errorNumber DelayTooLong = 8
 errorNumber Params = 12
 errorNumber Order = 13
 errorNumber Range = 14
-errorNumber NoPicture = 20
+errorNumber NotAPicture = 20
 
 -- a violation's number, and the picture, coded and expected delay that it carries
 abbrev pub violationNumber : VbvViolation → ℕ
@@ -60,21 +56,9 @@ removalNumber (rm.Model m) = 0
 removalNumber (rm.Refused e) = errorNumber e
 removalNumber (rm.Violation v) = violationNumber v
 
-abbrev pub delayNumber : VbvDelay → ℕ
-delayNumber (dl.Delay t) = 0
-delayNumber (dl.Refused e) = errorNumber e
-
-abbrev pub bitsNumber : VbvBits → ℕ
-bitsNumber (bt.Bits b) = 0
-bitsNumber (bt.Refused e) = errorNumber e
-
 abbrev pub patchNumber : VbvPatch → ℕ
 patchNumber pt.Done = 0
 patchNumber (pt.Refused e) = errorNumber e
-
-abbrev pub frameRateNumber : FrameRate → ℕ
-frameRateNumber (Rate n d) = 0
-frameRateNumber (Refused e) = errorNumber e
 
 -- Table 6-4; 11172-2 2.4.3.2
 unfoldable pub frameRate : ℕ → FrameRate

@@ -1,7 +1,6 @@
 -- Start and removal of a lent model (paper 01, 'Rust forms to replace'): the answer, and the model behind the call. A refusal leaves the model as it was.
 -- Assumes nothing.
 use Prim.Native.Nat.{ℕ}
-use Rattle.vbv.specs.Answers.{errorNumber, violationNumber}
 use Rattle.vbv.specs.Model.{startModel, removePicture}
 use Rattle.vbv.specs.declared.RemovalInterval.{RemovalInterval}
 use Rattle.vbv.specs.declared.VbvCbrModel.{VbvCbrModel}
@@ -9,15 +8,8 @@ use Rattle.vbv.specs.declared.VbvModel.{VbvModel}
 use Rattle.vbv.specs.declared.VbvModel.the-variants as md
 use Rattle.vbv.specs.declared.VbvRemoval.{VbvRemoval}
 use Rattle.vbv.specs.declared.VbvRemoval.the-variants as rm
-use Rattle.vbv.specs.declared.lent.VbvStep.{VbvStep}
 use Rattle.vbv.specs.declared.lent.VbvStep.the-variants.{Done, Refused, Violation}
 use Rattle.vbv.specs.declared.lent.VbvStepped.{VbvStepped}
-
--- the answer's number: 0 where the call is done
-abbrev pub stepNumber : VbvStep → ℕ
-stepNumber Done = 0
-stepNumber (Refused e) = errorNumber e
-stepNumber (Violation v) = violationNumber v
 
 abbrev pub byStart : VbvCbrModel → VbvModel → VbvStepped
 byStart m (md.Model next) = record { model = next; answer = Done }

@@ -7,7 +7,7 @@ use lib.Dec.{leb}
 use lib.ListN.{length, take}
 use Rattle.bits.specs.Bits.{pick, digits, setBits}
 use Rattle.bits.specs.Fields.{sameBytes}
-use Rattle.vbv.specs.declared.VbvError.the-variants.{NoPicture}
+use Rattle.vbv.specs.declared.VbvError.the-variants.{NotAPicture}
 use Rattle.vbv.specs.declared.VbvPatch.{VbvPatch}
 use Rattle.vbv.specs.declared.VbvPatch.the-variants.{Done, Refused}
 
@@ -16,7 +16,7 @@ unfoldable pub startsPicture : List ℕ → Bool
 startsPicture s = leb 8 (length s) && sameBytes (take 4 s) (0x00 ∷ 0x00 ∷ 0x01 ∷ 0x00 ∷ [])
 
 unfoldable pub patchAnswer : List ℕ → VbvPatch
-patchAnswer s = pick (startsPicture s) Done (Refused NoPicture)
+patchAnswer s = pick (startsPicture s) Done (Refused NotAPicture)
 
 -- bits 45 to 60 are the delay, every other bit is as it was
 unfoldable pub patched : List ℕ → ℕ → List ℕ

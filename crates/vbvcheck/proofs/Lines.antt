@@ -14,7 +14,7 @@ use Rattle.verify.proofs.Storing.{records-more}
 use Rattle.verify.proofs.Parts.{rest-is}
 use Rattle.verify.proofs.Bounds.{AllSmall, none, some}
 use Rattle.vbvcheck.specs.Text.{line, recordLines}
-use Rattle.vbvcheck.specs.Words.{lineOf, linesOf}
+use Rattle.vbvcheck.specs.Steps.{lineOf, linesOf}
 
 -- the words of the part from a place on
 pub line-read : (s : List ℕ) (i : ℕ) {a b d e : ℕ} → a ≡ wordAt (take (length s - i) (drop i s)) 0 → b ≡ wordAt (take (length s - i) (drop i s)) 1

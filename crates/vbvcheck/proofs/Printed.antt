@@ -21,7 +21,7 @@ use Rattle.verify.proofs.Storing.{length-records}
 use Rattle.verify.proofs.Bounds.{picture-count, records-small}
 use Rattle.io.specs.Counts.{Counts}
 use Rattle.vbvcheck.specs.Text.{ascii, recordLines, refusalText, reportText, answerText, verdictText, printed}
-use Rattle.vbvcheck.specs.Words.{linesOf}
+use Rattle.vbvcheck.specs.Steps.{linesOf}
 use Rattle.vbvcheck.proofs.Lines.{lines-are}
 
 pub counts : (n : ℕ) (xs : List ℕ) → n ≤ length xs → Counts n xs

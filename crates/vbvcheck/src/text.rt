@@ -5,7 +5,7 @@ ghost use mathlib.Core.List.{[], _∷_, _++_};
 ghost use lib.ListN.{length, take, drop};
 ghost use Rattle.io.specs.Counts.{Counts};
 ghost use Rattle.vbvcheck.specs.Text.{ascii, decimal, line, reportText, refusalText, printed};
-ghost use Rattle.vbvcheck.specs.Words.{lineOf, linesOf};
+ghost use Rattle.vbvcheck.specs.Steps.{lineOf, linesOf};
 use verify::VbvRefusal;
 use verify::VbvStandard;
 use verify::VbvStreamReport;

@@ -1,5 +1,5 @@
 use Rattle.vbvcheck.specs.Text.{ascii, reportText}
-use Rattle.vbvcheck.specs.Words.{linesOf}
+use Rattle.vbvcheck.specs.Steps.{linesOf}
 use Rattle.vbvcheck.proofs.Texts.{behind}
 use native.Mathlib.Omega.{arith}
 use borrow.Author.Needs.{needs}

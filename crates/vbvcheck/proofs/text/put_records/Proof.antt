@@ -5,7 +5,7 @@ use native.Mathlib.Omega.{arith}
 use native.Mathlib.Nat.{sub-zero}
 use lib.ListN.{length, take, drop}
 use borrow.Author.Needs.{needs}
-use Rattle.vbvcheck.specs.Words.{linesOf}
+use Rattle.vbvcheck.specs.Steps.{linesOf}
 use Rattle.vbvcheck.proofs.Lines.{lines-step, lines-end}
 use Rattle.vbvcheck.proofs.text.put_records.Statement.{statement}
 use Rattle.vbvcheck.proofs.text.put_records.Tie as tie

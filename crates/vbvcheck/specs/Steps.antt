@@ -1,4 +1,4 @@
--- The code's side of the records: words read from their bytes again. No definition of what is printed rests on these.
+-- The promises of private functions: words of the records read from their bytes again. No definition of what is printed rests on these.
 -- Assumes nothing.
 use Prim.Native.Nat.{ℕ, zero, suc}
 use mathlib.Core.List.{List, [], _∷_, _++_}
