@@ -17,14 +17,15 @@ use Rattle.rate_control.specs.declared.CbrWriter.{CbrWriter}
 use Rattle.rate_control.specs.declared.CbrCreation.{CbrCreation}
 use Rattle.rate_control.specs.declared.CbrCreation.the-variants.{Created, Refused}
 use Rattle.rate_control.proofs.Demand.{demand}
-use Rattle.rate_control.proofs.Lists.{run-none, run-one, run-append, final-none, final-one, final-append, after-offer, after-withdrawal}
+use Rattle.rate_control.proofs.Lists.{run-none, run-one, run-append, final-none, final-one, final-append, after-offer, after-withdrawal, step-offer, step-withdrawal}
 use Rattle.rate_control.proofs.Keeping.{Whole, created-whole, after-whole, final-whole}
 use Rattle.layout.specs.State.{stateBytes, stateFits, writerAt}
 use Rattle.words.specs.Words.{laid}
 use Rattle.layout.proofs.RoundTrip.{read-put, length-state}
 use Rattle.words.proofs.Laying.{laid-laid}
-use Rattle.hipokuta.specs.Send.{creationNumber, createNumber, createState, created, COffer, codesFit, offerOf, stopped, reached, asking, reach, offerState, withdrawNumber, withdrawState}
-use Rattle.hipokuta.specs.Calls.{CCall, offers, withdraws, after, offerSteps, steps, runC, finalC, callsOf, calls, seen, seenC, shown, shownAll, OwedFromC}
+use Rattle.rate_control.specs.Answers.{creationNumber}
+use Rattle.hipokuta.specs.Send.{createNumber, createState, created, COffer, choicesFit, offerOf, stopped, reached, asking, reach, offerNumber, offerState, offerOut, offerAnswer, withdrawNumber, withdrawState}
+use Rattle.hipokuta.specs.Calls.{CCall, offers, withdraws, after, offerSteps, steps, runC, finalC, callsOf, calls, seen, seenC, shownStep, turnedAway, shown, shownAll, OwedFromC}
 use Rattle.hipokuta.proofs.Numbers.{model-number}
 
 -- ---- a call on a writer's state in a place
@@ -46,10 +47,16 @@ module _ (w : CbrWriter) (h : Whole w) (place : List ℕ) (room : 152 ≤ length
       laid-laid _ _ place (length-state (afterCall w c) (n .targets) (n .inv .three) ∙ sym (length-state w (h .targets) (h .inv .three)))
 
   -- what C sees
+  sees-offer : (o : COffer) (a f : Bool) → ltb (length (o .answer)) 72 ≡ a → choicesFit o ≡ f → seen bytes (offers o) ≡ shown w (offers o)
+  unfolding seen shown shownStep turnedAway reach asking offerNumber offerOut offerAnswer pick
+  sees-offer o true f e g = rw (fits, e)
+  sees-offer o false false e g = rw (fits, e, g)
+  sees-offer o false true e g = rw (fits, e, g, read, step-offer w (offerOf o))
+
   sees : (c : CCall) → seen bytes c ≡ shown w c
-  unfolding seen shown reach withdrawNumber pick
-  sees (offers o) = rw (fits, read)
-  sees withdraws = rw (fits, read)
+  unfolding seen shown shownStep withdrawNumber pick
+  sees (offers o) = sees-offer o _ _ refl refl
+  sees withdraws = rw (fits, read, step-withdrawal w)
 
   -- what a call asks and leaves
   record Asks (c : CCall) : Type 0 where
@@ -79,9 +86,9 @@ module _ (w : CbrWriter) (h : Whole w) (place : List ℕ) (room : 152 ≤ length
   asks : (c : CCall) → Asks c
   unfolding reach asking callsOf pick
   asks withdraws = asks-withdrawal
-  asks (offers o) = go (leb 72 (length (o .answer))) (codesFit o) refl refl
+  asks (offers o) = go (leb 72 (length (o .answer))) (choicesFit o) refl refl
     where
-      go : (a t : Bool) → leb 72 (length (o .answer)) ≡ a → codesFit o ≡ t → Asks (offers o)
+      go : (a t : Bool) → leb 72 (length (o .answer)) ≡ a → choicesFit o ≡ t → Asks (offers o)
       go true true e f = asks-offer o (rw (fits, le-ltb (length (o .answer)) 72 (leb-true _ _ e), f, read)) (rw (e, f))
       go true false e f = asks-nothing o 12 (rw (fits, le-ltb (length (o .answer)) 72 (leb-true _ _ e), f)) (rw (e, f))
       go false t e f = asks-nothing o 19 (rw (fits, lt-ltb (length (o .answer)) 72 (leb-false _ _ e))) (rw e)
@@ -107,7 +114,7 @@ ask-all w h place room (c ∷ cs) =
 
 -- an accepted creation has made a state, and found room for it
 accepted : (c : CbrConfig) (place : List ℕ) → createNumber c place ≡ 0 → (create c .answer ≡ Created) × (152 ≤ length place)
-unfolding createNumber creationNumber pick
+unfolding createNumber pick
 accepted c place h = go (ltb (length place) 152) (create c .answer) refl refl h
   where
     go : (t : Bool) (a : CbrCreation) → ltb (length place) 152 ≡ t → create c .answer ≡ a → pick t 19 (creationNumber a) ≡ 0

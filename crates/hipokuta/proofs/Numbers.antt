@@ -4,6 +4,7 @@ use mathlib.Core.Path.{_≡_, refl, subst}
 use Prim.Native.Nat.{ℕ, _≤_}
 use mathlib.Core.List.{List}
 use native.Mathlib.Omega.{arith}
+use Rattle.bits.proofs.Flags.{pick-elim}
 use Rattle.headers.specs.Answers.{errorNumber}
 use Rattle.headers.specs.declared.Error.{Error}
 use Rattle.headers.specs.declared.Error.the-variants as h
@@ -22,7 +23,6 @@ use Rattle.verify.specs.declared.VbvVerifyError.the-variants.{Parse, Model, NoS
 use Rattle.rate_control.specs.Answers.{refusalOf as sentRefusal}
 use Rattle.rate_control.specs.declared.CbrError.{CbrError}
 use Rattle.rate_control.specs.declared.CbrError.the-variants as s
-use Rattle.rate_control.proofs.Chain.{pick-elim}
 use Rattle.hipokuta.specs.Check.{Checked, refused, reported, answered, judged, checked}
 
 header-number : (e : Error) → 1 ≤ errorNumber e

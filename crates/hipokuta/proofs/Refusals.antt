@@ -8,6 +8,7 @@ use native.Mathlib.Omega.{arith}
 use lib.Dec.{ltb}
 use lib.ListN.{length}
 use borrow.Author.Tests.{not-false, ltb-true}
+use Rattle.bits.proofs.Flags.{pick-elim}
 use Rattle.bits.specs.Bits.{pick}
 use Rattle.headers.specs.RoundTrips.{Bytes}
 use Rattle.rate_control.specs.Create.{create}
@@ -20,14 +21,14 @@ use Rattle.rate_control.specs.declared.CbrError.{CbrError}
 use Rattle.rate_control.specs.declared.CbrAnswer.{CbrAnswer}
 use Rattle.rate_control.specs.declared.CbrAnswer.the-variants.{Placed, Again, Refused}
 use Rattle.rate_control.specs.declared.Pending.the-variants.{Nothing}
-use Rattle.rate_control.proofs.Chain.{pick-elim}
 use Rattle.rate_control.proofs.Placing.{room-enough}
 use Rattle.rate_control.proofs.Each.{withdraw-told}
 use Rattle.rate_control.proofs.Keeping.{refused-keeps, refused-closes, refused-out, withdraw-unpending}
 use Rattle.layout.specs.State.{stateBytes, stateFits, writerAt}
 use Rattle.words.specs.Words.{laid}
 use Rattle.layout.proofs.RoundTrip.{read-back, state-fits}
-use Rattle.hipokuta.specs.Send.{creationNumber, createNumber, created, createState, COffer, offerOf, Reached, stopped, reached, asking, reach, answerNumber, offerNumber, offerState, offerOut, withdrawalNumber, withdrawNumber, withdrawState}
+use Rattle.rate_control.specs.Answers.{creationNumber, answerNumber, withdrawalNumber}
+use Rattle.hipokuta.specs.Send.{createNumber, created, createState, COffer, offerOf, Reached, stopped, reached, asking, reach, offerNumber, offerState, offerOut, withdrawNumber, withdrawState}
 use Rattle.hipokuta.specs.Calls.{IsRefused, OwedOfRefusals}
 use Rattle.hipokuta.proofs.Sending.{short-state}
 use Rattle.hipokuta.proofs.Numbers.{offer-number, only-output, only-size}
@@ -38,7 +39,6 @@ record Refusal (a : CbrAnswer) : Type 0 where
   is : a ≡ Refused error
 
 number-refuses : (a : CbrAnswer) → 1 ≤ answerNumber a → Refusal a
-unfolding answerNumber
 number-refuses (Placed q d n z) h = absurd (omega arith)
 number-refuses (Again q) h = absurd (omega arith)
 number-refuses (Refused e) h = record { error = e; is = refl }
@@ -68,14 +68,14 @@ module _ (s : List ℕ) (o : COffer) (b : Bytes s) where
   same-writer f e = rw e (read-back s f b)
 
   state-kept : {r : Reached} → Way s o r → 1 ≤ offerNumber r → (offerNumber r ≡ 21 → ⊥) → offerState r s ≡ s
-  unfolding offerNumber offerState answerNumber
+  unfolding offerNumber offerState
   state-kept (stops n k l) h t = refl
   state-kept (reaches f) h t =
       let r = number-refuses (offer w (offerOf o) .answer) h in
       same-writer f (refused-keeps w (offerOf o) (r .error) (r .is) (λ l. t (ap answerNumber (r .is ∙ ap Refused l))))
 
   closing : {r : Reached} → Way s o r → offerNumber r ≡ 21 → offerState r s ≡ withdrawState s
-  unfolding offerNumber offerState answerNumber withdrawState pick
+  unfolding offerNumber offerState withdrawState pick
   closing (stops n k l) h = absurd (omega arith)
   closing (reaches f) h =
       let r = number-refuses (offer w (offerOf o) .answer) (omega arith) in
@@ -94,7 +94,7 @@ module _ (s : List ℕ) (o : COffer) (b : Bytes s) where
   withdrawal-kept p = pick-elim (λ (r : List ℕ). r ≡ s) (stateFits s) (λ f. same-writer f (withdraw-unpending w p)) (λ f. refl)
 
   room-kept : {r : Reached} → Way s o r → 72 ≤ length (o .answer) → w .model .params .«buffer_size_bits» ≤ 8 * length (o .out) → offerNumber r ≡ 19 → ⊥
-  unfolding offerNumber answerNumber offerOf
+  unfolding offerNumber offerOf
   room-kept (stops n k m) a l h = omega (arith, k a)
   room-kept (reaches f) a l h =
       let r = number-refuses (offer w (offerOf o) .answer) (omega arith) in
@@ -103,7 +103,7 @@ module _ (s : List ℕ) (o : COffer) (b : Bytes s) where
 
   -- a withdrawal is refused only where the state does not fit
   refused-withdrawal : 1 ≤ withdrawNumber s → withdrawState s ≡ s
-  unfolding withdrawNumber withdrawState withdrawalNumber pick
+  unfolding withdrawNumber withdrawState pick
   refused-withdrawal h = go (stateFits s) refl h
     where
       go : (t : Bool) → stateFits s ≡ t → 1 ≤ pick t (withdrawalNumber (withdraw w .answer)) 12 → pick t (laid (stateBytes (withdraw w .writer)) s) s ≡ s
@@ -111,7 +111,7 @@ module _ (s : List ℕ) (o : COffer) (b : Bytes s) where
       go false f h = refl
 
   refused-creation : (c : CbrConfig) → 1 ≤ createNumber c s → createState c s ≡ s
-  unfolding createNumber createState creationNumber created pick
+  unfolding createNumber createState created pick
   refused-creation c h = go (ltb (length s) 152) (create c .answer) refl refl h
     where
       go : (t : Bool) (a : CbrCreation) → ltb (length s) 152 ≡ t → create c .answer ≡ a → 1 ≤ pick t 19 (creationNumber a) → created a (create c .writer) s ≡ s
@@ -120,7 +120,7 @@ module _ (s : List ℕ) (o : COffer) (b : Bytes s) where
       go false Created e f h = absurd (omega arith)
 
   refusal-numbered : (v : CbrWriter) (p : Offer) → reach s o ≡ reached v p → IsRefused (offer v p .answer) → 1 ≤ offerNumber (reach s o)
-  unfolding offerNumber answerNumber
+  unfolding offerNumber
   refusal-numbered v p e r = rw e (go (offer v p .answer) r)
     where
       go : (a : CbrAnswer) → IsRefused a → 1 ≤ answerNumber a

@@ -34,7 +34,8 @@ use Rattle.layout.proofs.Answering.{length-refused}
 use Rattle.layout.proofs.Held.{holds, holds-none}
 use Rattle.layout.proofs.RoundTrip.{length-state}
 use Rattle.words.proofs.Laying.{laid-short}
-use Rattle.hipokuta.specs.Send.{creationNumber, createNumber, created, createState, COffer, kindOf, intervalOf, codesFit, offerOf, Reached, stopped, reached, asking, reach, answerNumber, offerNumber, offerState, offerOut, offerAnswer, withdrawalNumber, withdrawNumber, withdrawState}
+use Rattle.rate_control.specs.Answers.{creationNumber, answerNumber, withdrawalNumber}
+use Rattle.hipokuta.specs.Send.{createNumber, created, createState, COffer, kindFor, intervalFor, choicesFit, offerOf, Reached, stopped, reached, asking, reach, offerNumber, offerState, offerOut, offerAnswer, withdrawNumber, withdrawState}
 
 -- ---- creation: the number, and the place afterwards
 
@@ -56,11 +57,11 @@ module _ (c : CbrConfig) (place : List ℕ) where
 
   module _ (room : 152 ≤ length place) (r : CbrCreated) (e : r ≡ create c) where
     pub is-created : (after : List ℕ) → r .answer ≡ Created → after ≡ laid (stateBytes (r .writer)) place → Creates 0 after
-    unfolding createNumber creationNumber createState created pick
+    unfolding createNumber createState created pick
     is-created after h g = rw (le-ltb (length place) 152 room, ← e, h) (refl, g)
 
     pub not-created : (v : VbvError) (n : ℕ) → r .answer ≡ NotCreated v → n ≡ errorNumber v → Creates n place
-    unfolding createNumber creationNumber createState created pick
+    unfolding createNumber createState created pick
     not-created v n h g = rw (le-ltb (length place) 152 room, ← e, h) (g, refl)
 
 -- ---- an offer: the number, and state, output part and answer place afterwards
@@ -81,8 +82,8 @@ module _ (s : List ℕ) (o : COffer) where
   abbrev offered : PictureKind → RemovalInterval → Offer
   offered k i = record { headers = o .headers; kind = k; interval = i; last = eqb (o .last) 1; layer = o .layer; out = o .out }
 
-  codes-told : codes ≡ codesFit o
-  unfolding codesFit
+  codes-told : codes ≡ choicesFit o
+  unfolding choicesFit
   codes-told = rw (within-is 1 2 (o .interval))
 
   module _ (x : CbrState) (e : x ≡ held s) where
@@ -113,7 +114,7 @@ module _ (s : List ℕ) (o : COffer) where
               let k = holds s x e h in
               rw (k .0, le-ltb (length (o .answer)) 72 l, sym codes-told ∙ t, k .1)
 
-          pub asked : (k : PictureKind) (i : RemovalInterval) → k ≡ kindOf (o .kind) → i ≡ intervalOf (o .interval)
+          pub asked : (k : PictureKind) (i : RemovalInterval) → k ≡ kindFor (o .kind) → i ≡ intervalFor (o .interval)
               → (r : CbrOffered) → r ≡ offer (x .writer) (offered k i)
               → {n : ℕ} {after out answer : List ℕ} → n ≡ answerNumber (r .answer) → after ≡ laid (stateBytes (r .writer)) s
               → out ≡ outAfter (x .writer) (offered k i)
@@ -134,9 +135,9 @@ module _ (s : List ℕ) (x : CbrState) (e : x ≡ held s) where
 
   module _ (h : x .fits ≡ true) (r : CbrWithdrawn) (f : r ≡ withdraw (x .writer)) {after : List ℕ} (g : after ≡ laid (stateBytes (r .writer)) s) where
     pub is-withdrawn : r .answer ≡ Withdrawn → Withdraws 0 after
-    unfolding withdrawNumber withdrawalNumber withdrawState pick
+    unfolding withdrawNumber withdrawState pick
     is-withdrawn a = let k = holds s x e h in rw (k .0, ← k .1, ← f, a) (refl, g)
 
     pub not-withdrawn : (v : VbvError) {n : ℕ} → r .answer ≡ NotWithdrawn v → n ≡ errorNumber v → Withdraws n after
-    unfolding withdrawNumber withdrawalNumber withdrawState pick
+    unfolding withdrawNumber withdrawState pick
     not-withdrawn v a m = let k = holds s x e h in rw (k .0, ← k .1, ← f, a) (m, g)

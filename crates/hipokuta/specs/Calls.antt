@@ -4,14 +4,15 @@
 use Prim.Native.Nat.{ℕ, _*_, _≤_}
 use mathlib.Core.Path.{_≡_}
 use mathlib.Core.List.{List, [], _∷_, _++_}
-use mathlib.Core.Bool.{true, _&&_}
-use lib.Dec.{leb}
+use mathlib.Core.Bool.{not, _&&_}
+use lib.Dec.{leb, ltb}
 use lib.ListN.{length}
 use Rattle.bits.specs.Bits.{pick}
 use Rattle.headers.specs.RoundTrips.{Bytes}
+use Rattle.verify.specs.Answers.{plain}
 use Rattle.rate_control.specs.Create.{create}
 use Rattle.rate_control.specs.Offer.{Offer, offer, withdraw}
-use Rattle.rate_control.specs.Calls.{Call, offering, withdrawing, Step, stepOf, run, final}
+use Rattle.rate_control.specs.Calls.{Call, offering, withdrawing, Step, offered, withdrawn, stepOf, run, final}
 use Rattle.rate_control.specs.Sent.{AllBytes}
 use Rattle.rate_control.specs.Demand.{Demand}
 use Rattle.rate_control.specs.declared.CbrConfig.{CbrConfig}
@@ -20,8 +21,10 @@ use Rattle.rate_control.specs.declared.CbrAnswer.{CbrAnswer}
 use Rattle.rate_control.specs.declared.CbrAnswer.the-variants.{Placed, Again, Refused}
 use Rattle.rate_control.specs.declared.Pending.the-variants.{Nothing}
 use Rattle.layout.specs.State.{stateBytes, stateFits, writerAt}
-use Rattle.words.specs.Words.{laid}
-use Rattle.hipokuta.specs.Send.{createNumber, createState, COffer, codesFit, offerOf, Reached, stopped, reached, asking, reach, offerNumber, offerState, offerOut, offerAnswer, withdrawalNumber, withdrawNumber, withdrawState}
+use Rattle.layout.specs.Answers.{refusedWords, answerWords}
+use Rattle.words.specs.Words.{wordsBytes, laid}
+use Rattle.rate_control.specs.Answers.{answerNumber, withdrawalNumber}
+use Rattle.hipokuta.specs.Send.{createNumber, createState, COffer, choicesFit, offerOf, Reached, stopped, reached, reach, offerNumber, offerState, offerOut, offerAnswer, withdrawNumber, withdrawState}
 
 pub data CCall : Type 0 where
   offers : COffer → CCall
@@ -51,7 +54,7 @@ finalC s (c ∷ cs) = finalC (after s c) cs
 
 -- the calls of the list that are for the writer: an offer with an answer place, and with a kind, interval and flag
 unfoldable pub callsOf : CCall → List Call
-callsOf (offers o) = pick (leb 72 (length (o .answer)) && codesFit o) (offering (offerOf o) ∷ []) []
+callsOf (offers o) = pick (leb 72 (length (o .answer)) && choicesFit o) (offering (offerOf o) ∷ []) []
 callsOf withdraws = withdrawing ∷ []
 
 unfoldable pub calls : List CCall → List Call
@@ -64,25 +67,29 @@ pub record Seen : Type 0 where
   pub out : List ℕ
   pub answer : List ℕ
 
-unfoldable pub seenOffer : Reached → COffer → Seen
-seenOffer r o = record { number = offerNumber r; out = offerOut r (o .out); answer = offerAnswer r (o .answer) }
-
-unfoldable pub seenWithdrawal : ℕ → Seen
-seenWithdrawal n = record { number = n; out = []; answer = [] }
-
--- of calls on a state's bytes
+-- of calls on a state's bytes, by the promises of the entries
 unfoldable pub seen : List ℕ → CCall → Seen
-seen s (offers o) = seenOffer (reach s o) o
-seen s withdraws = seenWithdrawal (withdrawNumber s)
+seen s (offers o) = record { number = offerNumber (reach s o); out = offerOut (reach s o) (o .out); answer = offerAnswer (reach s o) (o .answer) }
+seen s withdraws = record { number = withdrawNumber s; out = []; answer = [] }
 
 unfoldable pub seenC : List ℕ → List CCall → List Seen
 seenC s [] = []
 seenC s (c ∷ cs) = seen s c ∷ seenC (after s c) cs
 
--- of the same calls on a writer
+-- of the same calls on a writer: what it answered and put out, as number and words; or the number that stops an offer ahead of it
+unfoldable pub shownStep : Step → List ℕ → Seen
+shownStep (offered w o a out) place = record { number = answerNumber a; out = out; answer = laid (wordsBytes (answerWords a)) place }
+shownStep (withdrawn a) place = record { number = withdrawalNumber a; out = []; answer = place }
+
+unfoldable pub turnedAway : ℕ → COffer → Seen
+turnedAway n o = record { number = n; out = o .out; answer = laid (wordsBytes (refusedWords (plain n))) (o .answer) }
+
 unfoldable pub shown : CbrWriter → CCall → Seen
-shown w (offers o) = seenOffer (asking true w o) o
-shown w withdraws = seenWithdrawal (withdrawalNumber (withdraw w .answer))
+shown w (offers o) =
+    pick (ltb (length (o .answer)) 72) (turnedAway 19 o)
+    (pick (not (choicesFit o)) (turnedAway 12 o)
+    (shownStep (stepOf w (offering (offerOf o))) (o .answer)))
+shown w withdraws = shownStep (stepOf w withdrawing) []
 
 unfoldable pub shownAll : CbrWriter → List CCall → List Seen
 shownAll w [] = []

@@ -7,32 +7,23 @@ use mathlib.Core.Bool.{Bool, not, _&&_}
 use lib.Dec.{leb, ltb, eqb}
 use lib.ListN.{length}
 use Rattle.bits.specs.Bits.{pick}
-use Rattle.vbv.specs.Answers.{errorNumber}
 use Rattle.vbv.specs.declared.RemovalInterval.{RemovalInterval}
 use Rattle.vbv.specs.declared.RemovalInterval.the-variants.{Frame, Field}
 use Rattle.verify.specs.Answers.{plain}
 use Rattle.layers.specs.declared.PictureKind.{PictureKind}
 use Rattle.layers.specs.declared.PictureKind.the-variants.{I, P, B}
-use Rattle.rate_control.specs.Answers.{refusalOf}
+use Rattle.rate_control.specs.Answers.{creationNumber, answerNumber, withdrawalNumber}
 use Rattle.rate_control.specs.Create.{create, within}
 use Rattle.rate_control.specs.Offer.{Offer, offer, outAfter, withdraw}
 use Rattle.rate_control.specs.declared.CbrConfig.{CbrConfig}
 use Rattle.rate_control.specs.declared.CbrCreation.{CbrCreation}
 use Rattle.rate_control.specs.declared.CbrCreation.the-variants.{Created, Refused as NotCreated}
 use Rattle.rate_control.specs.declared.CbrWriter.{CbrWriter}
-use Rattle.rate_control.specs.declared.CbrAnswer.{CbrAnswer}
-use Rattle.rate_control.specs.declared.CbrAnswer.the-variants.{Placed, Again, Refused}
-use Rattle.rate_control.specs.declared.CbrWithdrawal.{CbrWithdrawal}
-use Rattle.rate_control.specs.declared.CbrWithdrawal.the-variants.{Withdrawn, Refused as NotWithdrawn}
 use Rattle.words.specs.Words.{wordsBytes, laid}
 use Rattle.layout.specs.State.{stateBytes, stateFits, writerAt}
 use Rattle.layout.specs.Answers.{refusedWords, answerWords}
 
 -- ---- creation
-
-unfoldable pub creationNumber : CbrCreation → ℕ
-creationNumber Created = 0
-creationNumber (NotCreated e) = errorNumber e
 
 unfoldable pub createNumber : CbrConfig → List ℕ → ℕ
 createNumber c place = pick (ltb (length place) 152) 19 (creationNumber (create c .answer))
@@ -58,20 +49,20 @@ pub record COffer : Type 0 where
   pub answer : List ℕ
 
 -- kinds 0 I, 1 P, 2 B; intervals 1 a field, 2 a frame; a flag 0 or 1
-unfoldable pub kindOf : ℕ → PictureKind
-kindOf n = pick (eqb n 0) I (pick (eqb n 1) P B)
+unfoldable pub kindFor : ℕ → PictureKind
+kindFor n = pick (eqb n 0) I (pick (eqb n 1) P B)
 
-unfoldable pub intervalOf : ℕ → RemovalInterval
-intervalOf n = pick (eqb n 1) Field Frame
+unfoldable pub intervalFor : ℕ → RemovalInterval
+intervalFor n = pick (eqb n 1) Field Frame
 
-unfoldable pub codesFit : COffer → Bool
-codesFit o = leb (o .kind) 2 && (within 1 2 (o .interval) && leb (o .last) 1)
+unfoldable pub choicesFit : COffer → Bool
+choicesFit o = leb (o .kind) 2 && (within 1 2 (o .interval) && leb (o .last) 1)
 
 unfoldable pub offerOf : COffer → Offer
 offerOf o = record {
   headers = o .headers;
-  kind = kindOf (o .kind);
-  interval = intervalOf (o .interval);
+  kind = kindFor (o .kind);
+  interval = intervalFor (o .interval);
   last = eqb (o .last) 1;
   layer = o .layer;
   out = o .out;
@@ -87,7 +78,7 @@ unfoldable pub asking : Bool → CbrWriter → COffer → Reached
 asking fits w o =
     pick (not fits) (stopped 12)
     (pick (ltb (length (o .answer)) 72) (stopped 19)
-    (pick (not (codesFit o)) (stopped 12)
+    (pick (not (choicesFit o)) (stopped 12)
     (reached w (offerOf o))))
 
 -- of the state's bytes
@@ -96,11 +87,6 @@ unfolding asking
 reach s o = asking (stateFits s) (writerAt s) o
 
 -- the value returned: 0 for a picture that is placed or wanted again
-unfoldable pub answerNumber : CbrAnswer → ℕ
-answerNumber (Placed q d n z) = 0
-answerNumber (Again q) = 0
-answerNumber (Refused e) = refusalOf e .number
-
 unfoldable pub offerNumber : Reached → ℕ
 offerNumber (stopped n) = n
 offerNumber (reached w o) = answerNumber (offer w o .answer)
@@ -119,10 +105,6 @@ offerAnswer (stopped n) place = laid (wordsBytes (refusedWords (plain n))) place
 offerAnswer (reached w o) place = laid (wordsBytes (answerWords (offer w o .answer))) place
 
 -- ---- a withdrawal
-
-unfoldable pub withdrawalNumber : CbrWithdrawal → ℕ
-withdrawalNumber Withdrawn = 0
-withdrawalNumber (NotWithdrawn e) = errorNumber e
 
 unfoldable pub withdrawNumber : List ℕ → ℕ
 withdrawNumber s = pick (stateFits s) (withdrawalNumber (withdraw (writerAt s) .answer)) 12

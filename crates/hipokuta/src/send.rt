@@ -1,6 +1,7 @@
 // The constant-rate writer, its state as bytes.
 ghost use mathlib.Core.Path.{_≡_};
-ghost use Rattle.hipokuta.specs.Send.{createNumber, createState, kindOf, intervalOf, reach, answerNumber, offerNumber, offerState, offerOut, offerAnswer, withdrawNumber, withdrawState};
+ghost use Rattle.rate_control.specs.Answers.{answerNumber};
+ghost use Rattle.hipokuta.specs.Send.{createNumber, createState, kindFor, intervalFor, reach, offerNumber, offerState, offerOut, offerAnswer, withdrawNumber, withdrawState};
 use layers::PictureKind;
 use layout::put_answer;
 use layout::put_refused;
@@ -56,7 +57,7 @@ pub extern "C" fn cbr_create(
 
 // Kinds 0 I, 1 P, 2 B.
 fn kind_of(kind: u8) -> PictureKind
-    ensures { λ r. ⌜ r ≡ kindOf kind ⌝ }
+    ensures { λ r. ⌜ r ≡ kindFor kind ⌝ }
 {
     match kind {
         0 => PictureKind::I,
@@ -67,7 +68,7 @@ fn kind_of(kind: u8) -> PictureKind
 
 // Intervals 1 a field, 2 a frame.
 fn interval_of(interval: u8) -> RemovalInterval
-    ensures { λ r. ⌜ r ≡ intervalOf interval ⌝ }
+    ensures { λ r. ⌜ r ≡ intervalFor interval ⌝ }
 {
     if interval == 1 {
         return RemovalInterval::Field;

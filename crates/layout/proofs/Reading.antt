@@ -8,6 +8,7 @@ use native.Mathlib.Omega.{arith}
 use lib.Dec.{leb, eqb}
 use lib.ListN.{length}
 use borrow.Author.Tests.{leb-true, le-leb, eqb-true}
+use Rattle.bits.proofs.Flags.{pick-elim}
 use Rattle.bits.specs.Bits.{pick}
 use Rattle.bits.proofs.Reading.{both-true}
 use Rattle.vbv.specs.declared.VbvCbrModel.{VbvCbrModel}
@@ -18,7 +19,6 @@ use Rattle.rate_control.specs.Writer.{quantiser, pendingFits, writerFits}
 use Rattle.rate_control.specs.declared.Pending.{Pending}
 use Rattle.rate_control.specs.declared.Pending.the-variants.{Waits}
 use Rattle.rate_control.specs.declared.CbrWriter.{CbrWriter}
-use Rattle.rate_control.proofs.Chain.{pick-elim}
 use Rattle.rate_control.proofs.Fitting.{every-at, quantiser-is, writer-fits}
 use Rattle.rate_control.proofs.States.{pending-some}
 use Rattle.words.specs.Words.{wordAt}

@@ -16,7 +16,7 @@ use Rattle.verify.specs.declared.VbvStandard.the-variants.{Mpeg2}
 use Rattle.verify.specs.declared.Declared.the-variants.{Params}
 use Rattle.verify.proofs.Accepting.{Passed, exactRecord, run-none, run-passed, accepted}
 use Rattle.layers.proofs.Stream.{Part, PartsFit, part, stream, coded, coded-none, stream-coded, stream-declared}
-use Rattle.rate_control.specs.Sent.{Sent, end, recordOf, recordsOf, Passes}
+use Rattle.rate_control.specs.Sent.{Sent, end, sentRecord, sentRecords, Passes}
 use Rattle.rate_control.proofs.Removing.{Done, Course, ended, goes, First}
 use Rattle.rate_control.proofs.Sending.{codedOf, codedBy, Sending}
 
@@ -32,15 +32,15 @@ done-passed {p} r = record {
   no-underflow = units-beyond p _ _ (r .removed .no-underflow);
 }
 
-done-record : {p : VbvParams} {d previous : ℕ} {x : Sent} → Done p d previous x → exactRecord p previous d (codedOf x) ≡ recordOf p d previous x
-unfolding codedOf recordOf end
+done-record : {p : VbvParams} {d previous : ℕ} {x : Sent} → Done p d previous x → exactRecord p previous d (codedOf x) ≡ sentRecord p d previous x
+unfolding codedOf sentRecord end
 done-record {previous = previous} {x = x} r =
     let e : 8 * (x .before + x .bytes) - previous ≡ 8 * x .bytes = omega (arith, r .begins) in
     rw e
 
 course-ran : {p : VbvParams} {d previous : ℕ} {xs : List Sent} (n : ℕ) → Course p d previous xs
-    → run p n previous d (codedBy xs) ≡ ran (recordsOf p d previous xs)
-unfolding codedOf codedBy recordsOf
+    → run p n previous d (codedBy xs) ≡ ran (sentRecords p d previous xs)
+unfolding codedOf codedBy sentRecords
 course-ran {p} {d} {previous} n ended = run-none p n previous d
 course-ran n (goes {xs = xs} r z c) = rw (← done-record r) (run-passed n (codedBy xs) (done-passed r) (course-ran (suc n) c))
 
@@ -56,7 +56,7 @@ first-told (goes r z c) = r .removed .delay-told
 
 passes-by : (p : VbvParams) (s : List ℕ) (x : Sent) (xs : List Sent) → paramsFit p ≡ true → 8 * length s ≤ 2 ^ 48 → First p (x ∷ xs)
     → declared Mpeg2 s ≡ Params p → codedPictures Mpeg2 s ≡ read (codedBy (x ∷ xs)) → Passes p s (x ∷ xs)
-unfolding codedBy codedOf recordsOf
+unfolding codedBy codedOf sentRecords
 passes-by p s x xs f l c d h places m = accepted Mpeg2 s places l d h (first-told c) f (rw (coded-length xs) m) (course-ran 0 c)
 
 sending-declared : {p : VbvParams} {s : List ℕ} {x : Sent} {xs : List Sent} → Sending p false 0 s (x ∷ xs) → declared Mpeg2 s ≡ Params p

@@ -7,6 +7,7 @@ use lib.Dec.{ltb, eqb}
 use lib.ListN.{length}
 use borrow.Author.Tests.{ltb-false, ltb-true, eqb-true, eqb-false, not-true, not-false}
 use Rattle.bits.specs.Bits.{pick}
+use Rattle.bits.proofs.Flags.{or-left, or-right, pick-elim}
 use Rattle.vbv.specs.Annex.{overflows, beyond}
 use Rattle.vbv.specs.declared.VbvError.the-variants.{Early, Params, Range}
 use Rattle.vbv.specs.declared.VbvViolation.the-variants.{Overflow}
@@ -21,19 +22,6 @@ use Rattle.rate_control.specs.declared.CbrError.{CbrError}
 use Rattle.rate_control.specs.declared.CbrError.the-variants.{Model, Violation, Kind, Headers, Layer, TooLarge, Stuffing, Output}
 use Rattle.rate_control.specs.declared.CbrAnswer.the-variants.{Again, Refused}
 use Rattle.rate_control.specs.declared.CbrOffered.{CbrOffered}
-
-pub pick-elim : {A : Type 0} (P : A → Type 0) (b : Bool) {x y : A} → (b ≡ true → P x) → (b ≡ false → P y) → P (pick b x y)
-unfolding pick
-pick-elim P true f g = f refl
-pick-elim P false f g = g refl
-
-or-left : (a b : Bool) → (a || b) ≡ false → a ≡ false
-or-left true b e = e
-or-left false b e = refl
-
-pub or-right : (a b : Bool) → (a || b) ≡ false → b ≡ false
-or-right true b e = cc
-or-right false b e = e
 
 -- the quantiser that the offered layer was asked for with
 abbrev pub q-of : CbrWriter → Offer → ℕ

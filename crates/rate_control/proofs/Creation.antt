@@ -26,6 +26,7 @@ use Rattle.rate_control.specs.Targets.{groupPictures, groupBits, groupWe
 use Rattle.rate_control.specs.Create.{within, configFits, freshWriter, notCreated, withModel, withRate, create}
 use Rattle.rate_control.specs.Writer.{every}
 use Rattle.rate_control.specs.Steps.{ConfigFits, Shares}
+use Rattle.rate_control.specs.Demand.{Configured}
 use Rattle.rate_control.specs.declared.CbrConfig.{CbrConfig}
 use Rattle.rate_control.specs.declared.Pending.the-variants.{Nothing}
 use Rattle.rate_control.specs.declared.CbrWriter.{CbrWriter}
@@ -161,7 +162,7 @@ module _ (c : CbrConfig) where
 pub record Creation (c : CbrConfig) (w : CbrWriter) : Type 0 where
   pub ranges : configFits c ≡ true
   pub params : VbvParams
-  pub rate-is : params .«bit_rate» ≡ 400 * c .«bit_rate_value»
+  pub configured-by : Configured c params
   pub model : VbvCbrModel
   pub model-is : newModel params ≡ Model model
   pub writer-is : w ≡ freshWriter c model
@@ -169,16 +170,17 @@ pub record Creation (c : CbrConfig) (w : CbrWriter) : Type 0 where
 not-created : {e : VbvError} → Refused e ≡ Created → ⊥
 not-created h = true≢false cc
 
-with-model : (c : CbrConfig) (p : VbvParams) → configFits c ≡ true → p .«bit_rate» ≡ 400 * c .«bit_rate_value» → (x : VbvModel) → newModel p ≡ x
+with-model : (c : CbrConfig) (p : VbvParams) → configFits c ≡ true → Configured c p → (x : VbvModel) → newModel p ≡ x
     → withModel c x .answer ≡ Created → Creation c (withModel c x .writer)
 unfolding withModel notCreated
-with-model c p f r (Model m) e h = record { ranges = f; params = p; rate-is = r; model = m; model-is = e; writer-is = refl }
+with-model c p f r (Model m) e h = record { ranges = f; params = p; configured-by = r; model = m; model-is = e; writer-is = refl }
 with-model c p f r (NoModel v) e h = absurd (not-created h)
 
-with-rate : (c : CbrConfig) → configFits c ≡ true → (x : FrameRate) → withRate c x .answer ≡ Created → Creation c (withRate c x .writer)
+with-rate : (c : CbrConfig) → configFits c ≡ true → (x : FrameRate) → frameRate (c .«frame_rate_code») ≡ x → withRate c x .answer ≡ Created
+    → Creation c (withRate c x .writer)
 unfolding withRate notCreated
-with-rate c f (Rate n d) h = with-model c _ f refl (newModel _) refl h
-with-rate c f (NoRate v) h = absurd (not-created h)
+with-rate c f (Rate n d) e h = with-model c _ f (record { rate = refl; buffer = refl; frames = e }) (newModel _) refl h
+with-rate c f (NoRate v) e h = absurd (not-created h)
 
 pub creation : (c : CbrConfig) → create c .answer ≡ Created → Creation c (create c .writer)
 unfolding create notCreated pick
@@ -187,7 +189,7 @@ creation c h = go (configFits c) refl h
     go : (t : Bool) → configFits c ≡ t
         → pick t (withRate c (frameRate (c .«frame_rate_code»))) (notCreated Params) .answer ≡ Created
         → Creation c (pick t (withRate c (frameRate (c .«frame_rate_code»))) (notCreated Params) .writer)
-    go true e h = with-rate c e (frameRate (c .«frame_rate_code»)) h
+    go true e h = with-rate c e (frameRate (c .«frame_rate_code»)) refl h
     go false e h = absurd (not-created h)
 
 -- ---- the writer
@@ -205,7 +207,7 @@ fresh {c} x =
     let a = made (x .params) (x .model) (x .model-is) in
     let f = config-bounds c (x .ranges) in
     let t : Shares (x .model .params) (c .«b_between») (c .«anchors_per_gop»)
-    = shared-out (x .params) (x .model) _ _ (x .model-is) (omega (arith, x .rate-is, f .0 .rate-high)) (f .0 .between-high) (f .0 .anchors-high) in
+    = shared-out (x .params) (x .model) _ _ (x .model-is) (omega (arith, x .configured-by .rate, f .0 .rate-high)) (f .0 .between-high) (f .0 .anchors-high) in
     record {
       inv =
           record {
@@ -233,3 +235,7 @@ fresh {c} x =
 
 pub created : (c : CbrConfig) → create c .answer ≡ Created → Fresh (create c .writer)
 created c h = let x = creation c h in rw (x .writer-is) (fresh x)
+
+pub created-configured : (c : CbrConfig) → create c .answer ≡ Created → Configured c (create c .writer .model .params)
+unfolding freshWriter
+created-configured c h = let x = creation c h in rw (x .writer-is, made (x .params) (x .model) (x .model-is) .params-kept) (x .configured-by)

@@ -1,4 +1,4 @@
--- What each offer's output part holds, the quantisers that answers tell, the first delay, and that 9 comes only before the first placing.
+-- What each offer's output part holds, the quantisers that answers tell, the first delay, and that 9 comes only before the first placing, 7 only after it.
 -- Assumes nothing.
 use mathlib.Core.Path.{_≡_, refl, sym, subst, ap, _∙_}
 use mathlib.Core.List.{List, [], _∷_}
@@ -7,20 +7,22 @@ use Prim.Native.Nat.{ℕ}
 use Rattle.bits.specs.Bits.{pick}
 use Rattle.bits.proofs.Over.{over-take, over-drop}
 use Rattle.vbv.specs.declared.VbvCbrModel.{VbvCbrModel}
+use Rattle.vbv.specs.declared.VbvError.the-variants.{Early}
 use Rattle.vbv.specs.declared.VbvViolation.{VbvViolation}
+use Rattle.vbv.proofs.Laws.{first-in-time}
 use Rattle.vbv.proofs.After.{after as model-after}
 use Rattle.rate_control.specs.Writer.{writerFits}
-use Rattle.rate_control.specs.Offer.{Offer, end, deliveredNext, placedBytes, withPending, refused, placed, offer, outOf, outAfter, withdraw}
+use Rattle.rate_control.specs.Offer.{Offer, position, end, deliveredAt, deliveredNext, placedBytes, withPending, refused, placed, offer, outOf, outAfter, withdraw}
 use Rattle.rate_control.specs.Calls.{Call, offering, withdrawing, stepOf, after, run, final}
 use Rattle.rate_control.specs.Sent.{Sent, sentBy, sent}
 use Rattle.rate_control.specs.Demand.{PartHolds, QuantiserTold, WriterKept, Each, none, offer-then, withdrawal-then, FirstDelay}
 use Rattle.rate_control.specs.declared.CbrWriter.{CbrWriter}
-use Rattle.rate_control.specs.declared.CbrError.the-variants.{Violation}
+use Rattle.rate_control.specs.declared.CbrError.the-variants.{Model, Violation}
 use Rattle.rate_control.specs.declared.CbrAnswer.{CbrAnswer}
 use Rattle.rate_control.specs.declared.CbrAnswer.the-variants.{Placed, Again, Refused}
 use Rattle.rate_control.specs.declared.CbrOffered.{CbrOffered}
 use Rattle.rate_control.specs.declared.CbrWithdrawal.the-variants.{Withdrawn}
-use Rattle.rate_control.proofs.Chain.{over-full, Outcome, stays, closes, retries, places, outcome, Refusal, because, refusal}
+use Rattle.rate_control.proofs.Chain.{too-early, over-full, Outcome, stays, closes, retries, places, outcome, Refusal, because, refusal}
 use Rattle.rate_control.proofs.Keeping.{refused-keeps, refused-closes, Whole, final-whole}
 use Rattle.rate_control.proofs.Retries.{below-31}
 use Rattle.rate_control.proofs.Placing.{delivered-later, first-told}
@@ -125,3 +127,31 @@ overflow-first {w} h calls o v e = go (final w calls .model .started) refl
     go : (t : Bool) → final w calls .model .started ≡ t → sent 0 (run w calls) ≡ []
     go true s = absurd (later-room (final-whole calls h .inv) s (refusal (final w calls) o e))
     go false s = unsent (h .inv) 0 calls s
+
+-- ---- 7 only after it
+
+outcome-unplaced : {w : CbrWriter} {o : Offer} {r : CbrOffered} → Outcome w o r → w .model .started ≡ false → (k : ℕ) (rest : ℕ → List Sent)
+    → sentBy k o (r .answer) rest ≡ [] → (r .writer .model .started ≡ false) × (rest k ≡ [])
+unfolding refused placed withPending sentBy
+outcome-unplaced (stays e x) s k rest h = (s, h)
+outcome-unplaced (closes x) s k rest h = (s, h)
+outcome-unplaced (retries x) s k rest h = (s, h)
+outcome-unplaced (places x) s k rest h = absurd (true≢false cc)
+
+-- where nothing is sent the model is not started
+unplaced : {n : ℕ} {w : CbrWriter} → Inv n w → w .model .started ≡ false → (k : ℕ) (calls : List Call) → sent k (run w calls) ≡ [] → final w calls .model .started ≡ false
+unfolding run final stepOf after sent withPending
+unplaced h s k [] e = s
+unplaced {w = w} h s k (offering o ∷ l) e =
+    let a = outcome-unplaced (outcome w o) s k (λ j. sent j (run (offer w o .writer) l)) e in
+    unplaced (call-inv (offering o) h) (a .0) k l (a .1)
+unplaced {w = w} h s k (withdrawing ∷ l) e = unplaced (call-inv withdrawing h) (rw (withdraw-is w (h .fits)) s) k l e
+
+-- what is delivered is counted from the first picture's own position
+first-there : {w v : CbrWriter} {o : Offer} → w .model .started ≡ false → Refusal w o (Model Early) v → ⊥
+unfolding deliveredAt pick
+first-there {w = w} {o = o} s (because (too-early g)) = true≢false (sym g ∙ rw s (first-in-time (w .model .params) (position w o) _))
+
+pub early-later : {w : CbrWriter} → Whole w → w .model .started ≡ false → (calls : List Call) (o : Offer)
+    → offer (final w calls) o .answer ≡ Refused (Model Early) → sent 0 (run w calls) ≡ [] → ⊥
+early-later {w} h s calls o e n = first-there (unplaced (h .inv) s 0 calls n) (refusal (final w calls) o e)

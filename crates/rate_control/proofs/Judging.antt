@@ -7,6 +7,7 @@ use native.Mathlib.Omega.{arith}
 use lib.Dec.{ltb}
 use lib.ListN.{length}
 use borrow.Author.Tests.{ltb-true, ltb-false, lt-ltb, le-ltb}
+use Rattle.bits.proofs.Flags.{pick-elim}
 use Rattle.bits.specs.Bits.{pick}
 use Rattle.vbv.specs.Annex.{firstDelivered, overflows, beyond, expectedDelay, greatestEnd, leastEnd}
 use Rattle.vbv.specs.Steps.{EndFits}
@@ -34,7 +35,6 @@ use Rattle.rate_control.specs.declared.Extent.{Extent}
 use Rattle.rate_control.specs.declared.Placement.{Placement}
 use Rattle.rate_control.specs.declared.Judged.{Judged}
 use Rattle.rate_control.specs.declared.Judged.the-variants.{Refused, TooLarge, Ready}
-use Rattle.rate_control.proofs.Chain.{pick-elim}
 use Rattle.rate_control.proofs.Fitting.{writer-fits}
 use Rattle.rate_control.proofs.Placing.{delivered-later, delivered-first, placed-size}
 use Rattle.rate_control.proofs.Ways.{first-low}

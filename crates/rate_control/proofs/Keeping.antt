@@ -5,6 +5,7 @@ use mathlib.Core.Bool.{true}
 use mathlib.Core.List.{List, [], _∷_}
 use Prim.Native.Nat.{ℕ}
 use lib.ListN.{length}
+use Rattle.bits.proofs.Flags.{pick-elim}
 use Rattle.rate_control.specs.Targets.{targets}
 use Rattle.rate_control.specs.Create.{freshWriter, create}
 use Rattle.rate_control.specs.Writer.{writerFits}
@@ -19,7 +20,7 @@ use Rattle.rate_control.specs.declared.CbrError.the-variants.{TooLarge}
 use Rattle.rate_control.specs.declared.CbrAnswer.the-variants.{Refused}
 use Rattle.rate_control.specs.declared.CbrOffered.{CbrOffered}
 use Rattle.rate_control.specs.declared.CbrWithdrawn.{CbrWithdrawn}
-use Rattle.rate_control.proofs.Chain.{pick-elim, Outcome, stays, closes, retries, places, outcome, not-size, Refusal, because, size, refusal}
+use Rattle.rate_control.proofs.Chain.{Outcome, stays, closes, retries, places, outcome, not-size, Refusal, because, size, refusal}
 use Rattle.rate_control.proofs.Invariant.{Inv, withdraw-is, call-inv}
 use Rattle.rate_control.proofs.Creation.{creation, created}
 

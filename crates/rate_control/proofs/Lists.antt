@@ -2,8 +2,8 @@
 -- Assumes nothing.
 use mathlib.Core.Path.{_≡_, refl, ap}
 use mathlib.Core.List.{List, [], _∷_, _++_}
-use Rattle.rate_control.specs.Offer.{Offer, offer, withdraw}
-use Rattle.rate_control.specs.Calls.{Call, offering, withdrawing, Step, stepOf, after, run, final}
+use Rattle.rate_control.specs.Offer.{Offer, offer, outAfter, withdraw}
+use Rattle.rate_control.specs.Calls.{Call, offering, withdrawing, Step, offered, withdrawn, stepOf, after, run, final}
 use Rattle.rate_control.specs.declared.CbrWriter.{CbrWriter}
 
 pub run-none : (w : CbrWriter) → run w [] ≡ []
@@ -39,3 +39,11 @@ after-offer w o = refl
 pub after-withdrawal : (w : CbrWriter) → after w withdrawing ≡ withdraw w .writer
 unfolding after
 after-withdrawal w = refl
+
+pub step-offer : (w : CbrWriter) (o : Offer) → stepOf w (offering o) ≡ offered w o (offer w o .answer) (outAfter w o)
+unfolding stepOf
+step-offer w o = refl
+
+pub step-withdrawal : (w : CbrWriter) → stepOf w withdrawing ≡ withdrawn (withdraw w .answer)
+unfolding stepOf
+step-withdrawal w = refl

@@ -8,9 +8,9 @@ use native.Mathlib.Decide.{decLt}
 use native.Mathlib.Nat.{not-suc-le-zero}
 use lib.Dec.{leb, eqb}
 use borrow.Author.Tests.{leb-true, eqb-true}
+use Rattle.bits.proofs.Flags.{pick-elim}
 use Rattle.bits.proofs.Reading.{both-true}
 use Rattle.rate_control.specs.Writer.{coarser, steered}
-use Rattle.rate_control.proofs.Chain.{pick-elim}
 
 pub record Quant (q : ℕ) : Type 0 where
   pub low : 1 ≤ q

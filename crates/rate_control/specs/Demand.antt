@@ -1,12 +1,15 @@
 -- Demand 3 (paper 00) as one statement: of every creation that is accepted, and every list of offers and withdrawals on the writer that it returned.
 -- The answers and output parts of `run` are the code's, by the promises of `create`, `offer` and `withdraw`.
 -- Assumes nothing.
-use Prim.Native.Nat.{ℕ, _<_}
+use Prim.Native.Nat.{ℕ, _*_, _<_}
 use mathlib.Core.Path.{_≡_}
 use mathlib.Core.List.{List, [], _∷_, _++_}
 use lib.ListN.{take, drop, replicate}
+use Rattle.vbv.specs.Answers.{frameRate}
 use Rattle.vbv.specs.Patch.{patched}
+use Rattle.vbv.specs.declared.FrameRate.the-variants.{Rate}
 use Rattle.vbv.specs.declared.VbvParams.{VbvParams}
+use Rattle.vbv.specs.declared.VbvError.the-variants.{Early}
 use Rattle.vbv.specs.declared.VbvViolation.{VbvViolation}
 use Rattle.rate_control.specs.Writer.{asked, coarser}
 use Rattle.rate_control.specs.Create.{create}
@@ -18,7 +21,7 @@ use Rattle.rate_control.specs.Sent.{Sent, sent, AllBytes, Kept}
 use Rattle.rate_control.specs.declared.CbrConfig.{CbrConfig}
 use Rattle.rate_control.specs.declared.CbrWriter.{CbrWriter}
 use Rattle.rate_control.specs.declared.CbrCreation.the-variants.{Created}
-use Rattle.rate_control.specs.declared.CbrError.the-variants.{Violation, TooLarge}
+use Rattle.rate_control.specs.declared.CbrError.the-variants.{Model, Violation, TooLarge}
 use Rattle.rate_control.specs.declared.CbrAnswer.{CbrAnswer}
 use Rattle.rate_control.specs.declared.CbrAnswer.the-variants.{Placed, Again, Refused}
 use Rattle.rate_control.specs.declared.CbrWithdrawal.{CbrWithdrawal}
@@ -59,14 +62,25 @@ abbrev pub FirstDelay : VbvParams → List Sent → Type 0
 FirstDelay p [] = Unit {0}
 FirstDelay p (x ∷ xs) = x .delay ≡ firstDelay p
 
+-- the parameters that a created writer sends by: R in units of 400 bits a second, B in units of 16 × 1024 bits, the frame rate of the code
+abbrev pub paramsOf : CbrConfig → VbvParams
+paramsOf c = create c .writer .model .params
+
+pub record Configured (c : CbrConfig) (p : VbvParams) : Type 0 where
+  pub rate : p .«bit_rate» ≡ 400 * c .«bit_rate_value»
+  pub buffer : p .«buffer_size_bits» ≡ 16384 * c .«vbv_buffer_size_value»
+  pub frames : frameRate (c .«frame_rate_code») ≡ Rate (p .frn) (p .frd)
+
 pub record Demand (c : CbrConfig) (calls : List Call) : Type 0 where
+  pub configured : Configured c (paramsOf c)
   pub each : Each (run (create c .writer) calls)
-  pub quantisers : Asks (targets (create c .writer .model .params) (c .«b_between») (c .«anchors_per_gop»)) (atFirst c) (run (create c .writer) calls)
-  pub first : FirstDelay (create c .writer .model .params) (sent 0 (run (create c .writer) calls))
-  -- 9 only before the first placing: an offer after these calls gets it only where none of them placed a picture
+  pub quantisers : Asks (targets (paramsOf c) (c .«b_between») (c .«anchors_per_gop»)) (atFirst c) (run (create c .writer) calls)
+  pub first : FirstDelay (paramsOf c) (sent 0 (run (create c .writer) calls))
+  -- an offer after these calls is refused with 9 only where none of them placed a picture, and with 7 only where one did
   pub overflow : (o : Offer) (v : VbvViolation) → offer (final (create c .writer) calls) o .answer ≡ Refused (Violation v)
       → sent 0 (run (create c .writer) calls) ≡ []
-  pub kept : Kept (create c .writer .model .params) (create c .writer) calls
+  pub early : (o : Offer) → offer (final (create c .writer) calls) o .answer ≡ Refused (Model Early) → sent 0 (run (create c .writer) calls) ≡ [] → ⊥
+  pub kept : Kept (paramsOf c) (create c .writer) calls
 
 -- what is owed
 abbrev pub Owed : Type 0

@@ -5,7 +5,7 @@ use mathlib.Core.List.{List, [], _∷_}
 use Prim.Native.Nat.{ℕ, zero, suc}
 use Rattle.vbv.specs.Figures.{Figures as ModelFigures, at25}
 use Rattle.rate_control.specs.Targets.{targets}
-use Rattle.rate_control.specs.Writer.{coarser}
+use Rattle.rate_control.specs.Writer.{coarser, steered}
 use Rattle.rate_control.specs.Offer.{firstDelay}
 
 -- the first n quantisers of a picture that is sent back again and again
@@ -18,3 +18,13 @@ pub record Figures : Type 0 where
   pub first-delay : firstDelay (at25 1000000 327680) ≡ 22118
   pub targets-of-three : targets (at25 1000000 327680) 2 4 ≡ 118181 ∷ 47272 ∷ 26590 ∷ []
   pub retries-from-1 : retried 11 1 ≡ 2 ∷ 3 ∷ 4 ∷ 6 ∷ 8 ∷ 11 ∷ 14 ∷ 18 ∷ 23 ∷ 29 ∷ 31 ∷ []
+
+-- figures of our own: the edges of the rule by which a quantiser goes up, stays or goes down, for a target of 1,000; 31 and 1 are kept to; a target of 0 counts as 1
+pub record Steering : Type 0 where
+  pub stays-at-1200 : steered 10 1000 1200 ≡ 10
+  pub up-at-1201 : steered 10 1000 1201 ≡ 11
+  pub stays-at-700 : steered 10 1000 700 ≡ 10
+  pub down-at-699 : steered 10 1000 699 ≡ 9
+  pub most : steered 31 1000 1201 ≡ 31
+  pub least : steered 1 1000 699 ≡ 1
+  pub no-target : steered 10 0 2 ≡ 11

@@ -109,17 +109,17 @@ Received p (x ∷ xs) = Removals p (firstDelivered p (position x) (x .delay)) 0 
 -- ---- the check
 
 -- one record a picture, in order: coded equal to expected, data bits 8 × the bytes placed
-unfoldable pub recordOf : VbvParams → ℕ → ℕ → Sent → VbvPictureRecord
-recordOf p d previous x = record {
+unfoldable pub sentRecord : VbvParams → ℕ → ℕ → Sent → VbvPictureRecord
+sentRecord p d previous x = record {
   «vbv_delay» = x .delay;
   «expected_delay» = x .delay;
   «data_bits» = 8 * x .bytes;
   «occupancy_before_bits» = occupancy p previous d;
 }
 
-unfoldable pub recordsOf : VbvParams → ℕ → ℕ → List Sent → List VbvPictureRecord
-recordsOf p d previous [] = []
-recordsOf p d previous (x ∷ xs) = recordOf p d previous x ∷ recordsOf p (d + gain p (periods (x .interval))) (end x) xs
+unfoldable pub sentRecords : VbvParams → ℕ → ℕ → List Sent → List VbvPictureRecord
+sentRecords p d previous [] = []
+sentRecords p d previous (x ∷ xs) = sentRecord p d previous x ∷ sentRecords p (d + gain p (periods (x .interval))) (end x) xs
 
 -- once a picture is placed the MPEG-2 check accepts the bytes, given a record place a picture
 abbrev pub Passes : VbvParams → List ℕ → List Sent → Type 0
@@ -127,8 +127,8 @@ Passes p s [] = Unit {0}
 Passes p s (x ∷ xs) =
     (places : ℕ) → length (x ∷ xs) ≤ places
     → verdict Mpeg2 s places
-    ≡ yes p (recordOf p (firstDelivered p (position x) (x .delay)) 0 x)
-    (recordsOf p (firstDelivered p (position x) (x .delay) + gain p (periods (x .interval))) (end x) xs)
+    ≡ yes p (sentRecord p (firstDelivered p (position x) (x .delay)) 0 x)
+    (sentRecords p (firstDelivered p (position x) (x .delay) + gain p (periods (x .interval))) (end x) xs)
 
 -- ---- retries
 

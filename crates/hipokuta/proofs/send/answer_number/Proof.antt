@@ -1,4 +1,4 @@
-use Rattle.hipokuta.specs.Send.{answerNumber}
+use Rattle.rate_control.specs.Answers.{answerNumber}
 use borrow.Author.Needs.{needs}
 use Rattle.hipokuta.proofs.send.answer_number.Statement.{statement}
 use Rattle.hipokuta.proofs.send.answer_number.Tie as tie
@@ -19,15 +19,12 @@ cast-result : tie.Need-cast-result
 cast-result c = search needs
 
 returns : tie.Need-returns
-unfolding answerNumber
 returns c = search needs
 
 returns-2 : tie.Need-returns-2
-unfolding answerNumber
 returns-2 c = search needs
 
 returns-3 : tie.Need-returns-3
-unfolding answerNumber
 returns-3 c = search needs
 
 pub answer-number-spec : {M : Type 1} → statement M

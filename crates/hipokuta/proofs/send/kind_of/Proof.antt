@@ -1,19 +1,19 @@
 use borrow.Author.Tests.{ne-eqb}
 use Rattle.bits.specs.Bits.{pick}
-use Rattle.hipokuta.specs.Send.{kindOf}
+use Rattle.hipokuta.specs.Send.{kindFor}
 use Rattle.hipokuta.proofs.send.kind_of.Statement.{statement}
 use Rattle.hipokuta.proofs.send.kind_of.Tie as tie
 
 returns : tie.Need-returns
-unfolding kindOf pick
+unfolding kindFor pick
 returns c = simp (c .match .keys1)
 
 returns-2 : tie.Need-returns-2
-unfolding kindOf pick
+unfolding kindFor pick
 returns-2 c = simp (c .match .keys2)
 
 returns-3 : tie.Need-returns-3
-unfolding kindOf pick
+unfolding kindFor pick
 returns-3 c =
     let r = c .match .rest in
     simp (ne-eqb _ _ (r .1), ne-eqb _ _ (r .0 .1))
