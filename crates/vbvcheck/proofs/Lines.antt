@@ -11,7 +11,7 @@ use Rattle.words.proofs.Bytes.{AllSmall as EachSmall, none as no-word, some as 
 use Rattle.verify.specs.Layout.{recordsBytes}
 use Rattle.verify.specs.declared.VbvPictureRecord.{VbvPictureRecord}
 use Rattle.verify.proofs.Storing.{records-more}
-use Rattle.verify.proofs.Parts.{rest-is}
+use Rattle.bits.proofs.Reading.{rest-is}
 use Rattle.verify.proofs.Bounds.{AllSmall, none, some}
 use Rattle.vbvcheck.specs.Text.{line, recordLines}
 use Rattle.vbvcheck.specs.Steps.{lineOf, linesOf}
