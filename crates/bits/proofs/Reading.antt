@@ -320,9 +320,6 @@ cut short q f e = refl
 cut bad q f e = sym (f (λ z. let n : _≡_ {A = ℕ} 0 1 = cc in omega arith)) ∙ e
 cut (got vs) q f e = sym (f (λ z. let n : _≡_ {A = ℕ} 0 1 = cc in omega arith)) ∙ e
 
-pub read-short-cut : (fs : List Field) (s t : List ℕ) (i : ℕ) → readFields fs (s ++ t) i ≡ short → readFields fs s i ≡ short
-read-short-cut fs s t i = cut (readFields fs s i) (readFields fs (s ++ t) i) (read-append fs s t i)
-
 -- what follows a read, at the bit behind it
 unfoldable pub followed : Parsed → (List ℕ → Parsed) → Parsed
 followed short g = short

@@ -135,10 +135,6 @@ state-fits s h =
     let b = both-true (codesFit s) _ (a .1) in
     (leb-true _ _ (a .0), b .0, b .1)
 
-pub lists-read : (s : List ℕ) → (length (writerAt s .«target_bits») ≡ 3) × (length (writerAt s .q) ≡ 3)
-unfolding writerAt
-lists-read s = (refl, refl)
-
 code-back : (v q : ℕ) → v ≤ 3 → pendingCode (pendingOf v q) ≡ v
 unfolding pendingCode pendingOf pick
 code-back zero q h = refl
