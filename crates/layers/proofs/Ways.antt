@@ -27,9 +27,8 @@ use Rattle.picture_header.proofs.Extent.{header-bits, header-bytes}
 use Rattle.vbv.specs.declared.RemovalInterval.{RemovalInterval}
 use Rattle.verify.specs.Coded.{intervalOf}
 use Rattle.scan.specs.declared.Found.the-variants.{At, Nothing}
-use Rattle.scan.specs.Codes.{codes, codesAt, every, nextCode, endsPrefix}
+use Rattle.scan.specs.Codes.{codes, codesAt, every, nextCode, endsPrefix, found}
 use Rattle.scan.specs.Pictures.{isSlice, notSequence, skip}
-use Rattle.scan.specs.Walk.{found}
 use Rattle.scan.proofs.Walk.{seen, unseen, sought, unsought}
 use Rattle.scan.proofs.Search.{codes-from-zero, every-more}
 use Rattle.scan.proofs.Prefix.{ends-last-three}

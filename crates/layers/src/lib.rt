@@ -9,9 +9,8 @@ ghost use Rattle.picture_header.specs.PictureHeader.{pictureHeader, pictureHead
 ghost use Rattle.picture_header.specs.Picture.{picture};
 ghost use Rattle.picture_header.specs.declared.PictureHeaderRead.the-variants.{Parsed as HeaderParsed};
 ghost use Rattle.vbv.specs.Answers.{frameRate};
-ghost use Rattle.scan.specs.Codes.{codes, codesAt, every, endsPrefix};
+ghost use Rattle.scan.specs.Codes.{codes, codesAt, every, endsPrefix, found};
 ghost use Rattle.scan.specs.Pictures.{skip};
-ghost use Rattle.scan.specs.Walk.{found};
 ghost use Rattle.layers.specs.Headers.{opensHeaders, sameRate, sameParams, parsed, sequenceFirst, sequenceFits, headersFit};
 ghost use Rattle.layers.specs.Layer.{sameKind, sameInterval, flagClear, codeSeven, padding, headerFits, slices, isExtension, layerCodes, layerFits};
 ghost use Rattle.layers.specs.Steps.{inSet};

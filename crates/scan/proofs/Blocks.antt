@@ -15,9 +15,9 @@ use Rattle.bits.specs.Bits.{pick}
 use Rattle.bits.proofs.Flags.{or-left, or-right}
 use Rattle.scan.specs.declared.Found.{Found}
 use Rattle.scan.specs.declared.Found.the-variants.{At, Nothing}
-use Rattle.scan.specs.Codes.{starts, firstFrom, nextCode}
+use Rattle.scan.specs.Codes.{starts, nextCode}
 use Rattle.scan.specs.Steps.{zeroOne, before}
-use Rattle.scan.proofs.NextCode.{no-pair}
+use Rattle.scan.proofs.NextCode.{firstFrom, next-first, no-pair}
 use Rattle.scan.proofs.Walk.{seen}
 
 -- ---- the block test, place by place
@@ -58,8 +58,7 @@ late e o (b ∷ l) h = go (late e (suc o) l (omega arith)) (starts (b ∷ l))
     go r false = r
 
 pub none-before : (s : List ℕ) (e i : ℕ) → e ≤ i → Nothing ≡ before e (nextCode s i)
-unfolding nextCode
-none-before s e i h = sym (late e i (drop i s) h)
+none-before s e i h = rw (next-first s i) (sym (late e i (drop i s) h))
 
 -- a code before the bound is told
 pub told : (e o d : ℕ) (f : Found) → o < e → At o d ≡ f → At o d ≡ before e f
@@ -96,8 +95,7 @@ nothing (suc k) o (b ∷ l) q = go (λ r. nothing k (suc o) l r) (starts (b ∷ 
     go rec false r = rw e at (rec (rw e r))
 
 pub goes-on : (s : List ℕ) (i k : ℕ) → before (i + k) (nextCode s i) ≡ Nothing → nextCode s (i + k) ≡ nextCode s i
-unfolding nextCode
-goes-on s i k q = rw (← drop-drop k i s) (nothing k i (drop i s) q)
+goes-on s i k q = rw (next-first s (i + k), next-first s i, ← drop-drop k i s) (nothing k i (drop i s) (rw (next-first s i) at (q)))
 
 -- a bound that leaves room for no code behind it cuts nothing off
 pub all-told : (s : List ℕ) (e i : ℕ) → length s < e + 4 → before e (nextCode s i) ≡ nextCode s i

@@ -1,9 +1,9 @@
 -- What the definition of the next code says at an index of the stream.
 -- Assumes nothing.
 use mathlib.Core.Path.{_≡_, refl, sym, _∙_}
-use Prim.Native.Nat.{ℕ, _+_, _-_, _≤_, _<_}
+use Prim.Native.Nat.{ℕ, suc, _+_, _-_, _≤_, _<_}
 use mathlib.Core.List.{List, [], _∷_}
-use mathlib.Core.Bool.{true, false, _&&_, and-false}
+use mathlib.Core.Bool.{Bool, true, false, _&&_, and-false}
 use native.Mathlib.Omega.{arith}
 use native.Mathlib.Nat.{add-zero}
 use native.Mathlib.Numerals.{add-one}
@@ -12,11 +12,29 @@ use lib.Seq.{drop-drop, getD-drop}
 use lib.Dec.{eqb, leb}
 use borrow.Author.Tests.{ne-eqb, le-leb}
 use Rattle.bits.specs.Bits.{pick}
+use Rattle.scan.specs.declared.Found.{Found}
 use Rattle.scan.specs.declared.Found.the-variants.{At, Nothing}
-use Rattle.scan.specs.Codes.{starts, firstFrom, nextCode}
+use Rattle.scan.specs.Codes.{starts, codesFrom, codesAt, found, nextCode}
 use Rattle.scan.proofs.Prefix.{starts-is}
 
 -- ---- over a list
+
+-- the first start code of the bytes `l`, which stand at offset `o` of the stream
+unfoldable pub firstFrom : ℕ → List ℕ → Found
+unfolding pick starts
+firstFrom o [] = Nothing
+firstFrom o (b ∷ l) = pick (starts (b ∷ l)) (At o (getD (b ∷ l) 3 0)) (firstFrom (suc o) l)
+
+first-is : (o : ℕ) (l : List ℕ) → firstFrom o l ≡ found (codesFrom o 0 l)
+unfolding firstFrom codesFrom found pick
+first-is o [] = refl
+first-is o (b ∷ l) = go (first-is (suc o) l) (starts (b ∷ l))
+  where
+    go : firstFrom (suc o) l ≡ found (codesFrom (suc o) 0 l) → (t : Bool)
+        → pick t (At o (getD (b ∷ l) 3 0)) (firstFrom (suc o) l)
+        ≡ found (pick t (record { offset = o; code = getD (b ∷ l) 3 0 } ∷ codesFrom (suc o) 3 l) (codesFrom (suc o) 0 l))
+    go ih true = refl
+    go ih false = ih
 
 short : (l : List ℕ) (o : ℕ) → length l < 4 → firstFrom o l ≡ Nothing
 unfolding firstFrom starts pick
@@ -38,9 +56,12 @@ first-here o (b ∷ l) e = rw e
 
 -- ---- in a stream
 
+pub next-first : (s : List ℕ) (i : ℕ) → nextCode s i ≡ firstFrom i (drop i s)
+unfolding nextCode codesAt
+next-first s i = sym (first-is i (drop i s))
+
 pub next-short : (s : List ℕ) (i : ℕ) → length s < i + 4 → Nothing ≡ nextCode s i
-unfolding nextCode
-next-short s i h = sym (short (drop i s) i (simp length-drop (omega arith)))
+next-short s i h = rw (next-first s i) (sym (short (drop i s) i (simp length-drop (omega arith))))
 
 starts-at : (s : List ℕ) (i : ℕ)
     → starts (drop i s) ≡ (leb 4 (length s - i) && (eqb (getD s i 0) 0 && (eqb (getD s (i + 1) 0) 0 && eqb (getD s (i + 2) 0) 1)))
@@ -48,15 +69,13 @@ starts-at s i = starts-is (drop i s) ∙ rw (length-drop, getD-drop i s 0 0, get
 
 pub next-here : (s : List ℕ) (i : ℕ) → i + 4 ≤ length s → getD s i 0 ≡ 0 → getD s (i + 1) 0 ≡ 0 → getD s (i + 2) 0 ≡ 1
     → At i (getD s (i + 3) 0) ≡ nextCode s i
-unfolding nextCode
 next-here s i h a b c =
     let l : 4 ≤ length s - i = omega arith in
-    rw (← getD-drop i s 3 0) (first-here i (drop i s) (starts-at s i ∙ rw (le-leb 4 (length s - i) l, a, b, c)))
+    rw (next-first s i, ← getD-drop i s 3 0) (first-here i (drop i s) (starts-at s i ∙ rw (le-leb 4 (length s - i) l, a, b, c)))
 
 -- no code at i
 next-on : (s : List ℕ) (i : ℕ) → starts (drop i s) ≡ false → nextCode s (i + 1) ≡ nextCode s i
-unfolding nextCode
-next-on s i e = rw (← drop-drop 1 i s) (first-on i (drop i s) e)
+next-on s i e = rw (next-first s (i + 1), next-first s i, ← drop-drop 1 i s) (first-on i (drop i s) e)
 
 not-first : (s : List ℕ) (i : ℕ) → (getD s i 0 ≡ 0 → ⊥) → nextCode s (i + 1) ≡ nextCode s i
 not-first s i n = next-on s i (starts-at s i ∙ rw (ne-eqb (getD s i 0) 0 n, and-false))

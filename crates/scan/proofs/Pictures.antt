@@ -14,9 +14,9 @@ use Rattle.scan.specs.declared.Found.{Found}
 use Rattle.scan.specs.declared.Found.the-variants.{At, Nothing}
 use Rattle.scan.specs.declared.Next.the-variants.{Picture, Done}
 use Rattle.scan.specs.declared.Stop.the-variants.{AtPicture, AtSlice, AfterSlices}
-use Rattle.scan.specs.Codes.{Code, codesFrom, codes, codesAt}
+use Rattle.scan.specs.Codes.{Code, codesFrom, codes, codesAt, found}
 use Rattle.scan.specs.Pictures.{Pic, skip, isSlice, notSlice, notPicture, notSequence, afterSlices, endAt, picturesF, picturesOf, pictures}
-use Rattle.scan.specs.Walk.{found, goOn, nextIn, nextPicture}
+use Rattle.scan.specs.Walk.{goOn, nextIn, nextPicture}
 use Rattle.scan.specs.Steps.{passed}
 use Rattle.scan.proofs.Walk.{Sought, sought, unsought}
 

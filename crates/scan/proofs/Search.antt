@@ -7,9 +7,8 @@ use mathlib.Core.Bool.{Bool, true, false, not, _&&_}
 use lib.Dec.{eqb, leb}
 use Rattle.bits.specs.Bits.{pick}
 use Rattle.scan.specs.declared.Found.the-variants.{At, Nothing}
-use Rattle.scan.specs.Codes.{Code, codes, codesAt, every}
+use Rattle.scan.specs.Codes.{Code, codes, codesAt, every, found}
 use Rattle.scan.specs.Pictures.{isSlice, notSequence, skip}
-use Rattle.scan.specs.Walk.{found}
 
 pub slice-test : (c : ℕ) → (leb 1 c && leb c 0xAF) ≡ isSlice c
 unfolding isSlice

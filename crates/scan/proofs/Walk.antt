@@ -10,9 +10,8 @@ use lib.ListN.{length, getD, drop, length-drop}
 use lib.Seq.{drop-drop}
 use Rattle.bits.specs.Bits.{pick}
 use Rattle.scan.specs.declared.Found.the-variants.{At, Nothing}
-use Rattle.scan.specs.Codes.{Code, starts, codesFrom, codesAt, firstFrom, nextCode}
+use Rattle.scan.specs.Codes.{Code, starts, codesFrom, codesAt, found, nextCode}
 use Rattle.scan.specs.Pictures.{skip}
-use Rattle.scan.specs.Walk.{found}
 use Rattle.scan.proofs.Prefix.{starts-long}
 
 -- ---- over a list
@@ -30,17 +29,6 @@ unfolding codesFrom pick
 code-here b l o q =
     let e : o + 4 ≡ suc o + 3 = omega arith in
     rw (q, passing 3 (suc o) l, e)
-
-first-is : (o : ℕ) (l : List ℕ) → firstFrom o l ≡ found (codesFrom o 0 l)
-unfolding firstFrom codesFrom found pick
-first-is o [] = refl
-first-is o (b ∷ l) = go (first-is (suc o) l) (starts (b ∷ l))
-  where
-    go : firstFrom (suc o) l ≡ found (codesFrom (suc o) 0 l) → (t : Bool)
-        → pick t (At o (getD (b ∷ l) 3 0)) (firstFrom (suc o) l)
-        ≡ found (pick t (record { offset = o; code = getD (b ∷ l) 3 0 } ∷ codesFrom (suc o) 3 l) (codesFrom (suc o) 0 l))
-    go ih true = refl
-    go ih false = ih
 
 pub unsought : (cs : List Code) → found cs ≡ Nothing → cs ≡ []
 unfolding found
@@ -133,8 +121,8 @@ skip-never [] = refl
 skip-never (c ∷ cs) = refl
 
 next-is : (s : List ℕ) (i : ℕ) → nextCode s i ≡ found (codesAt s i)
-unfolding nextCode codesAt
-next-is s i = first-is i (drop i s)
+unfolding nextCode
+next-is s i = refl
 
 pub record Seen (s : List ℕ) (i o c : ℕ) : Type 0 where
   pub from : i ≤ o

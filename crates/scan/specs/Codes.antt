@@ -43,16 +43,15 @@ unfoldable pub every : (ℕ → Bool) → List Code → Bool
 every p [] = true
 every p (c ∷ cs) = p (c .code) && every p cs
 
--- the first start code of the bytes `s`, which stand at offset `o` of the stream
-unfoldable pub firstFrom : ℕ → List ℕ → Found
-unfolding pick starts
-firstFrom o [] = Nothing
-firstFrom o (b ∷ s) = pick (starts (b ∷ s)) (At o (getD (b ∷ s) 3 0)) (firstFrom (suc o) s)
+-- the first of the codes
+unfoldable pub found : List Code → Found
+found [] = Nothing
+found (c ∷ cs) = At (c .offset) (c .code)
 
 -- the first start code of `s` at or after `from`
 unfoldable pub nextCode : List ℕ → ℕ → Found
-unfolding firstFrom
-nextCode s from = firstFrom from (drop from s)
+unfolding found codesAt
+nextCode s from = found (codesAt s from)
 
 -- the bytes end 00 00 01
 unfoldable pub endsPrefix : List ℕ → Bool

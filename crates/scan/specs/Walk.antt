@@ -1,19 +1,12 @@
--- One step of the walk from picture to picture: what a search finds, the next picture, and where the walk goes on. proofs/Pictures.antt: the steps come to specs/Pictures.antt.
+-- One step of the walk from picture to picture: the next picture, and where the walk goes on. proofs/Pictures.antt: the steps come to specs/Pictures.antt.
 -- Assumes nothing.
 use Prim.Native.Nat.{ℕ}
 use mathlib.Core.List.{List, [], _∷_}
 use lib.ListN.{length}
-use Rattle.scan.specs.declared.Found.{Found}
-use Rattle.scan.specs.declared.Found.the-variants.{At, Nothing}
 use Rattle.scan.specs.declared.Next.{Next}
 use Rattle.scan.specs.declared.Next.the-variants.{Picture, Done}
 use Rattle.scan.specs.Codes.{Code, codesAt}
 use Rattle.scan.specs.Pictures.{notPicture, skip, afterSlices, endAt}
-
--- the first of the codes
-unfoldable pub found : List Code → Found
-found [] = Nothing
-found (c ∷ cs) = At (c .offset) (c .code)
 
 -- where the walk goes on
 unfoldable pub goOn : ℕ → List Code → ℕ

@@ -2,9 +2,9 @@
 ghost use mathlib.Core.Path.{_≡_};
 ghost use lib.ListN.{length};
 ghost use Prim.Native.Nat.{_+_, _≤_};
-ghost use Rattle.scan.specs.Codes.{nextCode, codes, codesAt};
+ghost use Rattle.scan.specs.Codes.{found, nextCode, codes, codesAt};
 ghost use Rattle.scan.specs.Pictures.{skip, notSequence, afterSlices};
-ghost use Rattle.scan.specs.Walk.{found, nextPicture};
+ghost use Rattle.scan.specs.Walk.{nextPicture};
 ghost use Rattle.scan.specs.Steps.{zeroOne, before, passed};
 
 // Where a start code is, and its fourth byte.

@@ -11,9 +11,8 @@ use Rattle.picture_header.specs.declared.PictureRead.the-variants.{Parsed as Pi
 use Rattle.headers.specs.declared.sequence_header.Answer.the-variants.{Parsed}
 use Rattle.vbv.specs.Answers.{frameRate}
 use Rattle.vbv.specs.declared.FrameRate.the-variants.{Rate}
-use Rattle.scan.specs.Codes.{Code, codes}
+use Rattle.scan.specs.Codes.{Code, codes, found}
 use Rattle.scan.specs.Pictures.{skip, notSequence}
-use Rattle.scan.specs.Walk.{found}
 use Rattle.scan.specs.declared.Found.the-variants.{At}
 use Rattle.scan.proofs.Sorts.{sequence-code, skip-stops, found-first}
 use Rattle.verify.specs.Coded.{intervalOf, toldByPicture, told}

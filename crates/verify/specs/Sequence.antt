@@ -10,9 +10,8 @@ use Rattle.headers.specs.declared.sequence_header.Answer.the-variants.{Parsed, 
 use Rattle.vbv.specs.Answers.{frameRate}
 use Rattle.vbv.specs.declared.FrameRate.{FrameRate}
 use Rattle.vbv.specs.declared.FrameRate.the-variants.{Rate, Refused as RateRefused}
-use Rattle.scan.specs.Codes.{codes}
+use Rattle.scan.specs.Codes.{codes, found}
 use Rattle.scan.specs.Pictures.{skip, notSequence}
-use Rattle.scan.specs.Walk.{found}
 use Rattle.scan.specs.declared.Found.{Found}
 use Rattle.scan.specs.declared.Found.the-variants.{At, Nothing}
 use Rattle.verify.specs.declared.VbvStandard.{VbvStandard}

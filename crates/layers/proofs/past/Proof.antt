@@ -4,9 +4,8 @@ use Prim.Native.Nat.{_-_}
 use native.Mathlib.Omega.{arith}
 use lib.ListN.{length}
 use Rattle.scan.specs.declared.Found.the-variants.{At}
-use Rattle.scan.specs.Codes.{nextCode, codesAt}
+use Rattle.scan.specs.Codes.{nextCode, codesAt, found}
 use Rattle.scan.specs.Pictures.{skip}
-use Rattle.scan.specs.Walk.{found}
 use Rattle.scan.proofs.Walk.{seen, pass-on, stop-here, none-here}
 use Rattle.layers.specs.Steps.{inSet}
 use borrow.Author.Needs.{needs}

@@ -1,6 +1,6 @@
 use borrow.Author.Needs.{needs}
 use mathlib.Core.Path.{sym, ap, _∙_}
-use Rattle.scan.specs.Walk.{found}
+use Rattle.scan.specs.Codes.{found}
 use Rattle.scan.proofs.Pictures.{after-none, after-some}
 use Rattle.scan.proofs.after_slices.Statement.{statement}
 use Rattle.scan.proofs.after_slices.Tie as tie
