@@ -10,6 +10,7 @@ use lib.ListN.{length}
 use Rattle.bits.specs.Bits.{pick}
 use Rattle.headers.specs.RoundTrips.{Bytes}
 use Rattle.verify.specs.Answers.{plain}
+use Rattle.rate_control.specs.Answers.{answerNumber, withdrawalNumber}
 use Rattle.rate_control.specs.Create.{create}
 use Rattle.rate_control.specs.Offer.{Offer, offer, withdraw}
 use Rattle.rate_control.specs.Calls.{Call, offering, withdrawing, Step, offered, withdrawn, stepOf, run, final}
@@ -23,7 +24,6 @@ use Rattle.rate_control.specs.declared.Pending.the-variants.{Nothing}
 use Rattle.layout.specs.State.{stateBytes, stateFits, writerAt}
 use Rattle.layout.specs.Answers.{refusedWords, answerWords}
 use Rattle.words.specs.Words.{wordsBytes, laid}
-use Rattle.rate_control.specs.Answers.{answerNumber, withdrawalNumber}
 use Rattle.hipokuta.specs.Send.{createNumber, createState, COffer, choicesFit, offerOf, Reached, stopped, reached, reach, offerNumber, offerState, offerOut, offerAnswer, withdrawNumber, withdrawState}
 
 pub data CCall : Type 0 where

@@ -152,7 +152,7 @@ quantiser-back (suc (suc (suc zero))) q h t = refl
 quantiser-back (suc (suc (suc (suc v)))) q h t = absurd (omega arith)
 
 words-read : (s : List ℕ) → codesFit s ≡ true → stateWords (writerAt s) ≡ wordsFrom 0 19 s
-unfolding codesFit stateWords writerAt wordsFrom
+unfolding codesFit stateWords writerAt
 words-read s h =
     let a = both-true (leb (wordAt s 8) 1) _ h in
     let b = both-true (leb (wordAt s 15) 3) _ (a .1) in

@@ -66,7 +66,7 @@ word-put (some {v} {vs} b f) rest (suc k) h =
     (word-put f rest k (omega arith))
 
 -- n words from word k on
-unfoldable pub wordsFrom : ℕ → ℕ → List ℕ → List ℕ
+abbrev pub wordsFrom : ℕ → ℕ → List ℕ → List ℕ
 wordsFrom k zero s = []
 wordsFrom k (suc n) s = wordAt s k ∷ wordsFrom (suc k) n s
 
@@ -80,7 +80,7 @@ word-back s k b h =
 
 pub words-back : (s : List ℕ) (n k : ℕ) → ((j : ℕ) → getD s j 0 < 256) → 8 * (k + n) ≤ length s
     → wordsBytes (wordsFrom k n s) ≡ take (8 * n) (drop (8 * k) s)
-unfolding wordsBytes wordsFrom
+unfolding wordsBytes
 words-back s zero k b h = refl
 words-back s (suc n) k b h =
     let d = drop (8 * k) s in
