@@ -34,7 +34,7 @@ use Rattle.layout.proofs.Answering.{length-refused}
 use Rattle.layout.proofs.Held.{holds, holds-none}
 use Rattle.layout.proofs.RoundTrip.{length-state}
 use Rattle.words.proofs.Laying.{laid-short}
-use Rattle.rate_control.specs.Answers.{creationNumber, answerNumber, withdrawalNumber}
+use Rattle.rate_control.specs.Answers.{answerNumber}
 use Rattle.hipokuta.specs.Send.{createNumber, created, createState, COffer, kindFor, intervalFor, choicesFit, offerOf, Reached, stopped, reached, asking, reach, offerNumber, offerState, offerOut, offerAnswer, withdrawNumber, withdrawState}
 
 -- ---- creation: the number, and the place afterwards

@@ -12,7 +12,7 @@ use Rattle.headers.specs.RoundTrips.{Bytes}
 use Rattle.verify.specs.Answers.{plain}
 use Rattle.rate_control.specs.Answers.{answerNumber, withdrawalNumber}
 use Rattle.rate_control.specs.Create.{create}
-use Rattle.rate_control.specs.Offer.{Offer, offer, withdraw}
+use Rattle.rate_control.specs.Offer.{Offer, offer}
 use Rattle.rate_control.specs.Calls.{Call, offering, withdrawing, Step, offered, withdrawn, stepOf, run, final}
 use Rattle.rate_control.specs.Sent.{AllBytes}
 use Rattle.rate_control.specs.Demand.{Demand}

@@ -54,7 +54,7 @@ motionFields t = vectorFields (forward t) ++ vectorFields (backward t)
 unfoldable pub codingType : ℕ → PictureCodingType
 codingType t = pick (eqb t 1) Intra (pick (eqb t 2) Predictive (pick (eqb t 3) Bidirectional DcIntra))
 
--- the bytes of extra information in bits, or that the bits end first
+-- how many bytes of extra information the bits have, or that the bits end first
 pub data Extra : Type 0 where
   cut : Extra
   bytes : ℕ → Extra

@@ -1,12 +1,11 @@
 -- What an offer can come to, and a refusal, with the facts that the tests on the way give.
 -- Assumes nothing.
 use mathlib.Core.Path.{_≡_, refl}
-use mathlib.Core.Bool.{Bool, true, false, _||_, true≢false}
+use mathlib.Core.Bool.{true, false, _||_, true≢false}
 use Prim.Native.Nat.{ℕ, _^_, _≤_, _<_}
 use lib.Dec.{ltb, eqb}
 use lib.ListN.{length}
 use borrow.Author.Tests.{ltb-false, ltb-true, eqb-true, eqb-false, not-true, not-false}
-use Rattle.bits.specs.Bits.{pick}
 use Rattle.bits.proofs.Flags.{or-left, or-right, pick-elim}
 use Rattle.vbv.specs.Annex.{overflows, beyond}
 use Rattle.vbv.specs.declared.VbvError.the-variants.{Early, Params, Range}

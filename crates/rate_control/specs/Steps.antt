@@ -116,11 +116,12 @@ extentOf m headers layer last = record {
   bytes = headers + layer + length (tail last);
 }
 
--- 14 of the position and of the end without stuffing; more than 2^45 bytes pass it
+-- 14 of the position and of the end without stuffing
 unfoldable pub within14 : Extent → RemovalInterval → Bool → VbvModel → Judged
 within14 x i last m =
     pick (ltb (2 ^ 48) (max (x .position) (x .content))) (Refused (Model Range)) (byStart x i last m)
 
+-- more than 2^45 bytes of headers or layer pass these
 unfoldable pub measured : VbvCbrModel → ℕ → ℕ → RemovalInterval → Bool → Judged
 measured m headers layer i last =
     pick (ltb (2 ^ 45) (max headers layer)) (Refused (Model Range))

@@ -29,7 +29,7 @@ unfoldable pub pendingFits : Pending → Bool
 pendingFits Nothing = true
 pendingFits (Waits k n) = quantiser n
 
--- the model's ranges; what was handed out is whole bytes, and at least one for each picture and each byte of stuffing; targets up to 2^48, quantisers 1 to 31
+-- the model's ranges; what was handed out is whole bytes, at least as many as pictures, and as bytes of stuffing; targets up to 2^48, quantisers 1 to 31
 unfoldable pub writerFits : CbrWriter → Bool
 writerFits w =
     modelFits (w .model)
@@ -66,7 +66,7 @@ asked w k = askedOf (w .pending) (of k (w .q))
 
 -- ---- the quantiser
 
--- to encode a picture with again that is too large
+-- with which a picture that is too large is to be encoded again
 unfoldable pub coarser : ℕ → ℕ
 coarser q = min 31 (q + 1 + q / 4)
 

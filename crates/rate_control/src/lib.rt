@@ -62,7 +62,7 @@ pub struct CbrCreated {
 pub enum CbrError {
     // The writer's state, a position or an end out of range, or a position beyond the bits delivered.
     Model(VbvError),
-    // Before the first placing: headers and first delay overflow the buffer.
+    // The bits delivered overflow the buffer: in what creation and calls left only before the first placing.
     Violation(VbvViolation),
     // The kind is unlike the pending one, or the writer is finished.
     Kind,

@@ -1,6 +1,6 @@
 // An offer: its tests in paper 01's order, and its answer.
 ghost use mathlib.Core.Path.{_≡_};
-ghost use Rattle.rate_control.specs.Offer.{Offer, offer as offerOf, outAfter};
+ghost use Rattle.rate_control.specs.Offer.{offer as offerOf, outAfter};
 ghost use Rattle.rate_control.specs.Steps.{judged as judgedOf};
 use crate::CbrError;
 use crate::CbrOffered;

@@ -57,7 +57,7 @@ pub(crate) fn clashes(pending: Pending, kind: PictureKind) -> bool
     }
 }
 
-// To encode a picture with again that is too large.
+// The quantiser with which a picture that is too large is to be encoded again.
 pub(crate) fn coarser(q: u8) -> u8
     ensures { λ r. ⌜ r ≡ coarserOf q ⌝ }
 {
@@ -116,7 +116,7 @@ impl CbrWriter {
         }
     }
 
-    // Every field in its range. What was handed out is whole bytes, at least one for each picture and each byte of stuffing.
+    // Every field in its range. What was handed out is whole bytes, at least as many as pictures, and as bytes of stuffing.
     pub fn fits(self) -> bool
         ensures { λ r. ⌜ r ≡ writerFits self ⌝ }
     {

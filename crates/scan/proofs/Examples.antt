@@ -5,8 +5,8 @@ use Prim.Native.Nat.{ℕ}
 use mathlib.Core.List.{List, [], _∷_, _++_}
 use mathlib.Core.Bool.{true}
 use lib.ListN.{length, replicate}
-use Rattle.scan.specs.Codes.{Code, codes, every, endsPrefix, sequenceEndCode}
-use Rattle.scan.specs.Pictures.{Pic, pictures, isSlice, notSlice, notPicture}
+use Rattle.scan.specs.Codes.{codes, every, endsPrefix, sequenceEndCode}
+use Rattle.scan.specs.Pictures.{pictures, isSlice, notSlice, notPicture}
 use Rattle.bits.proofs.Reading.{same-more, same-none}
 use Rattle.scan.proofs.Laying.{Opened, Piece, none, more, laid, laidPics}
 use Rattle.scan.proofs.Laid.{laid-pictures, tail-end}

@@ -9,7 +9,6 @@ use Rattle.bits.specs.Bits.{pick}
 use Rattle.vbv.specs.Model.{delivered, modelFits, afterRemoval, nextDelivered}
 use Rattle.vbv.specs.Steps.{EndFits}
 use Rattle.vbv.specs.declared.VbvCbrModel.{VbvCbrModel}
-use Rattle.vbv.specs.declared.VbvRemoval.the-variants as rm
 use Rattle.vbv.proofs.Laws.{occupancy-told}
 use Rattle.vbv.proofs.Told.{delay-told, removal-told}
 use Rattle.verify.specs.declared.CodedPicture.{CodedPicture}

@@ -126,7 +126,7 @@ impl VbvRecorder {
         }
     }
 
-    // Behind a picture whose data are followed by the code at `at`.
+    // Behind a picture whose data end at the code at `at`, or at the stream's end.
     fn go_on(self, at: usize, progress: Progress) -> VbvRecorded
         ensures { λ r. ⌜ r ≡ wentOn self at progress ⌝ }
     {

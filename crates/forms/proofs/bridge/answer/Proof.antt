@@ -20,7 +20,7 @@ use contract.Monad.{Fun, fact}
 use contract.Running.{givenOf, tables, tablesOf}
 use types.Kit.{Given, ‵, raw, _⊛_, ⋆, some, later, _$_, _∵_, !, qed, by, move, keep, drop, use1, use2, use3, split, join, pick, rewrite, fsplit, fjoin, fpick, fpack, suffices, frame, await, done}
 use types.Tokens.{lft-new, lft-end}
-use types.Run.{look, init, forget, stop, from, load, lit, of-opd, addr, and-then, no-more, assigns, land, returns, enter, alloc1, alloc0, params1, pass1, pass0, free1, free0}
+use types.Run.{look, init, forget, stop, from, load, lit, addr, and-then, no-more, assigns, land, returns, enter, alloc1, alloc0, params1, pass1, pass0, free1, free0}
 use types.Part.{agg, rep}
 use types.SemTy.{cells, Arr}
 use types.Share.{arr-parts}
@@ -30,7 +30,7 @@ use denote.Laws.{Is, shows}
 use denote.Memory.{mem, shares, partAt, cellAt, partOf}
 use denote.Builtin.{u8}
 use denote.Ref.{RefT}
-use denote.Array.{Array, arrayVal, array-vals, array-tells, array-lawful, array-makes, array-repeat}
+use denote.Array.{Array, arrayVal, array-vals, array-tells, array-lawful, array-repeat}
 use denote.ArrayMemory.{array-apart, array-whole}
 use denote.Slice.{sliceVal, ShrSlice, MutSlice, Room, finally, slice-vals, shr-slice-tells, shr-slice-copy}
 use denote.Lend.{Held, lends-slice, slice-back}

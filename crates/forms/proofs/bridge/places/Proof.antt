@@ -1,7 +1,7 @@
 -- `forms::bridge::places` meets its contract: a walk of its MIR, by hand. A local array of records is lent as a `&mut [VbvPictureRecord]` for a lifetime that the walk makes, the check that takes the slice is called, the lifetime is ended, and the array comes back at the list that the callee's contract names.
 -- Its own parameters and its result are covered types, so whoever calls it needs no walk.
 -- Assumes nothing.
-use mathlib.Core.Path.{_≡_, refl, subst}
+use mathlib.Core.Path.{_≡_, refl}
 use Prim.Native.Nat.{ℕ, _<_, _^_}
 use mathlib.Core.List.{[], _∷_, List}
 use lib.Dec.{lit<}

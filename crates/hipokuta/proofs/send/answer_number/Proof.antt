@@ -1,4 +1,3 @@
-use Rattle.rate_control.specs.Answers.{answerNumber}
 use borrow.Author.Needs.{needs}
 use Rattle.hipokuta.proofs.send.answer_number.Statement.{statement}
 use Rattle.hipokuta.proofs.send.answer_number.Tie as tie
