@@ -43,4 +43,5 @@ $(TOOLS) $(TESTS) $(SANITIZED): $$($$(notdir $$@)) $(HEADERS) $(LIB)
 clean:
 	rm -rf $(TOOLS) target/tests target/sanitized target/bench $(LIB)
 
+.DELETE_ON_ERROR:
 .PHONY: all test-c sanitized clean

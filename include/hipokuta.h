@@ -19,6 +19,30 @@ extern "C" {
 #define VBV_MPEG1 1
 #define VBV_MPEG2 2
 
+/* Refusals: the value that an entry returns, where it is not 0 (docs/REFUSALS.md). */
+enum {
+    VBV_SHORT_HEADER = 1,   /* the bytes end inside a header */
+    VBV_BAD_HEADER = 2,     /* a header with a value, code or prefix that it must not have */
+    VBV_NO_SEQUENCE = 3,    /* no sequence header */
+    VBV_NO_PICTURE = 4,     /* no picture */
+    VBV_VARIABLE_RATE = 5,  /* the first delay is 0xFFFF */
+    VBV_FRAME_RATE = 6,     /* a frame rate code that is not 1 to 8 */
+    VBV_EARLY = 7,          /* a picture's start code lies beyond the bits delivered at its removal */
+    VBV_DELAY_TOO_LONG = 8, /* an expected delay above 0xFFFE */
+    VBV_OVERFLOW = 9,       /* the buffer overflows */
+    VBV_UNDERFLOW = 10,     /* a picture is not all there at its removal */
+    VBV_DELAY_MISMATCH = 11, /* coded and expected delay are more than a tick apart */
+    VBV_PARAMETER = 12,     /* a parameter out of its range, a buffer of above 65,534 ticks, or state bytes that hold no writer */
+    VBV_TOO_FAR = 14,       /* the stream passes 2^48 bits */
+    VBV_RECORD_PLACES = 15, /* fewer record places than pictures */
+    CBR_OTHER_KIND = 17,    /* another kind is pending, or the last picture was placed */
+    CBR_HEADERS = 18,       /* the headers do not fit */
+    CBR_ROOM = 19,          /* the output part, or a place for a report, refusal, answer or new state, is too short */
+    CBR_LAYER = 20,         /* the layer does not fit, or no picture header to patch */
+    CBR_TOO_LARGE = 21,     /* too large at quantiser 31 */
+    CBR_STUFFING = 22       /* the stuffed end lies beyond the bits delivered */
+};
+
 /* Bytes of a report, of each record, and of a refusal. */
 #define VBV_REPORT_BYTES 40
 #define VBV_RECORD_BYTES 32
@@ -31,9 +55,9 @@ extern "C" {
  * Refused: refusal holds number, picture, coded, expected; report and records are untouched.
  * Bytes of a place behind what is written stay as they were.
  *
- * standard is VBV_MPEG1 or VBV_MPEG2, else 12. There are records_len / 32 record places; fewer than pictures is 15.
- * A report_len under 40 or a refusal_len under 32 is 19, before anything else; a refusal place that is too short is
- * untouched.
+ * standard is VBV_MPEG1 or VBV_MPEG2, else 12. There are records_len / VBV_RECORD_BYTES record places; fewer than pictures is 15.
+ * A report_len under VBV_REPORT_BYTES or a refusal_len under VBV_REFUSAL_BYTES is 19, before anything else; a refusal place
+ * that is too short is untouched.
  */
 uint64_t vbv_check(const uint8_t *stream, size_t stream_len, uint8_t standard,
                    uint8_t *report, size_t report_len,
@@ -59,9 +83,9 @@ uint64_t vbv_patch_delay(uint8_t *picture, size_t picture_len, uint16_t vbv_dela
 #define CBR_AGAIN 1
 #define CBR_REFUSED 2
 
-/* Makes a writer of constant rate in state. Returns 0, or a refusal with state untouched: 19 where state_len is under 152,
- * 12 where a value is out of range, 6 where frame_rate_code is not 1 to 8, 12 where the buffer lasts longer than 65,534
- * ticks of 1/90,000 s.
+/* Makes a writer of constant rate in state. Returns 0, or a refusal with state untouched: 19 where state_len is under
+ * CBR_STATE_BYTES, 12 where a value is out of range, 6 where frame_rate_code is not 1 to 8, 12 where the buffer lasts longer
+ * than 65,534 ticks of 1/90,000 s.
  *
  * The rate is bit_rate_value (1 to 262,143) times 400 bits a second, the buffer vbv_buffer_size_value (1 to 1,023) times
  * 16,384 bits. quantiser (1 to 31) is where all kinds start. b_between (0 to 15) B pictures between anchors and
@@ -82,8 +106,9 @@ uint64_t cbr_create(uint32_t bit_rate_value, uint16_t vbv_buffer_size_value, uin
  * CBR_REFUSED: number is the value returned. state and out are untouched, but that 21 closes the pending picture.
  * An out_len of 2,048 times vbv_buffer_size_value is always enough.
  *
- * State bytes that hold no writer are 12, before anything else; an answer_len under 72 is 19, with nothing touched; any
- * other kind, interval or last is 12; then 17, 18, 20, 14, 7, 9, too large (21 at quantiser 31), 22, 19.
+ * State bytes that hold no writer are 12, before anything else; an answer_len under CBR_ANSWER_BYTES is 19; any other kind,
+ * interval or last is 12; then 17, 18, 20, 14, 7, 9, too large (21 at quantiser 31), 22, 19. An answer place that is too short
+ * is never touched.
  */
 uint64_t cbr_offer(uint8_t *state, size_t state_len,
                    const uint8_t *headers, size_t headers_len,

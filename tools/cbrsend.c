@@ -30,7 +30,7 @@ static const char help[] =
     "  -B BUFFER    the set's buffer in units of 16384 bits, 1 to 1023. Without it, what IN's sequence header says.\n"
     "  --help       prints this.\n"
     "\n"
-    "Exit status: 0 sent, 1 refused (no OUT is left), 2 bad use or a file that cannot be read or written.\n";
+    "Exit status: 0 sent, 1 refused, 2 bad use or a file that cannot be read or written. Only 0 leaves an OUT that was opened.\n";
 
 static void print_setting(struct setting at)
 {
@@ -152,32 +152,29 @@ static int work(struct source *in, struct setting at, const char *name, FILE *to
     return end.number == 0 ? finish(in, &end, name, to) : refuse(in, at, &end);
 }
 
-/* OUT may be a new file or an old one, but no device, and not IN by any name. */
+/* OUT may be a new file or an old one, but no device, and not IN by any name. Returns 0, or 2 with the trouble told. */
 static int may_write(const char *from, const char *to)
 {
-    struct stat in, out;
-    if (stat(to, &out) != 0)
-        return 1;
-    if (!S_ISREG(out.st_mode))
-        return trouble(to, "not a file") == 0;
-    if (stat(from, &in) == 0 && in.st_dev == out.st_dev && in.st_ino == out.st_ino)
-        return trouble(to, "the same file as IN") == 0;
-    return 1;
+    struct stat out;
+    if (stat(to, &out) == 0 && !S_ISREG(out.st_mode))
+        return trouble(to, "not a file");
+    return same_file(from, to) ? trouble(to, "the same file as IN") : 0;
 }
 
 static int run(const char *from, const char *to, struct setting at)
 {
     struct source in = { .name = from };
-    if (map(from, &in.stream) != 0 || !may_write(from, to))
+    if (map(from, &in.stream) != 0 || may_write(from, to) != 0)
         return TROUBLE;
     FILE *file = fopen(to, "wb");
     if (file == NULL)
         return trouble(to, strerror(errno));
     int status = work(&in, at, to, file);
     release(&in.pictures);
-    fclose(file);
-    if (fflush(stdout) != 0)
-        status = trouble("standard output", strerror(errno));
+    if (fclose(file) != 0 && status == SENT)
+        status = trouble(to, strerror(errno));
+    if (fflush(stdout) != 0 || ferror(stdout))
+        status = trouble("standard output", "cannot be written");
     if (status != SENT)
         remove(to);
     return status;

@@ -22,7 +22,7 @@ void print_report(const struct report *r);
 /* What a refusal is called; NULL where no stream can cause it. */
 const char *refusal_name(uint64_t number);
 
-/* What it means for the cabin set, or for whoever sends. */
+/* What it means for the cabin set, or for whoever sends; asked only where there is a name. */
 const char *refusal_meaning(uint64_t number);
 
 #endif

@@ -99,3 +99,9 @@ int map(const char *name, struct stream *s)
     close(file);
     return bad ? 2 : 0;
 }
+
+int same_file(const char *one, const char *other)
+{
+    struct stat a, b;
+    return stat(one, &a) == 0 && stat(other, &b) == 0 && a.st_dev == b.st_dev && a.st_ino == b.st_ino;
+}

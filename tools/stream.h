@@ -53,4 +53,7 @@ int trouble(const char *name, const char *what);
 /* Maps a file. An empty one is no bytes, and no memory. Returns 0, or 2 with the trouble told. */
 int map(const char *name, struct stream *s);
 
+/* Whether two names are of one file. */
+int same_file(const char *one, const char *other);
+
 #endif

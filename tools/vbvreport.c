@@ -58,6 +58,8 @@ static void print_refusal(const struct refusal *r)
 
 static int draw(const char *to, const char *name, const struct report *report, const struct record *records)
 {
+    if (same_file(name, to))
+        return trouble(to, "the same file as the stream");
     FILE *file = fopen(to, "w");
     if (file == NULL)
         return trouble(to, strerror(errno));
@@ -130,7 +132,7 @@ int main(int count, char **words)
     if (map(name, &s) != 0)
         return TROUBLE;
     int status = check(name, &s, standard != 0 ? standard : told_standard(&s), list, picture);
-    if (fflush(stdout) != 0)
-        return trouble("standard output", strerror(errno));
+    if (fflush(stdout) != 0 || ferror(stdout))
+        return trouble("standard output", "cannot be written");
     return status;
 }

@@ -21,15 +21,17 @@ static uint64_t word(const uint8_t *bytes)
 static uint8_t *whole_file(const char *name, size_t *length)
 {
     FILE *file = fopen(name, "rb");
-    if (file == NULL || fseek(file, 0, SEEK_END) != 0)
+    if (file == NULL)
         return NULL;
-    long size = ftell(file);
+    long size = fseek(file, 0, SEEK_END) == 0 ? ftell(file) : 0;
     rewind(file);
     uint8_t *bytes = size > 0 ? malloc((size_t)size) : NULL;
-    if (bytes != NULL && fread(bytes, 1, (size_t)size, file) == (size_t)size)
+    if (bytes != NULL && fread(bytes, 1, (size_t)size, file) == (size_t)size) {
         *length = (size_t)size;
-    else
+    } else {
+        free(bytes);
         bytes = NULL;
+    }
     fclose(file);
     return bytes;
 }
@@ -38,7 +40,7 @@ static uint8_t *whole_file(const char *name, size_t *length)
 static size_t picture(const uint8_t *stream, size_t length, uint64_t number)
 {
     for (size_t at = 0; at + 4 <= length; at++)
-        if (memcmp(stream + at, "\0\0\1", 4) == 0 && number-- == 0)
+        if (memcmp(stream + at, "\0\0\1\0", 4) == 0 && number-- == 0)
             return at;
     return length;
 }
@@ -49,21 +51,27 @@ static int patch(uint8_t *stream, size_t length, uint64_t number, uint64_t delay
     return vbv_patch_delay(stream + at, length - at, (uint16_t)delay) == 0;
 }
 
+static int unusable(const char *what)
+{
+    fprintf(stderr, "stamp: %s\n", what);
+    return 2;
+}
+
 int main(int count, char **words)
 {
     size_t length = 0;
     uint8_t *stream = count == 4 ? whole_file(words[2], &length) : NULL;
     if (stream == NULL)
-        return 2;
+        return unusable("FIRST FROM TO, and FROM a file of some bytes");
     uint8_t *records = malloc(length * 8), report[VBV_REPORT_BYTES], refusal[VBV_REFUSAL_BYTES];
     if (records == NULL || !patch(stream, length, 0, strtoul(words[1], NULL, 10)))
-        return 2;
+        return unusable("no memory, or no picture");
 
     uint64_t answer, changed = 1;
     while ((answer = vbv_check(stream, length, VBV_MPEG2, report, sizeof report, records, length * 8, refusal,
                                sizeof refusal)) == 11) {
         if (!patch(stream, length, word(refusal + 8), word(refusal + 24)))
-            return 2;
+            return unusable("no such picture");
         changed++;
     }
     if (answer != 0) {
@@ -72,7 +80,7 @@ int main(int count, char **words)
     }
     FILE *to = fopen(words[3], "wb");
     if (to == NULL || fwrite(stream, 1, length, to) != length || fclose(to) != 0)
-        return 2;
+        return unusable("TO cannot be written");
     printf("%d delays\n", (int)changed);
     free(stream);
     free(records);
