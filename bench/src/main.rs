@@ -1,4 +1,4 @@
-//! The original and ours over the same buffers, in turn, in one run: the best of several, and their ratio.
+//! The original and this core over the same buffers, in turn, in one run: the best of several, and their ratio.
 //!
 //!     bench FOLDER_OF_STREAMS
 
@@ -16,7 +16,7 @@ use std::ffi::c_void;
 use std::hint::black_box;
 use std::sync::atomic::{AtomicUsize, Ordering::Relaxed};
 
-/// Counts what the original keeps on the heap; ours has none.
+/// Counts what the original keeps on the heap; this core has none.
 struct Counting;
 
 static HELD: AtomicUsize = AtomicUsize::new(0);
@@ -158,7 +158,7 @@ fn main() {
     let (one, two, fields) = (read("mpeg1-25.m1v"), read("mpeg2-25.m2v"), read("fields.m2v"));
     const MB: usize = 1_000_000;
     println!(
-        "| stream | size | answer | original GB/s | ours GB/s | ratio | ours, no record places | original's heap | our stack |"
+        "| stream | size | answer | original GB/s | this core GB/s | ratio | no record places | original's heap | its own stack |"
     );
     println!("|---|---|---|---|---|---|---|---|---|");
     for size in [1, 16, 64, 256] {

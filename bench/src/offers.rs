@@ -196,7 +196,7 @@ fn withdrawals(name: &str, state: [u8; 152]) {
 
 pub fn table(from: &[u8]) {
     println!();
-    println!("| pictures | offers | original, thousand offers/s | ours | ratio | ours MB/s | our stack |");
+    println!("| pictures | offers | original, thousand offers/s | this core | ratio | MB/s | its own stack |");
     println!("|---|---|---|---|---|---|---|");
     let kinds: Vec<usize> = (0..300).map(|n| if n == 0 { I } else { [P, B, B][n % 3] }).collect();
     for (name, size) in [("300 of 1 KB", 1_000), ("300 of 10 KB", 10_000), ("300 of 60 KB", 60_000)] {
@@ -208,7 +208,7 @@ pub fn table(from: &[u8]) {
     lines("306 of 10 KB, each behind three of 50 KB that are too large", &work);
 
     println!();
-    println!("| withdrawals | ours, million/s |");
+    println!("| withdrawals | this core, million/s |");
     println!("|---|---|");
     let mut state = [0; 152];
     assert_eq!(create(&work, &mut state), 0);
