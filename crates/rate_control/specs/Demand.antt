@@ -63,8 +63,8 @@ FirstDelay p [] = Unit {0}
 FirstDelay p (x ∷ xs) = x .delay ≡ firstDelay p
 
 -- the parameters that a created writer sends by: R in units of 400 bits a second, B in units of 16 × 1024 bits, the frame rate of the code
-abbrev pub paramsOf : CbrConfig → VbvParams
-paramsOf c = create c .writer .model .params
+abbrev pub writerParams : CbrConfig → VbvParams
+writerParams c = create c .writer .model .params
 
 pub record Configured (c : CbrConfig) (p : VbvParams) : Type 0 where
   pub rate : p .«bit_rate» ≡ 400 * c .«bit_rate_value»
@@ -72,15 +72,15 @@ pub record Configured (c : CbrConfig) (p : VbvParams) : Type 0 where
   pub frames : frameRate (c .«frame_rate_code») ≡ Rate (p .frn) (p .frd)
 
 pub record Demand (c : CbrConfig) (calls : List Call) : Type 0 where
-  pub configured : Configured c (paramsOf c)
+  pub configured : Configured c (writerParams c)
   pub each : Each (run (create c .writer) calls)
-  pub quantisers : Asks (targets (paramsOf c) (c .«b_between») (c .«anchors_per_gop»)) (atFirst c) (run (create c .writer) calls)
-  pub first : FirstDelay (paramsOf c) (sent 0 (run (create c .writer) calls))
+  pub quantisers : Asks (targets (writerParams c) (c .«b_between») (c .«anchors_per_gop»)) (atFirst c) (run (create c .writer) calls)
+  pub first : FirstDelay (writerParams c) (sent 0 (run (create c .writer) calls))
   -- an offer after these calls is refused with 9 only where none of them placed a picture, and with 7 only where one did
   pub overflow : (o : Offer) (v : VbvViolation) → offer (final (create c .writer) calls) o .answer ≡ Refused (Violation v)
       → sent 0 (run (create c .writer) calls) ≡ []
   pub early : (o : Offer) → offer (final (create c .writer) calls) o .answer ≡ Refused (Model Early) → sent 0 (run (create c .writer) calls) ≡ [] → ⊥
-  pub kept : Kept (paramsOf c) (create c .writer) calls
+  pub kept : Kept (writerParams c) (create c .writer) calls
 
 -- what is owed
 abbrev pub Owed : Type 0

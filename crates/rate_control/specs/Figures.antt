@@ -19,7 +19,7 @@ pub record Figures : Type 0 where
   pub targets-of-three : targets (at25 1000000 327680) 2 4 ≡ 118181 ∷ 47272 ∷ 26590 ∷ []
   pub retries-from-1 : retried 11 1 ≡ 2 ∷ 3 ∷ 4 ∷ 6 ∷ 8 ∷ 11 ∷ 14 ∷ 18 ∷ 23 ∷ 29 ∷ 31 ∷ []
 
--- figures of our own: the edges of the rule by which a quantiser goes up, stays or goes down, for a target of 1,000; 31 and 1 are kept to; a target of 0 counts as 1
+-- figures that no paper has: the edges of the rule by which a quantiser goes up, stays or goes down, for a target of 1,000; 31 and 1 are kept to; a target of 0 counts as 1
 pub record Steering : Type 0 where
   pub stays-at-1200 : steered 10 1000 1200 ≡ 10
   pub up-at-1201 : steered 10 1000 1201 ≡ 11
