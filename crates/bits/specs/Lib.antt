@@ -1,3 +1,4 @@
 pub mod Bits
+pub mod Refusals
 pub mod Fields
 pub mod Answers

@@ -8,22 +8,17 @@ use native.Mathlib.Omega.{arith}
 use native.Mathlib.Nat.{mod-lt, div-add-mod', mul-le-mul, le-of-mul-le-mul-right, div-lt-iff-lt-mul, le-div-iff-mul-le}
 use lib.Arith.{digits-div}
 use lib.Dec.{ltb}
-use borrow.Author.Tests.{leb-true, ltb-false, le-ltb, le-leb}
+use borrow.Author.Tests.{ltb-false, le-ltb}
+use Rattle.bits.specs.Refusals.{value, refused}
 use Rattle.bits.proofs.Appending.{lt-or-le}
 use Rattle.vbv.specs.declared.RemovalInterval.{RemovalInterval}
 use Rattle.vbv.specs.declared.VbvParams.{VbvParams}
 use Rattle.vbv.specs.declared.VbvCbrModel.{VbvCbrModel}
-use Rattle.vbv.specs.declared.VbvError.{VbvError}
-use Rattle.vbv.specs.declared.VbvViolation.{VbvViolation}
-use Rattle.vbv.specs.declared.VbvModel.the-variants.{Model, Refused}
-use Rattle.vbv.specs.declared.VbvRemoval.the-variants as rm
-use Rattle.vbv.specs.declared.VbvDelay.the-variants as dl
-use Rattle.vbv.specs.declared.VbvBits.the-variants as bt
 use Rattle.vbv.specs.Annex.{unit, firstDelivered, gain, overflows, beyond, expectedDelay, occupancy, greatestEnd, leastEnd}
 use Rattle.vbv.specs.Model.{paramsFit, delivered, modelFits, atDelivered, afterRemoval, periods, nextDelivered, newModel, startModel, delayForPicture, endFits, removePicture, ofStarted, maxEndBits, minEndBits, occupancyBeforeRemoval}
 use Rattle.vbv.specs.Steps.{ModelFits, EndFits}
 use Rattle.vbv.proofs.Arith.{same-lt, below-floor, above-ceiling, ceiling-beyond, start-div, next-div, ticks-most, next-most}
-use Rattle.vbv.proofs.Picks.{yes, no, was-yes, was-no}
+use Rattle.vbv.proofs.Picks.{no, held, was-no, was-held}
 use Rattle.vbv.proofs.Fitting.{params-fit, model-fits, end-fits, fitting-params, fitting-model, unit-pos, periods-most}
 
 -- the tests as orders of units, both ways
@@ -196,18 +191,9 @@ removal-stays m end i v g o =
       removed-high = omega arith;
     }
 
--- no refusal and no violation is a model or a delay
-refused-model : {e : VbvError} {m : VbvCbrModel} → Refused e ≡ Model m → ⊥
-refused-model h = let z : _≡_ {A = ℕ} 0 1 = cc in omega arith
-
-refused-removal : {e : VbvError} {m : VbvCbrModel} → rm.Refused e ≡ rm.Model m → ⊥
-refused-removal h = let z : _≡_ {A = ℕ} 0 1 = cc in omega arith
-
-violation-removal : {v : VbvViolation} {m : VbvCbrModel} → rm.Violation v ≡ rm.Model m → ⊥
-violation-removal h = let z : _≡_ {A = ℕ} 0 1 = cc in omega arith
-
-refused-delay : {e : VbvError} {d : ℕ} → dl.Refused e ≡ dl.Delay d → ⊥
-refused-delay h = let z : _≡_ {A = ℕ} 0 1 = cc in omega arith
+-- no refusal is a value
+refused-value : {X : Type 0} {n p c e : ℕ} {x : X} → refused n p c e ≡ value x → ⊥
+refused-value h = let z : _≡_ {A = ℕ} 0 1 = cc in omega arith
 
 -- a model made of parameters
 pub record Made (p : VbvParams) (m : VbvCbrModel) : Type 0 where
@@ -218,10 +204,10 @@ pub record Made (p : VbvParams) (m : VbvCbrModel) : Type 0 where
   pub unstarted : m .started ≡ false
   pub fits : modelFits m ≡ true
 
-pub made : (p : VbvParams) (m : VbvCbrModel) → newModel p ≡ Model m → Made p m
+pub made : (p : VbvParams) (m : VbvCbrModel) → newModel p ≡ value m → Made p m
 unfolding newModel
 made p m h =
-    let a = was-yes _ _ _ refused-model h in
+    let a = was-held (paramsFit p) _ _ refused-value h in
     let e : m ≡ record { params = p; whole = 0; rest = 0; «prev_end_bits» = 0; removed = 0; started = false } = cc (a .1) in
     rw e
     (record {
@@ -248,14 +234,14 @@ pub record Started (m : VbvCbrModel) (delay position : ℕ) (next : VbvCbrModel)
   pub is-started : next .started ≡ true
   pub fits : delay < 65536 → modelFits next ≡ true
 
-pub started : (m : VbvCbrModel) (delay position : ℕ) (next : VbvCbrModel) → startModel m delay position ≡ Model next
+pub started : (m : VbvCbrModel) (delay position : ℕ) (next : VbvCbrModel) → startModel m delay position ≡ value next
     → Started m delay position next
 unfolding startModel atDelivered
 started m delay position next h =
-    let a = was-yes _ _ _ refused-model h in
-    let b = was-no _ _ _ refused-model (a .1) in
-    let c = was-yes _ _ _ refused-model (b .1) in
-    let far : position ≤ 2 ^ 48 = leb-true _ _ (c .0) in
+    let a = was-held (modelFits m) _ _ refused-value h in
+    let b = was-no _ _ _ refused-value (a .1) in
+    let c = was-no _ _ _ refused-value (b .1) in
+    let far : position ≤ 2 ^ 48 = ltb-false _ _ (c .0) in
     let e : next ≡ atDelivered m (firstDelivered (m .params) position delay) = cc (c .1) in
     rw e
     (record {
@@ -272,9 +258,9 @@ started m delay position next h =
     })
 
 pub starts : (m : VbvCbrModel) (delay position : ℕ) → modelFits m ≡ true → m .started ≡ false → position ≤ 2 ^ 48
-    → startModel m delay position ≡ Model (atDelivered m (firstDelivered (m .params) position delay))
+    → startModel m delay position ≡ value (atDelivered m (firstDelivered (m .params) position delay))
 unfolding startModel
-starts m delay position f s h = sym (yes _ _ _ f (no _ _ _ s (yes _ _ _ (le-leb _ _ h) refl)))
+starts m delay position f s h = sym (held _ _ _ f (no _ _ _ s (no _ _ _ (le-ltb _ _ h) refl)))
 
 -- a delay told
 pub record Delayed (m : VbvCbrModel) (position r : ℕ) : Type 0 where
@@ -285,30 +271,30 @@ pub record Delayed (m : VbvCbrModel) (position r : ℕ) : Type 0 where
   pub delay-is : r ≡ expectedDelay (m .params) position (delivered m)
   pub delay-low : r ≤ 65534
 
-pub delayed : (m : VbvCbrModel) (position r : ℕ) → delayForPicture m position ≡ dl.Delay r → Delayed m position r
+pub delayed : (m : VbvCbrModel) (position r : ℕ) → delayForPicture m position ≡ value r → Delayed m position r
 unfolding delayForPicture
 delayed m position r h =
-    let a = was-yes _ _ _ refused-delay h in
-    let b = was-yes _ _ _ refused-delay (a .1) in
-    let c = was-yes _ _ _ refused-delay (b .1) in
-    let d = was-no _ _ _ refused-delay (c .1) in
-    let e = was-yes _ _ _ refused-delay (d .1) in
+    let a = was-held (modelFits m) _ _ refused-value h in
+    let b = was-held (m .started) _ _ refused-value (a .1) in
+    let c = was-no _ _ _ refused-value (b .1) in
+    let d = was-no _ _ _ refused-value (c .1) in
+    let e = was-no _ _ _ refused-value (d .1) in
     let same : r ≡ expectedDelay (m .params) position (delivered m) = cc (e .1) in
     record {
       fitted = a .0;
       was-started = b .0;
-      position-far = leb-true _ _ (c .0);
+      position-far = ltb-false _ _ (c .0);
       in-time = d .0;
       delay-is = same;
-      delay-low = rw same (leb-true _ _ (e .0));
+      delay-low = rw same (ltb-false _ _ (e .0));
     }
 
 pub delays : (m : VbvCbrModel) (position : ℕ) → modelFits m ≡ true → m .started ≡ true → position ≤ 2 ^ 48
     → beyond (m .params) position (delivered m) ≡ false → expectedDelay (m .params) position (delivered m) ≤ 65534
-    → delayForPicture m position ≡ dl.Delay (expectedDelay (m .params) position (delivered m))
+    → delayForPicture m position ≡ value (expectedDelay (m .params) position (delivered m))
 unfolding delayForPicture
 delays m position f s h e l =
-    sym (yes _ _ _ f (yes _ _ _ s (yes _ _ _ (le-leb _ _ h) (no _ _ _ e (yes _ _ _ (le-leb _ _ l) refl)))))
+    sym (held _ _ _ f (held _ _ _ s (no _ _ _ (le-ltb _ _ h) (no _ _ _ e (no _ _ _ (le-ltb _ _ l) refl)))))
 
 -- a picture removed
 pub record Removed (m : VbvCbrModel) (end : ℕ) (i : RemovalInterval) (next : VbvCbrModel) : Type 0 where
@@ -325,15 +311,15 @@ pub record Removed (m : VbvCbrModel) (end : ℕ) (i : RemovalInterval) (next : V
   pub is-started : next .started ≡ true
   pub fits : modelFits next ≡ true
 
-pub removed : (m : VbvCbrModel) (end : ℕ) (i : RemovalInterval) (next : VbvCbrModel) → removePicture m end i ≡ rm.Model next
+pub removed : (m : VbvCbrModel) (end : ℕ) (i : RemovalInterval) (next : VbvCbrModel) → removePicture m end i ≡ value next
     → Removed m end i next
 unfolding removePicture afterRemoval
 removed m end i next h =
-    let a = was-yes _ _ _ refused-removal h in
-    let b = was-yes _ _ _ refused-removal (a .1) in
-    let c = was-yes _ _ _ refused-removal (b .1) in
-    let o = was-no _ _ _ violation-removal (c .1) in
-    let u = was-no _ _ _ violation-removal (o .1) in
+    let a = was-held (modelFits m) _ _ refused-value h in
+    let b = was-held (m .started) _ _ refused-value (a .1) in
+    let c = was-held (endFits m end) _ _ refused-value (b .1) in
+    let o = was-no _ _ _ refused-value (c .1) in
+    let u = was-no _ _ _ refused-value (o .1) in
     let e : next ≡ afterRemoval m end (nextDelivered m i) = cc (u .1) in
     rw e
     (record {
@@ -353,24 +339,24 @@ removed m end i next h =
 
 pub removes : (m : VbvCbrModel) (end : ℕ) (i : RemovalInterval) → modelFits m ≡ true → m .started ≡ true → endFits m end ≡ true
     → overflows (m .params) (m .«prev_end_bits») (delivered m) ≡ false → beyond (m .params) end (delivered m) ≡ false
-    → removePicture m end i ≡ rm.Model (afterRemoval m end (nextDelivered m i))
+    → removePicture m end i ≡ value (afterRemoval m end (nextDelivered m i))
 unfolding removePicture
-removes m end i f s g o u = sym (yes _ _ _ f (yes _ _ _ s (yes _ _ _ g (no _ _ _ o (no _ _ _ u refl)))))
+removes m end i f s g o u = sym (held _ _ _ f (held _ _ _ s (held _ _ _ g (no _ _ _ o (no _ _ _ u refl)))))
 
 -- the bits that a started model tells
 module _ (m : VbvCbrModel) (f : modelFits m ≡ true) (s : m .started ≡ true) where
-  told : (b : ℕ) → ofStarted m b ≡ bt.Bits b
+  told : (b : ℕ) → ofStarted m b ≡ value b
   unfolding ofStarted
-  told b = sym (yes _ _ _ f (yes _ _ _ s refl))
+  told b = sym (held _ _ _ f (held _ _ _ s refl))
 
-  pub max-end : maxEndBits m ≡ bt.Bits (greatestEnd (m .params) (delivered m))
+  pub max-end : maxEndBits m ≡ value (greatestEnd (m .params) (delivered m))
   unfolding maxEndBits
   max-end = told _
 
-  pub min-end : (i : RemovalInterval) → minEndBits m i ≡ bt.Bits (leastEnd (m .params) (nextDelivered m i))
+  pub min-end : (i : RemovalInterval) → minEndBits m i ≡ value (leastEnd (m .params) (nextDelivered m i))
   unfolding minEndBits
   min-end i = told _
 
-  pub occupancy-told : occupancyBeforeRemoval m ≡ bt.Bits (occupancy (m .params) (m .«prev_end_bits») (delivered m))
+  pub occupancy-told : occupancyBeforeRemoval m ≡ value (occupancy (m .params) (m .«prev_end_bits») (delivered m))
   unfolding occupancyBeforeRemoval
   occupancy-told = told _

@@ -1,9 +1,12 @@
+pub mod Fractions
 pub mod Figures
 pub mod Arith
+pub mod Numbers
 pub mod Picks
 pub mod Fitting
 pub mod Laws
 pub mod Patching
 pub mod Ways
 pub mod Told
+pub mod Named
 pub mod After

@@ -15,10 +15,9 @@ use Rattle.bits.proofs.Flags.{and-left}
 use Rattle.bits.proofs.Laws.{bits-bound, bits-split, length-digits}
 use Rattle.bits.proofs.Appending.{Below, below-take, below-drop, digit-bound}
 use Rattle.bits.proofs.Patching.{byte-bits, set-length, set-below, set-before, set-behind, set-digits, set-within}
-use Rattle.vbv.specs.Patch.{startsPicture, patchAnswer, patched}
-use Rattle.vbv.specs.declared.VbvError.the-variants.{NotAPicture}
-use Rattle.vbv.specs.declared.VbvPatch.the-variants.{Done, Refused}
-use Rattle.vbv.proofs.Picks.{yes, no}
+use Rattle.bits.specs.Refusals.{value, refused}
+use Rattle.vbv.specs.Patch.{startsPicture, patchPicture, patched}
+use Rattle.vbv.proofs.Picks.{yes, no, held, failed}
 
 -- the test of a picture header
 pub starts-short : (s : List ℕ) → length s < 8 → false ≡ startsPicture s
@@ -84,9 +83,9 @@ module _ (s : List ℕ) (d : ℕ) where
   unfolding patched
   patched-is h = sym (yes _ _ _ h refl)
 
-  pub patch-none : startsPicture s ≡ false → (Refused NotAPicture ≡ patchAnswer s) × (s ≡ patched s d)
-  unfolding patchAnswer patched
-  patch-none h = (no _ _ _ h refl, no _ _ _ h refl)
+  pub patch-none : startsPicture s ≡ false → (refused 20 0 0 0 ≡ patchPicture s) × (s ≡ patched s d)
+  unfolding patchPicture patched
+  patch-none h = (failed _ _ _ h refl, no _ _ _ h refl)
 
   module _ (h : startsPicture s ≡ true) (b : Below 256 s) (l : d < 65536) where
     pub patched-bytes :
@@ -94,19 +93,19 @@ module _ (s : List ℕ) (d : ℕ) where
     patched-bytes = patched-is h ∙ patch-stored s d (starts-long s h) b l
 
     pub patch-done :
-        (Done ≡ patchAnswer s)
+        (value tt ≡ patchPicture s)
         × (set
         (set (set s 5 (getD s 5 0 / 8 * 8 + d / 8192)) 6 (d / 32 % 256))
         7
         (d % 32 * 8 + getD (set (set s 5 (getD s 5 0 / 8 * 8 + d / 8192)) 6 (d / 32 % 256)) 7 0 % 8)
         ≡ patched s d)
-    unfolding patchAnswer
+    unfolding patchPicture
     patch-done =
         let x = getD s 5 0 / 8 * 8 + d / 8192 in
         let e : getD (set (set s 5 x) 6 (d / 32 % 256)) 7 0 ≡ getD s 7 0 =
         getD-set-other (set s 5 x) 6 7 (d / 32 % 256) 0 (λ (z : 7 ≡ 6). omega arith)
         ∙ getD-set-other s 5 7 x 0 (λ (z : 7 ≡ 5). omega arith) in
-        (yes _ _ _ h refl, rw e (sym patched-bytes))
+        (held _ _ _ h refl, rw e (sym patched-bytes))
 
     -- the other bytes stay
     pub patched-front : take 5 (patched s d) ≡ take 5 s

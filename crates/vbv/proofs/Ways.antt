@@ -5,22 +5,17 @@ use mathlib.Core.Bool.{true, false}
 use Prim.Native.Nat.{ℕ, _+_, _-_, _*_, _/_, _%_, _^_, _≤_, _<_}
 use native.Mathlib.Omega.{arith}
 use native.Mathlib.Nat.{mod-lt}
-use lib.Dec.{ltb, leb}
-use borrow.Author.Tests.{lt-ltb, le-ltb, le-leb, lt-leb}
+use lib.Dec.{ltb}
+use borrow.Author.Tests.{lt-ltb, le-ltb}
 use Rattle.bits.specs.Bits.{pick}
+use Rattle.bits.specs.Refusals.{Answer, value, refused, refuse}
 use Rattle.vbv.specs.declared.RemovalInterval.{RemovalInterval}
 use Rattle.vbv.specs.declared.VbvCbrModel.{VbvCbrModel}
-use Rattle.vbv.specs.declared.VbvError.the-variants.{Early, DelayTooLong, Params, Order}
-use Rattle.vbv.specs.declared.VbvViolation.the-variants.{Overflow, Underflow}
-use Rattle.vbv.specs.declared.VbvRemoval.the-variants as rm
-use Rattle.vbv.specs.declared.VbvDelay.{VbvDelay}
-use Rattle.vbv.specs.declared.VbvDelay.the-variants as dl
-use Rattle.vbv.specs.declared.VbvBits.the-variants as bt
 use Rattle.vbv.specs.Annex.{unit, firstDelivered, gain, overflows, beyond, expectedDelay, occupancy, greatestEnd, leastEnd}
 use Rattle.vbv.specs.Steps.{ModelFits, EndFits}
-use Rattle.vbv.specs.Model.{delivered, modelFits, atDelivered, afterRemoval, periods, nextDelivered, delayForPicture, removePicture, ofStarted}
+use Rattle.vbv.specs.Model.{delivered, modelFits, atDelivered, afterRemoval, periods, nextDelivered, delayForPicture, endFits, removePicture, ofStarted}
 use Rattle.vbv.proofs.Arith.{ceiling-whole, ceiling-more, above, floor-beyond, start-div, start-mod, next-div, next-mod, delay-split, delay-large}
-use Rattle.vbv.proofs.Picks.{yes, no}
+use Rattle.vbv.proofs.Picks.{yes, no, held, failed}
 use Rattle.vbv.proofs.Fitting.{model-fits, fitting-params, fitting-model, fitting-end, unit-pos, delivered-div}
 use Rattle.vbv.proofs.Laws.{beyond-is, overflow-is, least-is, fits-params, delivered-at, next-whole}
 
@@ -101,57 +96,56 @@ module _ (m : VbvCbrModel) (v : ModelFits m) where
         rw (above (m .whole) (m .rest) position (180000 * m .params .frn) g)
         (delay-split (m .whole - position) (m .rest) (m .params .frn) (m .params .«bit_rate») (omega arith))
 
-    pub delay-early : m .whole < position → dl.Refused Early ≡ delayForPicture m position
+    pub delay-early : m .whole < position → refused 7 0 0 0 ≡ delayForPicture m position
     unfolding delayForPicture
-    delay-early g = yes _ _ _ fits (yes _ _ _ s (yes _ _ _ (le-leb _ _ h) (yes _ _ _ (beyond-test position ∙ lt-ltb _ _ g) refl)))
+    delay-early g = held _ _ _ fits (held _ _ _ s (no _ _ _ (le-ltb _ _ h) (yes _ _ _ (beyond-test position ∙ lt-ltb _ _ g) refl)))
 
     -- beyond the test of the position
-    there : position ≤ m .whole → (r : VbvDelay)
+    there : position ≤ m .whole → (r : Answer ℕ)
         → r
-        ≡ pick (leb (expectedDelay (m .params) position (delivered m)) 65534)
-        (dl.Delay (expectedDelay (m .params) position (delivered m)))
-        (dl.Refused DelayTooLong)
+        ≡ refuse 8 (ltb 65534 (expectedDelay (m .params) position (delivered m)))
+        (value (expectedDelay (m .params) position (delivered m)))
         → r ≡ delayForPicture m position
     unfolding delayForPicture
-    there g r e = yes _ _ _ fits (yes _ _ _ s (yes _ _ _ (le-leb _ _ h) (no _ _ _ (beyond-test position ∙ le-ltb _ _ g) e)))
+    there g r e = held _ _ _ fits (held _ _ _ s (no _ _ _ (le-ltb _ _ h) (no _ _ _ (beyond-test position ∙ le-ltb _ _ g) e)))
 
     pub delay-long : position ≤ m .whole
         → 65534 < (180000 * (m .whole - position) + m .rest / m .params .frn + m .params .«bit_rate») / (2 * m .params .«bit_rate»)
-        → dl.Refused DelayTooLong ≡ delayForPicture m position
-    delay-long g k = there g _ (no _ _ _ (rw (expected-is g) (lt-leb _ _ k)) refl)
+        → refused 8 0 0 0 ≡ delayForPicture m position
+    delay-long g k = there g _ (yes _ _ _ (rw (expected-is g) (lt-ltb _ _ k)) refl)
 
     pub delay-second : position ≤ m .whole → m .params .«bit_rate» ≤ m .whole - position
-        → dl.Refused DelayTooLong ≡ delayForPicture m position
+        → refused 8 0 0 0 ≡ delayForPicture m position
     delay-second g k =
         delay-long g (delay-large (m .whole - position) (m .rest) (m .params .frn) (m .params .«bit_rate») (omega arith) k)
 
     pub delay-is : position ≤ m .whole
         → (180000 * (m .whole - position) + m .rest / m .params .frn + m .params .«bit_rate») / (2 * m .params .«bit_rate») ≤ 65534
-        → dl.Delay ((180000 * (m .whole - position) + m .rest / m .params .frn + m .params .«bit_rate») / (2 * m .params .«bit_rate»))
+        → value ((180000 * (m .whole - position) + m .rest / m .params .frn + m .params .«bit_rate») / (2 * m .params .«bit_rate»))
         ≡ delayForPicture m position
-    delay-is g k = there g _ (yes _ _ _ (rw (expected-is g) (le-leb _ _ k)) (rw (expected-is g)))
+    delay-is g k = there g _ (no _ _ _ (rw (expected-is g) (le-ltb _ _ k)) (rw (expected-is g)))
 
   -- a removal: over what was delivered, rounded up
   module _ (s : m .started ≡ true) (end : ℕ) (g : EndFits m end) (i : RemovalInterval)
       (u : ℕ) (e : u ≡ (delivered m + (unit (m .params) - 1)) / unit (m .params)) where
     pub remove-over : m .«prev_end_bits» + m .params .«buffer_size_bits» < u
-        → rm.Violation (Overflow (m .removed) 0 0) ≡ removePicture m end i
+        → refused 9 (m .removed) 0 0 ≡ removePicture m end i
     unfolding removePicture
     remove-over o =
-        yes _ _ _ fits (yes _ _ _ s (yes _ _ _ (fitting-end m end g) (yes _ _ _ (over-test u e ∙ lt-ltb _ _ o) refl)))
+        held _ _ _ fits (held _ _ _ s (held _ _ _ (fitting-end m end g) (yes _ _ _ (over-test u e ∙ lt-ltb _ _ o) refl)))
 
     pub remove-under : u ≤ m .«prev_end_bits» + m .params .«buffer_size_bits» → m .whole < end
-        → rm.Violation (Underflow (m .removed) 0 0) ≡ removePicture m end i
+        → refused 10 (m .removed) 0 0 ≡ removePicture m end i
     unfolding removePicture
     remove-under o k =
-        yes _ _ _ fits
-        (yes _ _ _ s
-        (yes _ _ _ (fitting-end m end g)
+        held _ _ _ fits
+        (held _ _ _ s
+        (held _ _ _ (fitting-end m end g)
         (no _ _ _ (over-test u e ∙ le-ltb _ _ o) (yes _ _ _ (beyond-test end ∙ lt-ltb _ _ k) refl))))
 
     pub remove-is : u ≤ m .«prev_end_bits» + m .params .«buffer_size_bits» → end ≤ m .whole
         → (x : VbvCbrModel) → x ≡ atDelivered m (nextDelivered m i)
-        → rm.Model
+        → value
         (record {
           params = m .params;
           whole = x .whole;
@@ -163,25 +157,44 @@ module _ (m : VbvCbrModel) (v : ModelFits m) where
         ≡ removePicture m end i
     unfolding removePicture atDelivered afterRemoval
     remove-is o k x a =
-        yes _ _ _ fits
-        (yes _ _ _ s
-        (yes _ _ _ (fitting-end m end g)
+        held _ _ _ fits
+        (held _ _ _ s
+        (held _ _ _ (fitting-end m end g)
         (no _ _ _ (over-test u e ∙ le-ltb _ _ o) (no _ _ _ (beyond-test end ∙ le-ltb _ _ k) (rw a)))))
+
+-- a model that fits, out of order or out of range
+module _ (m : VbvCbrModel) (f : modelFits m ≡ true) where
+  pub delay-order : (position : ℕ) → m .started ≡ false → refused 13 0 0 0 ≡ delayForPicture m position
+  unfolding delayForPicture
+  delay-order position s = held _ _ _ f (failed _ _ _ s refl)
+
+  pub remove-order : (end : ℕ) (i : RemovalInterval) → m .started ≡ false → refused 13 0 0 0 ≡ removePicture m end i
+  unfolding removePicture
+  remove-order end i s = held _ _ _ f (failed _ _ _ s refl)
+
+  module _ (s : m .started ≡ true) where
+    pub delay-range : (position : ℕ) → 2 ^ 48 < position → refused 14 0 0 0 ≡ delayForPicture m position
+    unfolding delayForPicture
+    delay-range position h = held _ _ _ f (held _ _ _ s (yes _ _ _ (lt-ltb _ _ h) refl))
+
+    pub remove-range : (end : ℕ) (i : RemovalInterval) → endFits m end ≡ false → refused 14 0 0 0 ≡ removePicture m end i
+    unfolding removePicture
+    remove-range end i h = held _ _ _ f (held _ _ _ s (failed _ _ _ h refl))
 
 -- bits that a started model answers
 module _ (m : VbvCbrModel) (b : ℕ) where
-  pub bits-params : modelFits m ≡ false → bt.Refused Params ≡ ofStarted m b
+  pub bits-params : modelFits m ≡ false → refused 12 0 0 0 ≡ ofStarted m b
   unfolding ofStarted
-  bits-params f = no _ _ _ f refl
+  bits-params f = failed _ _ _ f refl
 
   module _ (f : modelFits m ≡ true) where
-    pub bits-order : m .started ≡ false → bt.Refused Order ≡ ofStarted m b
+    pub bits-order : m .started ≡ false → refused 13 0 0 0 ≡ ofStarted m b
     unfolding ofStarted
-    bits-order s = yes _ _ _ f (no _ _ _ s refl)
+    bits-order s = held _ _ _ f (failed _ _ _ s refl)
 
-    pub bits-are : m .started ≡ true → (r : ℕ) → r ≡ b → bt.Bits r ≡ ofStarted m b
+    pub bits-are : m .started ≡ true → (r : ℕ) → r ≡ b → value r ≡ ofStarted m b
     unfolding ofStarted
-    bits-are s r e = yes _ _ _ f (yes _ _ _ s (rw e))
+    bits-are s r e = held _ _ _ f (held _ _ _ s (rw e))
 
 module _ (m : VbvCbrModel) (f : modelFits m ≡ true) where
   pub greatest-is : m .whole ≡ greatestEnd (m .params) (delivered m)

@@ -3,16 +3,22 @@
 use Prim.Native.Nat.{ℕ}
 use lib.Dec.{eqb}
 use Rattle.bits.specs.Bits.{pick}
+use Rattle.bits.specs.Refusals.{Answer, value, refused}
 use Rattle.vbv.specs.declared.VbvError.{VbvError}
 use Rattle.vbv.specs.declared.VbvError.the-variants.{FrameRateCode, Early, DelayTooLong, Params, Order, Range, NotAPicture}
 use Rattle.vbv.specs.declared.VbvViolation.{VbvViolation}
 use Rattle.vbv.specs.declared.VbvViolation.the-variants.{Overflow, Underflow, DelayMismatch}
 use Rattle.vbv.specs.declared.FrameRate.{FrameRate}
 use Rattle.vbv.specs.declared.FrameRate.the-variants.{Rate, Refused}
+use Rattle.vbv.specs.declared.VbvCbrModel.{VbvCbrModel}
 use Rattle.vbv.specs.declared.VbvModel.{VbvModel}
 use Rattle.vbv.specs.declared.VbvModel.the-variants as md
 use Rattle.vbv.specs.declared.VbvRemoval.{VbvRemoval}
 use Rattle.vbv.specs.declared.VbvRemoval.the-variants as rm
+use Rattle.vbv.specs.declared.VbvDelay.{VbvDelay}
+use Rattle.vbv.specs.declared.VbvDelay.the-variants as dl
+use Rattle.vbv.specs.declared.VbvBits.{VbvBits}
+use Rattle.vbv.specs.declared.VbvBits.the-variants as bt
 use Rattle.vbv.specs.declared.VbvPatch.{VbvPatch}
 use Rattle.vbv.specs.declared.VbvPatch.the-variants as pt
 
@@ -46,29 +52,47 @@ violationExpected (Overflow n c e) = e
 violationExpected (Underflow n c e) = e
 violationExpected (DelayMismatch n c e) = e
 
--- the number of each answer: 0 for a result
-abbrev pub startNumber : VbvModel → ℕ
-startNumber (md.Model m) = 0
-startNumber (md.Refused e) = errorNumber e
+-- each answer by its number and values
+abbrev pub refusal : {X : Type 0} → VbvError → Answer X
+refusal e = refused (errorNumber e) 0 0 0
 
-abbrev pub removalNumber : VbvRemoval → ℕ
-removalNumber (rm.Model m) = 0
-removalNumber (rm.Refused e) = errorNumber e
-removalNumber (rm.Violation v) = violationNumber v
+abbrev pub violation : {X : Type 0} → VbvViolation → Answer X
+violation v = refused (violationNumber v) (violationPicture v) (violationCoded v) (violationExpected v)
 
-abbrev pub patchNumber : VbvPatch → ℕ
-patchNumber pt.Done = 0
-patchNumber (pt.Refused e) = errorNumber e
+abbrev pub modelAnswer : VbvModel → Answer VbvCbrModel
+modelAnswer (md.Model m) = value m
+modelAnswer (md.Refused e) = refusal e
+
+abbrev pub removalAnswer : VbvRemoval → Answer VbvCbrModel
+removalAnswer (rm.Model m) = value m
+removalAnswer (rm.Refused e) = refusal e
+removalAnswer (rm.Violation v) = violation v
+
+abbrev pub delayAnswer : VbvDelay → Answer ℕ
+delayAnswer (dl.Delay t) = value t
+delayAnswer (dl.Refused e) = refusal e
+
+abbrev pub bitsAnswer : VbvBits → Answer ℕ
+bitsAnswer (bt.Bits b) = value b
+bitsAnswer (bt.Refused e) = refusal e
+
+abbrev pub patchAnswer : VbvPatch → Answer (Unit {0})
+patchAnswer pt.Done = value tt
+patchAnswer (pt.Refused e) = refusal e
+
+abbrev pub rateAnswer : FrameRate → Answer (ℕ × ℕ)
+rateAnswer (Rate n d) = value (n, d)
+rateAnswer (Refused e) = refusal e
 
 -- Table 6-4; 11172-2 2.4.3.2
-unfoldable pub frameRate : ℕ → FrameRate
+unfoldable pub frameRate : ℕ → Answer (ℕ × ℕ)
 frameRate c =
-    pick (eqb c 1) (Rate 24000 1001)
-    (pick (eqb c 2) (Rate 24 1)
-    (pick (eqb c 3) (Rate 25 1)
-    (pick (eqb c 4) (Rate 30000 1001)
-    (pick (eqb c 5) (Rate 30 1)
-    (pick (eqb c 6) (Rate 50 1)
-    (pick (eqb c 7) (Rate 60000 1001)
-    (pick (eqb c 8) (Rate 60 1)
-    (Refused FrameRateCode))))))))
+    pick (eqb c 1) (value (24000, 1001))
+    (pick (eqb c 2) (value (24, 1))
+    (pick (eqb c 3) (value (25, 1))
+    (pick (eqb c 4) (value (30000, 1001))
+    (pick (eqb c 5) (value (30, 1))
+    (pick (eqb c 6) (value (50, 1))
+    (pick (eqb c 7) (value (60000, 1001))
+    (pick (eqb c 8) (value (60, 1))
+    (refused 6 0 0 0))))))))

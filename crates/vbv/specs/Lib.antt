@@ -3,5 +3,6 @@ pub mod Answers
 pub mod Model
 pub mod Steps
 pub mod Patch
+pub mod Fractions
 pub mod Figures
 pub mod Lent

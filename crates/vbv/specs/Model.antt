@@ -1,24 +1,14 @@
 -- The model as a state by value: what is delivered at the pending removal, where the previous picture ended, how many were removed (paper 01, 'Who can cause a refusal').
 -- A state whose fields are out of their ranges is refused first. Assumes nothing.
 use Prim.Native.Nat.{ℕ, _+_, _*_, _/_, _%_, _^_}
-use mathlib.Core.Bool.{Bool, true, false, _&&_}
+use mathlib.Core.Bool.{Bool, true, false, not, _&&_}
 use lib.Dec.{ltb, leb}
-use Rattle.bits.specs.Bits.{pick}
+use Rattle.bits.specs.Refusals.{Answer, value, refuse, violate}
 use Rattle.vbv.specs.Annex.{unit, firstDelivered, gain, overflows, beyond, expectedDelay, occupancy, greatestEnd, leastEnd}
 use Rattle.vbv.specs.declared.RemovalInterval.{RemovalInterval}
 use Rattle.vbv.specs.declared.RemovalInterval.the-variants.{Frame, Field}
 use Rattle.vbv.specs.declared.VbvParams.{VbvParams}
 use Rattle.vbv.specs.declared.VbvCbrModel.{VbvCbrModel}
-use Rattle.vbv.specs.declared.VbvError.the-variants.{Early, DelayTooLong, Params, Order, Range}
-use Rattle.vbv.specs.declared.VbvViolation.the-variants.{Overflow, Underflow}
-use Rattle.vbv.specs.declared.VbvModel.{VbvModel}
-use Rattle.vbv.specs.declared.VbvModel.the-variants.{Model, Refused}
-use Rattle.vbv.specs.declared.VbvRemoval.{VbvRemoval}
-use Rattle.vbv.specs.declared.VbvRemoval.the-variants as rm
-use Rattle.vbv.specs.declared.VbvDelay.{VbvDelay}
-use Rattle.vbv.specs.declared.VbvDelay.the-variants as dl
-use Rattle.vbv.specs.declared.VbvBits.{VbvBits}
-use Rattle.vbv.specs.declared.VbvBits.the-variants as bt
 
 -- paper 01's ranges, each bound included, and a full buffer's delay in 16 bits below 0xFFFF (6.3.9)
 unfoldable pub paramsFit : VbvParams → Bool
@@ -76,60 +66,53 @@ periods Field = 1
 unfoldable pub nextDelivered : VbvCbrModel → RemovalInterval → ℕ
 nextDelivered m i = delivered m + gain (m .params) (periods i)
 
-unfoldable pub newModel : VbvParams → VbvModel
+unfoldable pub newModel : VbvParams → Answer VbvCbrModel
 newModel p =
-    pick (paramsFit p)
-    (Model record { params = p; whole = 0; rest = 0; «prev_end_bits» = 0; removed = 0; started = false })
-    (Refused Params)
+    refuse 12 (not (paramsFit p))
+    (value (record { params = p; whole = 0; rest = 0; «prev_end_bits» = 0; removed = 0; started = false }))
 
-unfoldable pub startModel : VbvCbrModel → ℕ → ℕ → VbvModel
+unfoldable pub startModel : VbvCbrModel → ℕ → ℕ → Answer VbvCbrModel
 startModel m delay position =
-    pick (modelFits m)
-    (pick (m .started) (Refused Order)
-    (pick (leb position (2 ^ 48))
-    (Model (atDelivered m (firstDelivered (m .params) position delay)))
-    (Refused Range)))
-    (Refused Params)
+    refuse 12 (not (modelFits m))
+    (refuse 13 (m .started)
+    (refuse 14 (ltb (2 ^ 48) position)
+    (value (atDelivered m (firstDelivered (m .params) position delay)))))
 
-unfoldable pub delayForPicture : VbvCbrModel → ℕ → VbvDelay
+unfoldable pub delayForPicture : VbvCbrModel → ℕ → Answer ℕ
 delayForPicture m position =
-    pick (modelFits m)
-    (pick (m .started)
-    (pick (leb position (2 ^ 48))
-    (pick (beyond (m .params) position (delivered m)) (dl.Refused Early)
-    (pick (leb (expectedDelay (m .params) position (delivered m)) 65534)
-    (dl.Delay (expectedDelay (m .params) position (delivered m)))
-    (dl.Refused DelayTooLong)))
-    (dl.Refused Range))
-    (dl.Refused Order))
-    (dl.Refused Params)
+    refuse 12 (not (modelFits m))
+    (refuse 13 (not (m .started))
+    (refuse 14 (ltb (2 ^ 48) position)
+    (refuse 7 (beyond (m .params) position (delivered m))
+    (refuse 8 (ltb 65534 (expectedDelay (m .params) position (delivered m)))
+    (value (expectedDelay (m .params) position (delivered m)))))))
 
 -- 14: an end above 2^48 or below the previous one, or 2^48 removals made
 unfoldable pub endFits : VbvCbrModel → ℕ → Bool
 endFits m end = leb end (2 ^ 48) && leb (m .«prev_end_bits») end && ltb (m .removed) (2 ^ 48)
 
-unfoldable pub removePicture : VbvCbrModel → ℕ → RemovalInterval → VbvRemoval
+unfoldable pub removePicture : VbvCbrModel → ℕ → RemovalInterval → Answer VbvCbrModel
 removePicture m end i =
-    pick (modelFits m)
-    (pick (m .started)
-    (pick (endFits m end)
-    (pick (overflows (m .params) (m .«prev_end_bits») (delivered m)) (rm.Violation (Overflow (m .removed) 0 0))
-    (pick (beyond (m .params) end (delivered m)) (rm.Violation (Underflow (m .removed) 0 0))
-    (rm.Model (afterRemoval m end (nextDelivered m i)))))
-    (rm.Refused Range))
-    (rm.Refused Order))
-    (rm.Refused Params)
+    refuse 12 (not (modelFits m))
+    (refuse 13 (not (m .started))
+    (refuse 14 (not (endFits m end))
+    (violate 9 (m .removed) 0 0 (overflows (m .params) (m .«prev_end_bits») (delivered m))
+    (violate 10 (m .removed) 0 0 (beyond (m .params) end (delivered m))
+    (value (afterRemoval m end (nextDelivered m i)))))))
 
 -- bits that a started model answers
-unfoldable pub ofStarted : VbvCbrModel → ℕ → VbvBits
-ofStarted m b = pick (modelFits m) (pick (m .started) (bt.Bits b) (bt.Refused Order)) (bt.Refused Params)
+unfoldable pub ofStarted : VbvCbrModel → ℕ → Answer ℕ
+ofStarted m b =
+    refuse 12 (not (modelFits m))
+    (refuse 13 (not (m .started))
+    (value b))
 
-unfoldable pub maxEndBits : VbvCbrModel → VbvBits
+unfoldable pub maxEndBits : VbvCbrModel → Answer ℕ
 maxEndBits m = ofStarted m (greatestEnd (m .params) (delivered m))
 
-unfoldable pub minEndBits : VbvCbrModel → RemovalInterval → VbvBits
+unfoldable pub minEndBits : VbvCbrModel → RemovalInterval → Answer ℕ
 minEndBits m i = ofStarted m (leastEnd (m .params) (nextDelivered m i))
 
 -- 0 where the previous end lies beyond what is delivered
-unfoldable pub occupancyBeforeRemoval : VbvCbrModel → VbvBits
+unfoldable pub occupancyBeforeRemoval : VbvCbrModel → Answer ℕ
 occupancyBeforeRemoval m = ofStarted m (occupancy (m .params) (m .«prev_end_bits») (delivered m))

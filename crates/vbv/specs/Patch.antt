@@ -2,21 +2,19 @@
 -- Assumes nothing.
 use Prim.Native.Nat.{ℕ}
 use mathlib.Core.List.{List, [], _∷_}
-use mathlib.Core.Bool.{Bool, _&&_}
+use mathlib.Core.Bool.{Bool, not, _&&_}
 use lib.Dec.{leb}
 use lib.ListN.{length, take}
 use Rattle.bits.specs.Bits.{pick, digits, setBits}
+use Rattle.bits.specs.Refusals.{Answer, value, refuse}
 use Rattle.bits.specs.Fields.{sameBytes}
-use Rattle.vbv.specs.declared.VbvError.the-variants.{NotAPicture}
-use Rattle.vbv.specs.declared.VbvPatch.{VbvPatch}
-use Rattle.vbv.specs.declared.VbvPatch.the-variants.{Done, Refused}
 
 -- eight bytes at least, from 00 00 01 00 on
 unfoldable pub startsPicture : List ℕ → Bool
 startsPicture s = leb 8 (length s) && sameBytes (take 4 s) (0x00 ∷ 0x00 ∷ 0x01 ∷ 0x00 ∷ [])
 
-unfoldable pub patchAnswer : List ℕ → VbvPatch
-patchAnswer s = pick (startsPicture s) Done (Refused NotAPicture)
+unfoldable pub patchPicture : List ℕ → Answer (Unit {0})
+patchPicture s = refuse 20 (not (startsPicture s)) (value tt)
 
 -- bits 45 to 60 are the delay, every other bit is as it was
 unfoldable pub patched : List ℕ → ℕ → List ℕ

@@ -1,6 +1,22 @@
--- The promises of private functions: what fitting means, as bounds.
+-- The promises of private functions: what fitting means, as bounds; and each answer enum by the numbers and values that it tells.
 -- Assumes nothing.
 use Prim.Native.Nat.{ℕ, _*_, _^_, _≤_, _<_}
+use lib.Dec.{eqb}
+use Rattle.bits.specs.Bits.{pick}
+use Rattle.bits.specs.Refusals.{Answer, value, refused}
+use Rattle.vbv.specs.declared.VbvError.{VbvError}
+use Rattle.vbv.specs.declared.VbvError.the-variants.{FrameRateCode, Early, DelayTooLong, Params, Order, Range, NotAPicture}
+use Rattle.vbv.specs.declared.VbvViolation.the-variants.{Overflow, Underflow, DelayMismatch}
+use Rattle.vbv.specs.declared.FrameRate.{FrameRate}
+use Rattle.vbv.specs.declared.FrameRate.the-variants as fr
+use Rattle.vbv.specs.declared.VbvModel.{VbvModel}
+use Rattle.vbv.specs.declared.VbvModel.the-variants as md
+use Rattle.vbv.specs.declared.VbvRemoval.{VbvRemoval}
+use Rattle.vbv.specs.declared.VbvRemoval.the-variants as rm
+use Rattle.vbv.specs.declared.VbvDelay.{VbvDelay}
+use Rattle.vbv.specs.declared.VbvDelay.the-variants as dl
+use Rattle.vbv.specs.declared.VbvBits.{VbvBits}
+use Rattle.vbv.specs.declared.VbvBits.the-variants as bt
 use Rattle.vbv.specs.declared.VbvParams.{VbvParams}
 use Rattle.vbv.specs.declared.VbvCbrModel.{VbvCbrModel}
 
@@ -26,3 +42,38 @@ pub record EndFits (m : VbvCbrModel) (end : ℕ) : Type 0 where
   pub end-far : end ≤ 2 ^ 48
   pub end-low : m .«prev_end_bits» ≤ end
   pub count : m .removed < 2 ^ 48
+
+-- back from a number: proofs/Numbers.antt says that no two cases tell the same
+unfoldable pub errorOf : ℕ → VbvError
+errorOf n =
+    pick (eqb n 6) FrameRateCode
+    (pick (eqb n 7) Early
+    (pick (eqb n 8) DelayTooLong
+    (pick (eqb n 12) Params
+    (pick (eqb n 13) Order
+    (pick (eqb n 14) Range
+    NotAPicture)))))
+
+unfoldable pub modelOf : Answer VbvCbrModel → VbvModel
+modelOf (value m) = md.Model m
+modelOf (refused n k c e) = md.Refused (errorOf n)
+
+unfoldable pub delayOf : Answer ℕ → VbvDelay
+delayOf (value t) = dl.Delay t
+delayOf (refused n k c e) = dl.Refused (errorOf n)
+
+unfoldable pub bitsOf : Answer ℕ → VbvBits
+bitsOf (value b) = bt.Bits b
+bitsOf (refused n k c e) = bt.Refused (errorOf n)
+
+unfoldable pub removalOf : Answer VbvCbrModel → VbvRemoval
+removalOf (value m) = rm.Model m
+removalOf (refused n k c e) =
+    pick (eqb n 9) (rm.Violation (Overflow k c e))
+    (pick (eqb n 10) (rm.Violation (Underflow k c e))
+    (pick (eqb n 11) (rm.Violation (DelayMismatch k c e))
+    (rm.Refused (errorOf n))))
+
+unfoldable pub rateOf : Answer (ℕ × ℕ) → FrameRate
+rateOf (value f) = fr.Rate (f .0) (f .1)
+rateOf (refused n k c e) = fr.Refused (errorOf n)

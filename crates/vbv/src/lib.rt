@@ -3,10 +3,10 @@ ghost use mathlib.Core.Path.{_≡_};
 ghost use mathlib.Core.Bool.{true};
 ghost use Prim.Native.Nat.{_+_, _-_, _/_, _^_, _≤_, _<_};
 ghost use Rattle.vbv.specs.Annex.{unit, firstDelivered};
-ghost use Rattle.vbv.specs.Answers.{errorNumber, frameRate};
+ghost use Rattle.vbv.specs.Answers.{errorNumber, modelAnswer, removalAnswer, delayAnswer, bitsAnswer, patchAnswer, rateAnswer, frameRate};
 ghost use Rattle.vbv.specs.Steps.{ModelFits, EndFits};
 ghost use Rattle.vbv.specs.Model.{paramsFit, delivered, modelFits, atDelivered, periods, nextDelivered, newModel, startModel, delayForPicture, removePicture, maxEndBits, minEndBits, occupancyBeforeRemoval};
-ghost use Rattle.vbv.specs.Patch.{startsPicture, patchAnswer, patched};
+ghost use Rattle.vbv.specs.Patch.{startsPicture, patchPicture, patched};
 
 pub mod lent; // the model by reference
 
@@ -122,7 +122,7 @@ impl VbvError {
 
 // Table 6-4.
 pub fn frame_rate_value(frame_rate_code: u8) -> FrameRate
-    ensures { λ r. ⌜ r ≡ frameRate «frame_rate_code» ⌝ }
+    ensures { λ r. ⌜ rateAnswer r ≡ frameRate «frame_rate_code» ⌝ }
 {
     match frame_rate_code {
         1 => FrameRate::Rate(24000, 1001),
@@ -180,7 +180,7 @@ impl VbvCbrModel {
     }
 
     pub fn new(params: VbvParams) -> VbvModel
-        ensures { λ r. ⌜ r ≡ newModel params ⌝ }
+        ensures { λ r. ⌜ modelAnswer r ≡ newModel params ⌝ }
     {
         if params.fit() {
             VbvModel::Model(VbvCbrModel {
@@ -198,7 +198,7 @@ impl VbvCbrModel {
 
     // With the first picture's coded delay and the end of its start code.
     pub fn start(self, initial_vbv_delay: u16, pos0_bits: u64) -> VbvModel
-        ensures { λ r. ⌜ r ≡ startModel self «initial_vbv_delay» «pos0_bits» ⌝ }
+        ensures { λ r. ⌜ modelAnswer r ≡ startModel self «initial_vbv_delay» «pos0_bits» ⌝ }
     {
         if self.fits() {
             if self.started {
@@ -235,7 +235,7 @@ impl VbvCbrModel {
 
     // The delay to code for the pending picture, whose start code ends at pos.
     pub fn delay_for_picture(self, pos_bits: u64) -> VbvDelay
-        ensures { λ r. ⌜ r ≡ delayForPicture self «pos_bits» ⌝ }
+        ensures { λ r. ⌜ delayAnswer r ≡ delayForPicture self «pos_bits» ⌝ }
     {
         if self.fits() {
             if self.started {
@@ -257,7 +257,7 @@ impl VbvCbrModel {
         requires { ⌜ ModelFits self ⌝ }
         requires { ⌜ self .started ≡ true ⌝ }
         requires { ⌜ position ≤ 2 ^ 48 ⌝ }
-        ensures { λ r. ⌜ r ≡ delayForPicture self position ⌝ }
+        ensures { λ r. ⌜ delayAnswer r ≡ delayForPicture self position ⌝ }
     {
         if self.whole < position {
             return VbvDelay::Refused(VbvError::Early);
@@ -279,7 +279,7 @@ impl VbvCbrModel {
 
     // Removes the pending picture, whose data ends at end.
     pub fn remove_picture(self, end_bits: u64, interval: RemovalInterval) -> VbvRemoval
-        ensures { λ r. ⌜ r ≡ removePicture self «end_bits» interval ⌝ }
+        ensures { λ r. ⌜ removalAnswer r ≡ removePicture self «end_bits» interval ⌝ }
     {
         if self.fits() {
             if self.started {
@@ -301,7 +301,7 @@ impl VbvCbrModel {
         requires { ⌜ ModelFits self ⌝ }
         requires { ⌜ self .started ≡ true ⌝ }
         requires { ⌜ EndFits self end ⌝ }
-        ensures { λ r. ⌜ r ≡ removePicture self end interval ⌝ }
+        ensures { λ r. ⌜ removalAnswer r ≡ removePicture self end interval ⌝ }
     {
         let picture = self.removed;
         let params = self.params;
@@ -365,7 +365,7 @@ impl VbvCbrModel {
 
     // The greatest end that does not underflow at the pending removal.
     pub fn max_end_bits(self) -> VbvBits
-        ensures { λ r. ⌜ r ≡ maxEndBits self ⌝ }
+        ensures { λ r. ⌜ bitsAnswer r ≡ maxEndBits self ⌝ }
     {
         if self.fits() {
             if self.started {
@@ -380,7 +380,7 @@ impl VbvCbrModel {
 
     // The least end that does not overflow at the removal after the pending one.
     pub fn min_end_bits(self, interval: RemovalInterval) -> VbvBits
-        ensures { λ r. ⌜ r ≡ minEndBits self interval ⌝ }
+        ensures { λ r. ⌜ bitsAnswer r ≡ minEndBits self interval ⌝ }
     {
         if self.fits() {
             if self.started {
@@ -397,7 +397,7 @@ impl VbvCbrModel {
 
     // Whole bits in the buffer just before the pending removal.
     pub fn occupancy_before_removal_bits(self) -> VbvBits
-        ensures { λ r. ⌜ r ≡ occupancyBeforeRemoval self ⌝ }
+        ensures { λ r. ⌜ bitsAnswer r ≡ occupancyBeforeRemoval self ⌝ }
     {
         if self.fits() {
             if self.started {
@@ -442,7 +442,7 @@ fn starts_picture(s: &[u8]) -> bool
 
 // Bits 45 to 60 become the delay: the low 3 bits of byte 5, byte 6 and the high 5 bits of byte 7.
 pub fn patch_vbv_delay(picture: &mut [u8], vbv_delay: u16) -> VbvPatch
-    ensures { λ r. ⌜ r ≡ patchAnswer (now (picture .entry)) ⌝ }
+    ensures { λ r. ⌜ patchAnswer r ≡ patchPicture (now (picture .entry)) ⌝ }
     ensures { λ r. ⌜ now (picture .exit) ≡ patched (now (picture .entry)) «vbv_delay» ⌝ }
 {
     if starts_picture(picture) {

@@ -1,8 +1,8 @@
-use Rattle.vbv.specs.Model.{delayForPicture}
+use Rattle.vbv.specs.Model.{modelFits, delayForPicture}
 use mathlib.Core.Path.{refl}
-use borrow.Author.Tests.{lt-leb}
 use Rattle.vbv.proofs.Fitting.{told-by, model-fits}
-use Rattle.vbv.proofs.Picks.{yes, no}
+use Rattle.vbv.proofs.Picks.{failed}
+use Rattle.vbv.proofs.Ways.{delay-order, delay-range}
 use borrow.Author.Needs.{needs}
 use native.Mathlib.Omega.{arith}
 use Rattle.vbv.proofs.VbvCbrModel.delay_for_picture.Statement.{statement}
@@ -18,16 +18,14 @@ returns : tie.Need-returns
 returns c = search needs
 
 returns-2 : tie.Need-returns-2
-unfolding delayForPicture
-returns-2 c = yes _ _ _ (search told-by) (yes _ _ _ (search) (no _ _ _ (search lt-leb) refl))
+returns-2 c = delay-range _ (search told-by) (search) _ (omega arith)
 
 returns-3 : tie.Need-returns-3
-unfolding delayForPicture
-returns-3 c = yes _ _ _ (search told-by) (no _ _ _ (search) refl)
+returns-3 c = delay-order _ (search told-by) _ (search)
 
 returns-4 : tie.Need-returns-4
 unfolding delayForPicture
-returns-4 c = no _ _ _ (search told-by) refl
+returns-4 c = failed (modelFits _) _ _ (search told-by) refl
 
 pub delay-for-picture-spec : {M : Type 1} → statement M
 delay-for-picture-spec =

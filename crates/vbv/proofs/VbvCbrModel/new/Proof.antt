@@ -1,7 +1,7 @@
-use Rattle.vbv.specs.Model.{newModel}
+use Rattle.vbv.specs.Model.{paramsFit, newModel}
 use mathlib.Core.Path.{refl}
 use Rattle.vbv.proofs.Fitting.{told-by}
-use Rattle.vbv.proofs.Picks.{yes, no}
+use Rattle.vbv.proofs.Picks.{held, failed}
 use borrow.Author.Needs.{needs}
 use Rattle.vbv.proofs.VbvCbrModel.new.Statement.{statement}
 use Rattle.vbv.proofs.VbvCbrModel.new.Tie as tie
@@ -11,11 +11,11 @@ fit-requires c κs = search needs
 
 returns : tie.Need-returns
 unfolding newModel
-returns c = yes _ _ _ (search told-by) refl
+returns c = held (paramsFit _) _ _ (search told-by) refl
 
 returns-2 : tie.Need-returns-2
 unfolding newModel
-returns-2 c = no _ _ _ (search told-by) refl
+returns-2 c = failed (paramsFit _) _ _ (search told-by) refl
 
 pub new-spec : {M : Type 1} → statement M
 new-spec = tie.close (tie.spec fit-requires returns returns-2)

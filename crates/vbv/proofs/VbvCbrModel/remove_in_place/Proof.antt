@@ -40,7 +40,8 @@ use denote.Triple.Table.{entered, cited}
 use denote.Triple.Walked.{says, Stays, stay-ref, stay-none, walkOf, AllGo, goes-none, goes-ref, Walks, ends-at, walked, walk-meets}
 use denote.Triple.Clauses.{ensured, lasts}
 use denote.Exit.{yes}
-use Rattle.vbv.specs.Lent.{removeStep}
+use Rattle.vbv.specs.Model.{removePicture}
+use Rattle.vbv.specs.Lent.{stepAnswer, done as answered, modelAfter}
 use Rattle.vbv.specs.declared.VbvCbrModel.{VbvCbrModel}
 use Rattle.vbv.specs.declared.lent.VbvStepped.{VbvStepped}
 use Rattle.vbv.specs.declared.RemovalInterval.{RemovalInterval}
@@ -85,19 +86,19 @@ module _ {M : Type 1} (𝓤 : URA M) (H : Heap 𝓤) (A : Atoms 𝓤) (W : Given
   abbrev mvals : VbvCbrModel → List Val
   mvals = LL.vals T.the-type T′.the-laws
 
-  abbrev d : VbvStepped
-  d = removeStep m end i
+  abbrev Said : VbvStepped → Type 0
+  Said d = (stepAnswer (d .answer) ≡ answered (removePicture m end i)) × (d .model ≡ modelAfter m (removePicture m end i))
 
-  abbrev avals : List Val
-  avals = EL.vals S.the-type S′.the-laws (d .answer)
+  abbrev avals : VbvStepped → List Val
+  avals d = EL.vals S.the-type S′.the-laws (d .answer)
 
   abbrev Post : Val → SProp 𝓤
   Post = walkOf 𝓤 H A fn′.ended stayed (fn′.clauses 𝓤 H A at-mem run) .post (((κ, tt), (q, tt), tt, x, at), tt)
 
-  exits : Is u64 end (vint w64 end ∷ []) → Is I.the-row i (ivals i) → Is S.the-row (d .answer) avals → ent 𝓤 (sep 𝓤 (A .obs γ (T.the-row .coded .code (d .model))) (sep 𝓤 (A .bor κ (Body (mem T.the-row) b o γ)) (A .lft κ q))) (Post (only avals))
-  exits g1 g2 ga =
+  exits : (d : VbvStepped) → Said d → Is u64 end (vint w64 end ∷ []) → Is I.the-row i (ivals i) → Is S.the-row (d .answer) (avals d) → ent 𝓤 (sep 𝓤 (A .obs γ (T.the-row .coded .code (d .model))) (sep 𝓤 (A .bor κ (Body (mem T.the-row) b o γ)) (A .lft κ q))) (Post (only (avals d)))
+  exits d e g1 g2 ga =
       qed W (‵ (fobs γ (T.the-row .coded .code (d .model))) ∷ ‵ (fbor κ (Body (mem T.the-row) b o γ)) ∷ ‵ (flft κ q) ∷ []) ∵
-      suffices ! _ (ends-at 𝓤 H A fn′.ended stayed (fn′.clauses 𝓤 H A at-mem run) W (((κ, tt), (q, tt), tt, x, at), tt) (only avals) (d .answer) (d .model, (tt, (tt, tt))) (tt, (tt, (tt, tt)))) $ says ! (refl, refl) $ nothing ! $ move ! (3 ∷ 0 ∷ []) $ join ! $
+      suffices ! _ (ends-at 𝓤 H A fn′.ended stayed (fn′.clauses 𝓤 H A at-mem run) W (((κ, tt), (q, tt), tt, x, at), tt) (only (avals d)) (d .answer) (d .model, (tt, (tt, tt))) (tt, (tt, (tt, tt)))) $ says ! e $ nothing ! $ move ! (3 ∷ 0 ∷ []) $ join ! $
       frame ! $ feqI ! (List Val) (vptr b o ∷ []) (vptr b o ∷ []) refl $ fjoin3 ! $ nothing ! $ owned ! I.the-row (Is I.the-row) (EL.makes I.the-type I′.the-plain 𝓤 H A) i _ g2 $ fjoin ! $ owned ! u64 (Is u64) (uint-makes 𝓤 H A W w64) end _ g1 $ fjoin ! $ move ! (1 ∷ 0 ∷ []) $ fjoin ! $
       owned ! S.the-row (Is S.the-row) (EL.makes S.the-type S′.the-plain 𝓤 H A) (d .answer) _ ga $ move ! (1 ∷ 0 ∷ []) $ done !
 
@@ -115,8 +116,8 @@ module _ {M : Type 1} (𝓤 : URA M) (H : Heap 𝓤) (A : Atoms 𝓤) (W : Given
   asked = qed W (‵ ftrue ∷ ‵ (owns (T.the-row ∷ u64 ∷ I.the-row ∷ []) given passed) ∷ []) ∵ join ! $ frame ! $ done !
 
   -- of the core's `ensured`, the clause alone: it has no `&mut`, so what is said of last values is dropped
-  said : (r : VbvStepped) → ent 𝓤 (ensured 𝓤 H A core.ended (core.clauses 𝓤 H A at-mem run) tt given tt r) (fact 𝓤 (r ≡ d))
-  said r = exE 𝓤 _ (λ ws. snd∗ 𝓤 (sem 𝓤 H A (lasts core.ended tt given ws)) (fact 𝓤 (r ≡ d)))
+  said : (r : VbvStepped) → ent 𝓤 (ensured 𝓤 H A core.ended (core.clauses 𝓤 H A at-mem run) tt given tt r) (fact 𝓤 (Said r))
+  said r = exE 𝓤 _ (λ ws. snd∗ 𝓤 (sem 𝓤 H A (lasts core.ended tt given ws)) (fact 𝓤 (Said r)))
 
   module _ (C : Calls 𝓤 H) (Λ : Loops 𝓤 H) (fm : FmC 𝓤 H (W .laws) C) (known : Triple 𝓤 (C #core) (Core 𝓤 H A at-mem run)) where
     walk : ent 𝓤 (onEntry 𝓤 H A fn′.signature (κ, tt) (q, tt) x at) (WpFn 𝓤 H C Λ code.function (vptr b o ∷ vint w64 end ∷ only (ivals i) ∷ []) Post)
@@ -135,18 +136,18 @@ module _ {M : Type 1} (𝓤 : URA M) (H : Heap 𝓤) (A : Atoms 𝓤) (W : Given
         use2 W (raw (Core 𝓤 H A at-mem run .pre to)) asked $
         calls-at ! fm (Core 𝓤 H A at-mem run) known to (and-then ! (load ! (from ! (stop !)) (look ! 8 refl)) (and-then ! (load ! (from ! (stop !)) (look ! 12 refl)) (and-then ! (load ! (from ! (stop !)) (look ! 10 refl)) (no-more !)))) (λ v.
         use1 W (later (some (λ (r : VbvStepped). (‵ ftrue ⊛ ‵ (D.the-row .own r (v ∷ []))) ⊛ raw (ensured 𝓤 H A core.ended (core.clauses 𝓤 H A at-mem run) tt given tt r)))) (id⊢ 𝓤 _) $ await ! tt $ pick ! (λ r.
-        split ! $ move ! (1 ∷ []) $ use1 W (raw (fact 𝓤 (r ≡ d))) (said r) $ heard ! (r ≡ d) (λ e. split ! $ drop ! $
-        rewrite ! 0 (λ (s : VbvStepped). ‵ (D.the-row .own s (v ∷ []))) e refl $ peeks ! D.the-row (Is D.the-row) (shows 𝓤 H A D.the-row) d (v ∷ []) (λ is.
+        split ! $ move ! (1 ∷ []) $ use1 W (raw (fact 𝓤 (Said r))) (said r) $ heard ! (Said r) (λ e. split ! $ drop ! $
+        peeks ! D.the-row (Is D.the-row) (shows 𝓤 H A D.the-row) r (v ∷ []) (λ is.
         -- [what the result owns; the model's cell; what a model owns; the open borrow; obs; auth; _5; …; _4; …; _3; …; _2; …; _1; …; room for _0; …]
-        land ! (from ! (stop !)) (init ! 6 refl (LL.lawful D.the-type D′.the-laws 𝓤 H A W .typed d _ is .0)) $
-        rewrite ! 6 (λ (us : List Val). ‵ (fat fullShare D′.mir l₅ 0 (only us))) (LL.tells D.the-type D′.the-laws d (v ∷ []) is) refl $
-        assigns ! (of-opd ! (load ! (from ! (fld ! refl (stop !))) (look-in ! 6 (sub ! 0 refl (whole !))))) (from ! (hop ! (look ! 14 refl) (stop !))) (store-raw ! 1 refl (LL.lawful T.the-type T′.the-laws 𝓤 H A W .typed (d .model) _ (LL.owed D.the-type D′.the-laws d _ is .0) .0)) $
-        assigns ! (of-opd ! (load ! (from ! (fld ! refl (stop !))) (look-in ! 6 (sub ! 1 refl (whole !))))) (from ! (stop !)) (init ! 16 refl (EL.lawful S.the-type S′.the-laws 𝓤 H A W tt .typed (d .answer) _ (LL.owed D.the-type D′.the-laws d _ is .1 .0) .0)) $
-        drop ! $ move ! (1 ∷ []) $ drop ! $ owned ! T.the-row (Is T.the-row) (LL.makes T.the-type T′.the-plain 𝓤 H A) (d .model) _ (LL.owed D.the-type D′.the-laws d _ is .0) $ move ! (1 ∷ 0 ∷ []) $ closes ! tt T.the-row (d .model) (mvals (d .model)) b o $
+        land ! (from ! (stop !)) (init ! 6 refl (LL.lawful D.the-type D′.the-laws 𝓤 H A W .typed r _ is .0)) $
+        rewrite ! 6 (λ (us : List Val). ‵ (fat fullShare D′.mir l₅ 0 (only us))) (LL.tells D.the-type D′.the-laws r (v ∷ []) is) refl $
+        assigns ! (of-opd ! (load ! (from ! (fld ! refl (stop !))) (look-in ! 6 (sub ! 0 refl (whole !))))) (from ! (hop ! (look ! 14 refl) (stop !))) (store-raw ! 1 refl (LL.lawful T.the-type T′.the-laws 𝓤 H A W .typed (r .model) _ (LL.owed D.the-type D′.the-laws r _ is .0) .0)) $
+        assigns ! (of-opd ! (load ! (from ! (fld ! refl (stop !))) (look-in ! 6 (sub ! 1 refl (whole !))))) (from ! (stop !)) (init ! 16 refl (EL.lawful S.the-type S′.the-laws 𝓤 H A W tt .typed (r .answer) _ (LL.owed D.the-type D′.the-laws r _ is .1 .0) .0)) $
+        drop ! $ move ! (1 ∷ []) $ drop ! $ owned ! T.the-row (Is T.the-row) (LL.makes T.the-type T′.the-plain 𝓤 H A) (r .model) _ (LL.owed D.the-type D′.the-laws r _ is .0) $ move ! (1 ∷ 0 ∷ []) $ closes ! tt T.the-row (r .model) (mvals (r .model)) b o $
         -- [obs; the borrow; the token; _5; …; _4; …; _3; …; _2; …; _1; …; _0; …]
         returns ! (look ! 13 refl) $ forget ! 3 refl $ forget ! 5 refl $ forget ! 7 refl $ forget ! 9 refl $ forget ! 11 refl $ forget ! 13 refl $
         move ! (13 ∷ 14 ∷ []) $ free1 ! $ move ! (11 ∷ 12 ∷ []) $ free1 ! $ move ! (9 ∷ 10 ∷ []) $ free1 ! $ move ! (7 ∷ 8 ∷ []) $ free1 ! $ move ! (5 ∷ 6 ∷ []) $ free1 ! $ move ! (3 ∷ 4 ∷ []) $ free1 ! $ free0 ! $
-        keep ! (0 ∷ 1 ∷ 2 ∷ []) $ by ! (exits g1 g2 (LL.owed D.the-type D′.the-laws d _ is .1 .0))))))))))))))))
+        keep ! (0 ∷ 1 ∷ 2 ∷ []) $ by ! (exits r e g1 g2 (LL.owed D.the-type D′.the-laws r _ is .1 .0))))))))))))))))
 
 module _ {M : Type 1} (𝓤 : URA M) (H : Heap 𝓤) (A : Atoms 𝓤) (W : Given 𝓤 H A) (at-mem : Memory → SProp 𝓤) (run : Routine → Fun 𝓤) where
   walks : (C : Calls 𝓤 H) (Λ : Loops 𝓤 H) → FmC 𝓤 H (W .laws) C → Triple 𝓤 (C #core) (Core 𝓤 H A at-mem run) → Walks 𝓤 H A fn′.ended stayed (WpFn 𝓤 H C Λ code.function) (fn′.clauses 𝓤 H A at-mem run)

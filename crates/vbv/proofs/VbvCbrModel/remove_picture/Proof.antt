@@ -1,7 +1,8 @@
-use Rattle.vbv.specs.Model.{endFits, removePicture}
+use Rattle.vbv.specs.Model.{modelFits, endFits, removePicture}
 use mathlib.Core.Path.{refl}
 use Rattle.vbv.proofs.Fitting.{told-by, model-fits, end-fits}
-use Rattle.vbv.proofs.Picks.{yes, no}
+use Rattle.vbv.proofs.Picks.{failed}
+use Rattle.vbv.proofs.Ways.{remove-order, remove-range}
 use borrow.Author.Needs.{needs}
 use Rattle.vbv.proofs.VbvCbrModel.remove_picture.Statement.{statement}
 use Rattle.vbv.proofs.VbvCbrModel.remove_picture.Tie as tie
@@ -17,16 +18,15 @@ returns : tie.Need-returns
 returns c = search needs
 
 returns-2 : tie.Need-returns-2
-unfolding removePicture endFits
-returns-2 c = yes _ _ _ (search told-by) (yes _ _ _ (search) (no _ _ _ (search) refl))
+unfolding endFits
+returns-2 c = remove-range _ (search told-by) (search) _ _ (search)
 
 returns-3 : tie.Need-returns-3
-unfolding removePicture
-returns-3 c = yes _ _ _ (search told-by) (no _ _ _ (search) refl)
+returns-3 c = remove-order _ (search told-by) _ _ (search)
 
 returns-4 : tie.Need-returns-4
 unfolding removePicture
-returns-4 c = no _ _ _ (search told-by) refl
+returns-4 c = failed (modelFits _) _ _ (search told-by) refl
 
 pub remove-picture-spec : {M : Type 1} → statement M
 remove-picture-spec =

@@ -15,13 +15,13 @@ enum-known-violation : tie.Need-enum-known-violation
 enum-known-violation c = search needs
 
 returns : tie.Need-returns
-returns c = simp (← c .before .before .before .remove-picture .ensures, c .before .next .given .1)
+returns c = (simp (← c .before .before .before .remove-picture .ensures, c .before .next .given .1), simp (← c .before .before .before .remove-picture .ensures, c .before .next .given .1))
 
 returns-2 : tie.Need-returns-2
-returns-2 c = simp (← c .before .before .before .remove-picture .ensures, c .before .error .given .1)
+returns-2 c = (simp (← c .before .before .before .remove-picture .ensures, c .before .error .given .1), simp (← c .before .before .before .remove-picture .ensures, c .before .error .given .1))
 
 returns-3 : tie.Need-returns-3
-returns-3 c = simp (← c .before .before .before .remove-picture .ensures, c .before .violation .given .1)
+returns-3 c = (simp (← c .before .before .before .remove-picture .ensures, c .before .violation .given .1), simp (← c .before .before .before .remove-picture .ensures, c .before .violation .given .1))
 
 pub remove-step-spec : {M : Type 1} → statement M
 remove-step-spec =

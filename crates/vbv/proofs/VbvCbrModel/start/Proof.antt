@@ -1,8 +1,8 @@
-use Rattle.vbv.specs.Model.{startModel}
+use Rattle.vbv.specs.Model.{modelFits, startModel}
 use mathlib.Core.Path.{refl}
-use borrow.Author.Tests.{le-leb, lt-leb}
+use borrow.Author.Tests.{le-ltb, lt-ltb}
 use Rattle.vbv.proofs.Fitting.{told-by, model-fits}
-use Rattle.vbv.proofs.Picks.{yes, no}
+use Rattle.vbv.proofs.Picks.{yes, no, held, failed}
 use borrow.Author.Needs.{needs}
 use native.Mathlib.Omega.{arith}
 use Rattle.vbv.proofs.VbvCbrModel.start.Statement.{statement}
@@ -16,19 +16,19 @@ begun-requires c κs = (model-fits (search told-by), omega arith)
 
 returns : tie.Need-returns
 unfolding startModel
-returns c = yes _ _ _ (search told-by) (yes _ _ _ (search) refl)
+returns c = held (modelFits _) _ _ (search told-by) (yes _ _ _ (search) refl)
 
 returns-2 : tie.Need-returns-2
 unfolding startModel
-returns-2 c = yes _ _ _ (search told-by) (no _ _ _ (search) (yes _ _ _ (search le-leb) (rw (c .begun .ensures))))
+returns-2 c = held (modelFits _) _ _ (search told-by) (no _ _ _ (search) (no _ _ _ (search le-ltb) (rw (c .begun .ensures))))
 
 returns-3 : tie.Need-returns-3
 unfolding startModel
-returns-3 c = yes _ _ _ (search told-by) (no _ _ _ (search) (no _ _ _ (search lt-leb) refl))
+returns-3 c = held (modelFits _) _ _ (search told-by) (no _ _ _ (search) (yes _ _ _ (search lt-ltb) refl))
 
 returns-4 : tie.Need-returns-4
 unfolding startModel
-returns-4 c = no _ _ _ (search told-by) refl
+returns-4 c = failed (modelFits _) _ _ (search told-by) refl
 
 pub start-spec : {M : Type 1} → statement M
 start-spec =

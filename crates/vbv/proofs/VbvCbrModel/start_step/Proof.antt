@@ -12,10 +12,10 @@ enum-known-error : tie.Need-enum-known-error
 enum-known-error c = search needs
 
 returns : tie.Need-returns
-returns c = simp (← c .before .before .before .start .ensures, c .before .started .given .1)
+returns c = (simp (← c .before .before .before .start .ensures, c .before .started .given .1), simp (← c .before .before .before .start .ensures, c .before .started .given .1))
 
 returns-2 : tie.Need-returns-2
-returns-2 c = simp (← c .before .before .before .start .ensures, c .before .error .given .1)
+returns-2 c = (simp (← c .before .before .before .start .ensures, c .before .error .given .1), simp (← c .before .before .before .start .ensures, c .before .error .given .1))
 
 pub start-step-spec : {M : Type 1} → statement M
 start-step-spec =

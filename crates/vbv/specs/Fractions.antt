@@ -1,0 +1,21 @@
+-- Annex C's quantities as the standard has them, in fractions of a bit and of a tick: R bits in 90,000 ticks, a field period of frd / (2 × frn) s.
+-- What specs/Annex.antt counts in 1/unit bit is these, exactly (proofs/Fractions.antt). Assumes nothing.
+use mathlib.Core.Path.{_≡_}
+use Prim.Native.Nat.{ℕ, _+_, _*_, _≤_, _<_}
+use Rattle.vbv.specs.Annex.{unit, firstDelivered, gain, expectedDelay}
+use Rattle.vbv.specs.declared.VbvParams.{VbvParams}
+
+pub record Fractions (p : VbvParams) : Type 0 where
+  -- position + delay × R / 90,000 bits
+  pub first-is : (position delay : ℕ) → 90000 * firstDelivered p position delay ≡ (90000 * position + delay * p .«bit_rate») * unit p
+  -- periods × R × frd / (2 × frn) bits
+  pub gain-is : (periods : ℕ) → 2 * p .frn * gain p periods ≡ periods * p .«bit_rate» * p .frd * unit p
+  -- (d / unit − position) × 90,000 / R ticks lie from expected − 1/2 on, and below expected + 1/2
+  pub expected-low : (position d : ℕ) → position * unit p ≤ d
+      → 2 * expectedDelay p position d * p .«bit_rate» * unit p + 180000 * position * unit p ≤ 180000 * d + p .«bit_rate» * unit p
+  pub expected-high : (position d : ℕ) → position * unit p ≤ d
+      → 180000 * d + p .«bit_rate» * unit p < (2 * expectedDelay p position d + 2) * p .«bit_rate» * unit p + 180000 * position * unit p
+
+-- what is owed: for all parameters of at least 1
+abbrev pub Owed : Type 0
+Owed = (p : VbvParams) → 1 ≤ p .«bit_rate» → 1 ≤ p .frn → Fractions p
