@@ -28,9 +28,8 @@ use Rattle.headers.proofs.StartCode.{prefix-true}
 use Rattle.headers.proofs.Sequence.{sequence-append}
 use Rattle.picture_header.proofs.OtherDelay.{OtherDelay, delayed, delayed-delay, picture-delayed}
 use Rattle.vbv.specs.Patch.{startsPicture, patched}
+use Rattle.bits.specs.Refusals.{Answer as Told, value, refused}
 use Rattle.vbv.specs.Answers.{frameRate}
-use Rattle.vbv.specs.declared.FrameRate.{FrameRate}
-use Rattle.vbv.specs.declared.FrameRate.the-variants.{Rate, Refused as NoRate}
 use Rattle.vbv.specs.declared.VbvParams.{VbvParams}
 use Rattle.vbv.specs.declared.RemovalInterval.{RemovalInterval}
 use Rattle.vbv.proofs.Patching.{starts-is, patched-length, patched-front, patched-rest, patched-below, patched-delay, patched-before, patched-behind}
@@ -47,7 +46,6 @@ use Rattle.verify.specs.Coded.{told}
 use Rattle.verify.specs.Sequence.{declared}
 use Rattle.verify.specs.declared.VbvStandard.the-variants.{Mpeg2}
 use Rattle.verify.specs.declared.Told.the-variants.{Delay}
-use Rattle.verify.specs.declared.Declared.the-variants.{Params}
 use Rattle.layers.specs.declared.PictureKind.{PictureKind}
 use Rattle.layers.specs.Layer.{slices, isExtension, layerCodes, layerFits}
 use Rattle.layers.specs.Headers.{opensHeaders, headerCode, sameRate, sameParams, parsed, sequenceFirst, sequenceFits, headersFit}
@@ -254,12 +252,12 @@ module _ (p : VbvParams) (placed : Bool) where
       piece-behind (b ∷ s) x at (headers-open f) (every-by headerCode notPicture header-no-picture (codes (b ∷ s)) (f .all-codes)) q
 
 -- the first headers declare the parameters
-rate-is : (p : VbvParams) (r : FrameRate) → sameRate p r ≡ true → r ≡ Rate (p .frn) (p .frd)
+rate-is : (p : VbvParams) (r : Told (ℕ × ℕ)) → sameRate p r ≡ true → r ≡ value (p .frn, p .frd)
 unfolding sameRate
-rate-is p (Rate n d) e =
-    let b = both-true (eqb n (p .frn)) (eqb d (p .frd)) e in
-    rw (eqb-true n (p .frn) (b .0), eqb-true d (p .frd) (b .1))
-rate-is p (NoRate x) e = cc
+rate-is p (value f) e =
+    let b = both-true (eqb (f .0) (p .frn)) (eqb (f .1) (p .frd)) e in
+    rw (← eqb-true (f .0) (p .frn) (b .0), ← eqb-true (f .1) (p .frd) (b .1))
+rate-is p (refused n k c x) e = cc
 
 parsed-is : (a : Answer) → parsed a ≡ true → a ≡ SequenceParsed
 unfolding parsed
@@ -269,7 +267,7 @@ parsed-is (SequenceRefused x) e = cc
 record SameParams (p : VbvParams) (q : Mpeg2Sequence) : Type 0 where
   rate : 400 * q .«bit_rate» ≡ p .«bit_rate»
   buffer : 16384 * q .«vbv_buffer_size» ≡ p .«buffer_size_bits»
-  frames : frameRate (q .header .«frame_rate_code») ≡ Rate (p .frn) (p .frd)
+  frames : frameRate (q .header .«frame_rate_code») ≡ value (p .frn, p .frd)
 
 params-are : (p : VbvParams) (q : Mpeg2Sequence) → sameParams p q ≡ true → SameParams p q
 unfolding sameParams
@@ -286,7 +284,7 @@ sequence-first c cs e =
     let b = both-true (eqb (c .code) 0xB3) _ (a .1) in
     eqb-true (c .code) 0xB3 (b .0)
 
-pub headers-declared : (p : VbvParams) (h : List ℕ) → headersFit p false h ≡ true → (x : List ℕ) → declared Mpeg2 (h ++ x) ≡ Params p
+pub headers-declared : (p : VbvParams) (h : List ℕ) → headersFit p false h ≡ true → (x : List ℕ) → declared Mpeg2 (h ++ x) ≡ value p
 unfolding sequenceFits sequenceFirst
 headers-declared p [] e x =
     let c = conditions p false [] e .3 in

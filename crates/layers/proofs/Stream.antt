@@ -15,12 +15,12 @@ use Rattle.scan.specs.Pictures.{pictures}
 use Rattle.scan.proofs.Laid.{Tail, laid-pictures}
 use Rattle.scan.proofs.Laying.{Piece, Pieces, none, more, laid, laidPics, laid-none, laid-more, pics-none, pics-last, pics-more}
 use Rattle.scan.proofs.Pieces.{piece-zeros}
-use Rattle.verify.specs.Coded.{told, read, headers, codedPictures}
+use Rattle.verify.specs.Coded.{told, headers, codedPictures}
+use Rattle.bits.specs.Refusals.{value}
 use Rattle.verify.specs.Sequence.{declared}
 use Rattle.verify.specs.declared.VbvStandard.the-variants.{Mpeg2}
 use Rattle.verify.specs.declared.CodedPicture.{CodedPicture}
 use Rattle.verify.specs.declared.Told.the-variants.{Delay}
-use Rattle.verify.specs.declared.Declared.the-variants.{Params}
 use Rattle.verify.proofs.Coding.{read-none, read-more, coded-read}
 use Rattle.layers.specs.declared.PictureKind.{PictureKind}
 use Rattle.layers.specs.Headers.{headersFit}
@@ -137,7 +137,7 @@ part-told {p} {placed} {x} f before t =
 
 -- forward: of the parts behind any bytes
 headers-read : {p : VbvParams} {placed : Bool} {xs : List Part} (f : PartsFit p placed xs) (before t : List ℕ)
-    → headers Mpeg2 (before ++ stream xs t) (laidPics (length before) (pieces f) (length t)) ≡ read (coded (length before) xs (length t))
+    → headers Mpeg2 (before ++ stream xs t) (laidPics (length before) (pieces f) (length t)) ≡ value (coded (length before) xs (length t))
 unfolding stream pieces coded
 headers-read no-parts before t = rw (pics-none (length before) (length t)) (read-none Mpeg2 _)
 headers-read (part {x} f no-parts) before t =
@@ -150,11 +150,11 @@ headers-read (part {x} f (part {x = y} {xs = ys} g gs)) before t =
     (rw (append-assoc before (bytesOf x) s, length-append before (bytesOf x)) at (headers-read (part g gs) (before ++ bytesOf x) t)))
 
 pub stream-coded : {p : VbvParams} {placed : Bool} {xs : List Part} {t : List ℕ}
-    → PartsFit p placed xs → Tail t → codedPictures Mpeg2 (stream xs t) ≡ read (coded 0 xs (length t))
+    → PartsFit p placed xs → Tail t → codedPictures Mpeg2 (stream xs t) ≡ value (coded 0 xs (length t))
 stream-coded {p} {placed} {xs} {t} f w =
     coded-read Mpeg2 (stream xs t) (ap pictures (stream-laid f t) ∙ laid-pictures (pieces f) t w) (headers-read f [] t)
 
 pub stream-declared : {p : VbvParams} {x : Part} → PartFits p false x → (xs : List Part) (t : List ℕ)
-    → declared Mpeg2 (stream (x ∷ xs) t) ≡ Params p
+    → declared Mpeg2 (stream (x ∷ xs) t) ≡ value p
 stream-declared {p} {x} f xs t =
     rw (stream-more x xs t, ← part-then x (stream xs t)) (headers-declared p (x .headers) (f .headers-fit) _)

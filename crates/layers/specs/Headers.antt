@@ -9,9 +9,8 @@ use Rattle.headers.specs.Sequence.{sequence}
 use Rattle.headers.specs.declared.sequence_header.Answer.{Answer}
 use Rattle.headers.specs.declared.sequence_header.Answer.the-variants.{Parsed, Refused as HeaderRefused}
 use Rattle.headers.specs.declared.sequence_extension.Mpeg2Sequence.{Mpeg2Sequence}
+use Rattle.bits.specs.Refusals.{Answer as Told, value, refused}
 use Rattle.vbv.specs.Answers.{frameRate}
-use Rattle.vbv.specs.declared.FrameRate.{FrameRate}
-use Rattle.vbv.specs.declared.FrameRate.the-variants.{Rate, Refused as NoRate}
 use Rattle.vbv.specs.declared.VbvParams.{VbvParams}
 use Rattle.scan.specs.Codes.{Code, codes, every, endsPrefix}
 use Rattle.scan.specs.Pictures.{notSequence}
@@ -26,9 +25,9 @@ unfoldable pub headerCode : ℕ → Bool
 headerCode c = eqb c 0xB2 || (eqb c 0xB3 || (eqb c 0xB5 || eqb c 0xB8))
 
 -- this frame rate
-unfoldable pub sameRate : VbvParams → FrameRate → Bool
-sameRate p (Rate n d) = eqb n (p .frn) && eqb d (p .frd)
-sameRate p (NoRate e) = false
+unfoldable pub sameRate : VbvParams → Told (ℕ × ℕ) → Bool
+sameRate p (value f) = eqb (f .0) (p .frn) && eqb (f .1) (p .frd)
+sameRate p (refused n k c e) = false
 
 -- this R, B and rate, frame rate extensions 0
 unfoldable pub sameParams : VbvParams → Mpeg2Sequence → Bool

@@ -12,7 +12,9 @@ use Rattle.bits.proofs.Over.{over-sets}
 use Rattle.verify.specs.declared.VbvPictureRecord.{VbvPictureRecord}
 use Rattle.verify.specs.declared.VbvStandard.{VbvStandard}
 use Rattle.verify.specs.declared.recorder.VbvRecorder.{VbvRecorder}
-use Rattle.verify.specs.Check.{verdict, verified, records}
+use Rattle.verify.specs.declared.VbvVerified.{VbvVerified}
+use Rattle.verify.specs.Answers.{verifiedAnswer}
+use Rattle.verify.specs.Check.{verdict, reported, records}
 use Rattle.verify.specs.Sequence.{declared}
 use Rattle.verify.specs.Recorder.{recordCount, recorderOf, nextRecord}
 use Rattle.verify.proofs.Recording.{Yields, no-more, one-more, records-placed, count-is}
@@ -55,13 +57,14 @@ yielded no-more j ys = refl
 yielded {s} (one-more {w} {r} {rs} e y) j ys = stored-front s w j (length rs) ys ∙ rw e (yielded y (suc j) (set ys j r))
 
 -- as many as the answer has
-pub stored-is : (standard : VbvStandard) (s : List ℕ) (ys : List VbvPictureRecord)
-    → storedOf s (recorderOf standard (declared standard s)) (recordCount (verified (verdict standard s (length ys)))) ys ≡ over (records (verdict standard s (length ys))) ys
-stored-is standard s ys =
+pub stored-is : (standard : VbvStandard) (s : List ℕ) (ys : List VbvPictureRecord) (r : VbvVerified) → verifiedAnswer r ≡ reported (verdict standard s (length ys))
+    → storedOf s (recorderOf standard (declared standard s)) (recordCount r) ys ≡ over (records (verdict standard s (length ys))) ys
+stored-is standard s ys r h =
     let w = recorderOf standard (declared standard s) in
     let rs = records (verdict standard s (length ys)) in
     let k = records-placed standard s (length ys) in
-    rw (count-is (verdict standard s (length ys)), from-first s w (length rs) ys) (yielded (k .each) 0 ys ∙ over-sets rs ys (k .few))
+    rw (count-is r (verdict standard s (length ys)) h, from-first s w (length rs) ys) (yielded (k .each) 0 ys ∙ over-sets rs ys (k .few))
 
-pub count-few : (standard : VbvStandard) (s : List ℕ) (places : ℕ) → recordCount (verified (verdict standard s places)) ≤ places
-count-few standard s places = omega (arith, count-is (verdict standard s places), records-placed standard s places .few)
+pub count-few : (standard : VbvStandard) (s : List ℕ) (places : ℕ) (r : VbvVerified) → verifiedAnswer r ≡ reported (verdict standard s places)
+    → recordCount r ≤ places
+count-few standard s places r h = omega (arith, count-is r (verdict standard s places) h, records-placed standard s places .few)

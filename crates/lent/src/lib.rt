@@ -2,7 +2,8 @@
 ghost use mathlib.Core.Path.{_≡_};
 ghost use lib.ListN.{length};
 ghost use Rattle.bits.specs.Answers.{over};
-ghost use Rattle.verify.specs.Check.{verdict, verified, records as recordsOf};
+ghost use Rattle.verify.specs.Answers.{verifiedAnswer};
+ghost use Rattle.verify.specs.Check.{verdict, reported, records as recordsOf};
 use verify::VbvPictureRecord;
 use verify::VbvRecorder;
 use verify::VbvStandard;
@@ -15,7 +16,7 @@ pub fn verify_cbr_stream(
     standard: VbvStandard,
     records: &mut [VbvPictureRecord],
 ) -> VbvVerified
-    ensures { λ r. ⌜ (r ≡ verified (verdict standard (now (stream .entry)) (length (now (records .entry))))) × (now (records .exit) ≡ over (recordsOf (verdict standard (now (stream .entry)) (length (now (records .entry))))) (now (records .entry))) ⌝ }
+    ensures { λ r. ⌜ (verifiedAnswer r ≡ reported (verdict standard (now (stream .entry)) (length (now (records .entry))))) × (now (records .exit) ≡ over (recordsOf (verdict standard (now (stream .entry)) (length (now (records .entry))))) (now (records .entry))) ⌝ }
 {
     let answer = verify::check_stream(stream, standard, records.len());
     let count = verify::record_count(answer);

@@ -6,19 +6,19 @@ use mathlib.Core.List.{List, [], _∷_}
 use Prim.Native.Nat.{ℕ, suc, _+_, _-_, _*_, _^_, _≤_}
 use native.Mathlib.Omega.{arith}
 use lib.ListN.{length}
-use borrow.Author.Tests.{le-leb, le-ltb, ne-eqb}
+use borrow.Author.Tests.{le-ltb, ne-eqb}
 use Rattle.bits.specs.Bits.{pick}
+use Rattle.bits.specs.Refusals.{value}
 use Rattle.vbv.specs.Annex.{firstDelivered, gain, overflows, beyond, expectedDelay, occupancy}
 use Rattle.vbv.specs.Model.{paramsFit, periods}
 use Rattle.vbv.specs.declared.VbvParams.{VbvParams}
 use Rattle.verify.specs.declared.VbvStandard.{VbvStandard}
 use Rattle.verify.specs.declared.CodedPicture.{CodedPicture}
-use Rattle.verify.specs.declared.Declared.the-variants.{Params}
 use Rattle.verify.specs.declared.VbvPictureRecord.{VbvPictureRecord}
 use Rattle.verify.specs.Sequence.{declared}
-use Rattle.verify.specs.Coded.{read, codedPictures}
-use Rattle.verify.specs.Run.{apart, recorded, recordOf, removal, ran, onward, after, run}
-use Rattle.verify.specs.Check.{yes, judged, withPictures, withParams, verdict}
+use Rattle.verify.specs.Coded.{codedPictures}
+use Rattle.verify.specs.Run.{apart, recordOf, removal, run}
+use Rattle.verify.specs.Check.{withPictures, verdict}
 
 -- a picture whose coded delay is the expected one, in a buffer that neither overflows nor underflows
 pub record Passed (p : VbvParams) (previous d : ℕ) (c : CodedPicture) : Type 0 where
@@ -42,25 +42,25 @@ unfolding apart
 not-apart d = simp (le-ltb (d + 1) d (omega arith))
 
 passed-record : {p : VbvParams} {previous d : ℕ} {c : CodedPicture} (n : ℕ) → Passed p previous d c
-    → removal p n previous d c ≡ recorded (exactRecord p previous d c)
+    → removal p n previous d c ≡ value (exactRecord p previous d c)
 unfolding removal recordOf pick
 passed-record {c = c} n h =
     rw (h .in-time, ← h .delay-exact, le-ltb 65534 (c .«vbv_delay») (h .delay-told), not-apart (c .«vbv_delay»), h .no-overflow, h .no-underflow)
 
-pub run-none : (p : VbvParams) (n previous d : ℕ) → run p n previous d [] ≡ ran []
+pub run-none : (p : VbvParams) (n previous d : ℕ) → run p n previous d [] ≡ value []
 unfolding run
 run-none p n previous d = refl
 
 pub run-passed : {p : VbvParams} {previous d : ℕ} {c : CodedPicture} (n : ℕ) (cs : List CodedPicture) {rs : List VbvPictureRecord} → Passed p previous d c
-    → run p (suc n) (c .«end_bits») (d + gain p (periods (c .interval))) cs ≡ ran rs
-    → run p n previous d (c ∷ cs) ≡ ran (exactRecord p previous d c ∷ rs)
-unfolding run after onward
+    → run p (suc n) (c .«end_bits») (d + gain p (periods (c .interval))) cs ≡ value rs
+    → run p n previous d (c ∷ cs) ≡ value (exactRecord p previous d c ∷ rs)
+unfolding run
 run-passed n cs h e = rw (passed-record n h, e)
 
 pub accepted : (standard : VbvStandard) (s : List ℕ) {p : VbvParams} {c : CodedPicture} {cs : List CodedPicture} {r : VbvPictureRecord} {rs : List VbvPictureRecord}
-    (places : ℕ) → 8 * length s ≤ 2 ^ 48 → declared standard s ≡ Params p → codedPictures standard s ≡ read (c ∷ cs) → c .«vbv_delay» ≤ 65534
-    → paramsFit p ≡ true → length (c ∷ cs) ≤ places → run p 0 0 (firstDelivered p (c .«pos_bits») (c .«vbv_delay»)) (c ∷ cs) ≡ ran (r ∷ rs)
-    → verdict standard s places ≡ yes p r rs
-unfolding verdict withParams withPictures judged pick
+    (places : ℕ) → 8 * length s ≤ 2 ^ 48 → declared standard s ≡ value p → codedPictures standard s ≡ value (c ∷ cs) → c .«vbv_delay» ≤ 65534
+    → paramsFit p ≡ true → length (c ∷ cs) ≤ places → run p 0 0 (firstDelivered p (c .«pos_bits») (c .«vbv_delay»)) (c ∷ cs) ≡ value (r ∷ rs)
+    → verdict standard s places ≡ value (record { params = p; first = r; others = rs })
+unfolding verdict withPictures pick
 accepted standard s {c = c} {cs = cs} places l d h e f m t =
-    rw (le-leb _ _ l, d, h, ne-eqb (c .«vbv_delay») 0xFFFF (λ z. omega arith), f, le-leb (length (c ∷ cs)) places m, t)
+    rw (le-ltb _ _ l, d, h, ne-eqb (c .«vbv_delay») 0xFFFF (λ z. omega arith), f, le-ltb places (length (c ∷ cs)) m, t)

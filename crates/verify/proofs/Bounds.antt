@@ -6,6 +6,7 @@ use Prim.Native.Nat.{ℕ, _^_, _≤_, _<_}
 use mathlib.Core.List.{List, [], _∷_}
 use native.Mathlib.Omega.{arith}
 use lib.ListN.{length}
+use Rattle.bits.specs.Refusals.{Answer, value, refused}
 use Rattle.vbv.specs.Model.{paramsFit}
 use Rattle.vbv.specs.declared.VbvParams.{VbvParams}
 use Rattle.vbv.proofs.Fitting.{params-fit}
@@ -14,9 +15,11 @@ use Rattle.verify.specs.declared.VbvStandard.{VbvStandard}
 use Rattle.verify.specs.declared.CodedPicture.{CodedPicture}
 use Rattle.verify.specs.declared.VbvPictureRecord.{VbvPictureRecord}
 use Rattle.verify.specs.declared.VbvStreamReport.{VbvStreamReport}
+use Rattle.verify.specs.declared.VbvVerified.{VbvVerified}
 use Rattle.verify.specs.declared.VbvVerified.the-variants.{Report}
 use Rattle.verify.specs.Run.{recordOf}
-use Rattle.verify.specs.Check.{Verdict, no, yes, verdict, verified, records}
+use Rattle.verify.specs.Check.{Accepted, verdict, reported, records}
+use Rattle.verify.specs.Answers.{verifiedAnswer}
 use Rattle.verify.specs.Recorder.{recordCount}
 use Rattle.verify.proofs.Rising.{Placed}
 use Rattle.verify.proofs.Course.{WasRecorded}
@@ -26,9 +29,9 @@ use Rattle.verify.proofs.Removals.{Removals, was-accepted}
 
 -- ---- the number of records
 
-pub picture-count : (v : Verdict) (x : VbvStreamReport) → verified v ≡ Report x → x .pictures ≡ length (records v)
+pub picture-count : (r : VbvVerified) (v : Answer Accepted) (x : VbvStreamReport) → verifiedAnswer r ≡ reported v → r ≡ Report x → x .pictures ≡ length (records v)
 unfolding recordCount
-picture-count v x h = ap recordCount (sym h) ∙ count-is v
+picture-count r v x h e = ap recordCount (sym e) ∙ count-is r v h
 
 -- ---- their size
 
@@ -59,9 +62,8 @@ module _ {p : VbvParams} (f : paramsFit p ≡ true) where
   removals-small (rv.more q w t) = some (removal-small q w) (removals-small t)
 
 pub records-small : (standard : VbvStandard) (s : List ℕ) (places : ℕ) → AllSmall (records (verdict standard s places))
-unfolding records
 records-small standard s places = go (verdict standard s places) refl
   where
-    go : (v : Verdict) → verdict standard s places ≡ v → AllSmall (records v)
-    go (no e) h = none
-    go (yes p r rs) h = let a = was-accepted standard s places h in removals-small (a .params-fit) (a .all)
+    go : (v : Answer Accepted) → verdict standard s places ≡ v → AllSmall (records v)
+    go (refused n k x y) h = none
+    go (value v) h = let a = was-accepted standard s places h in removals-small (a .params-fit) (a .all)

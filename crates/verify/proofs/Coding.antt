@@ -4,26 +4,27 @@ use mathlib.Core.Path.{_≡_, refl}
 use Prim.Native.Nat.{ℕ, _+_, _*_}
 use mathlib.Core.List.{List, [], _∷_}
 use lib.ListN.{drop}
+use Rattle.bits.specs.Refusals.{value}
 use Rattle.vbv.specs.declared.RemovalInterval.{RemovalInterval}
 use Rattle.scan.specs.Pictures.{Pic, pictures}
-use Rattle.verify.specs.Coded.{told, read, oneMore, codedOf, behind, headers, codedPictures}
+use Rattle.verify.specs.Coded.{told, codedOf, behind, headers, codedPictures}
 use Rattle.verify.specs.declared.VbvStandard.{VbvStandard}
 use Rattle.verify.specs.declared.CodedPicture.{CodedPicture}
 use Rattle.verify.specs.declared.Told.the-variants.{Delay}
 
 module _ (standard : VbvStandard) (s : List ℕ) where
-  pub read-none : headers standard s [] ≡ read []
+  pub read-none : headers standard s [] ≡ value []
   unfolding headers
   read-none = refl
 
   -- a picture whose header is read, before others
   pub read-more : (start end d : ℕ) (i : RemovalInterval) (qs : List Pic) (cs : List CodedPicture)
-      → told standard (drop start s) ≡ Delay d i → headers standard s qs ≡ read cs
+      → told standard (drop start s) ≡ Delay d i → headers standard s qs ≡ value cs
       → headers standard s (record { start = start; end = end } ∷ qs)
-      ≡ read (record { «pos_bits» = 8 * (start + 4); «end_bits» = 8 * end; «vbv_delay» = d; interval = i } ∷ cs)
-  unfolding headers behind oneMore codedOf
+      ≡ value (record { «pos_bits» = 8 * (start + 4); «end_bits» = 8 * end; «vbv_delay» = d; interval = i } ∷ cs)
+  unfolding headers behind codedOf
   read-more start end d i qs cs e r = rw (e, r)
 
-  pub coded-read : {qs : List Pic} {cs : List CodedPicture} → pictures s ≡ qs → headers standard s qs ≡ read cs → codedPictures standard s ≡ read cs
+  pub coded-read : {qs : List Pic} {cs : List CodedPicture} → pictures s ≡ qs → headers standard s qs ≡ value cs → codedPictures standard s ≡ value cs
   unfolding codedPictures
   coded-read e r = rw e r

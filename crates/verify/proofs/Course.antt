@@ -7,6 +7,7 @@ use Prim.Native.Nat.{ℕ, suc, _+_, _≤_}
 use native.Mathlib.Omega.{arith}
 use native.Mathlib.Numerals.{add-one}
 use borrow.Author.Tests.{ltb-false}
+use Rattle.bits.specs.Refusals.{Answer, value, refused, andThen}
 use Rattle.vbv.specs.Annex.{gain, overflows, beyond, expectedDelay}
 use Rattle.vbv.specs.Model.{paramsFit, delivered, modelFits, afterRemoval, periods, nextDelivered}
 use Rattle.vbv.specs.Steps.{EndFits}
@@ -18,12 +19,11 @@ use Rattle.vbv.proofs.Laws.{fits-params, occupancy-most, Removed as WasRemoved,
 use Rattle.vbv.proofs.Told.{next-told}
 use Rattle.verify.specs.declared.CodedPicture.{CodedPicture}
 use Rattle.verify.specs.declared.VbvPictureRecord.{VbvPictureRecord}
-use Rattle.verify.specs.declared.VbvVerifyError.{VbvVerifyError}
-use Rattle.verify.specs.declared.Removed.the-variants.{Recorded, Refused}
-use Rattle.verify.specs.Run.{Removal, refused, recorded, recordOf, removal, Run, stopped, ran, onward, after, run}
+use Rattle.verify.specs.declared.Removed.the-variants.{Recorded}
+use Rattle.verify.specs.Run.{recordOf, removal, run}
 use Rattle.verify.specs.Walk.{removed}
 use Rattle.verify.proofs.Rising.{Placed, Rising, last, next}
-use Rattle.verify.proofs.Removal.{removedBy, removal-is}
+use Rattle.verify.proofs.Removal.{removedAnswer, withModel, removal-is, RefusedBy, refused-by, recorded-by}
 
 -- a started model
 pub record Ready (p : VbvParams) (m : VbvCbrModel) : Type 0 where
@@ -40,10 +40,10 @@ pub record WasRecorded (p : VbvParams) (previous d : ℕ) (c : CodedPicture) (r 
   pub no-underflow : beyond p (c .«end_bits») d ≡ false
   pub record-is : r ≡ recordOf p previous d c
 
-recorded-not : {e : VbvVerifyError} {r : VbvPictureRecord} → refused e ≡ recorded r → ⊥
+recorded-not : {n k x y : ℕ} {r : VbvPictureRecord} → refused n k x y ≡ value r → ⊥
 recorded-not h = let z : _≡_ {A = ℕ} 0 1 = cc in omega arith
 
-pub was-recorded : (p : VbvParams) (n previous d : ℕ) (c : CodedPicture) (r : VbvPictureRecord) → removal p n previous d c ≡ recorded r
+pub was-recorded : (p : VbvParams) (n previous d : ℕ) (c : CodedPicture) (r : VbvPictureRecord) → removal p n previous d c ≡ value r
     → WasRecorded p previous d c r
 unfolding removal
 was-recorded p n previous d c r h =
@@ -59,18 +59,18 @@ module _ {p : VbvParams} {m : VbvCbrModel} (y : Ready p m) {c : CodedPicture} (q
   end-fits =
       record { end-far = q .end-far; end-low = omega (arith, q .grows); count = omega (arith, q .grows, q .end-far, y .few) }
 
-  by-annex : removed m c ≡ removedBy m c (removal p (m .removed) (m .«prev_end_bits») (delivered m) c)
+  by-annex : removedAnswer (removed m c) ≡ withModel m c (removal p (m .removed) (m .«prev_end_bits») (delivered m) c)
   by-annex = rw (← y .kept) (removal-is m c (y .fits) (y .on) (q .position-far) end-fits)
 
   -- the model behind a removal
-  step : {r : VbvPictureRecord} → removal p (m .removed) (m .«prev_end_bits») (delivered m) c ≡ recorded r
+  step : {r : VbvPictureRecord} → removal p (m .removed) (m .«prev_end_bits») (delivered m) c ≡ value r
       → WasRemoved m (c .«end_bits») (c .interval) (afterRemoval m (c .«end_bits») (nextDelivered m (c .interval)))
   step {r} h =
       let w = was-recorded p (m .removed) (m .«prev_end_bits») (delivered m) c r h in
       was-removed _ _ _ _
       (removes m (c .«end_bits») (c .interval) (y .fits) (y .on) (fitting-end m (c .«end_bits») end-fits) (rw (← y .kept) at (w .no-overflow)) (rw (← y .kept) at (w .no-underflow)))
 
-  within : {r : VbvPictureRecord} → removal p (m .removed) (m .«prev_end_bits») (delivered m) c ≡ recorded r
+  within : {r : VbvPictureRecord} → removal p (m .removed) (m .«prev_end_bits») (delivered m) c ≡ value r
       → r .«occupancy_before_bits» ≤ p .«buffer_size_bits»
   unfolding recordOf
   within {r} h =
@@ -79,23 +79,23 @@ module _ {p : VbvParams} {m : VbvCbrModel} (y : Ready p m) {c : CodedPicture} (q
       rw (w .record-is) (occupancy-most p f (m .«prev_end_bits») (delivered m) (w .no-overflow))
 
 -- the course: each removal's record and the model behind it, up to the end or a refusal
-pub data Course (p : VbvParams) : VbvCbrModel → List CodedPicture → Run → Type 0 where
-  ended : {m : VbvCbrModel} → Course p m [] (ran [])
-  ceased : {m : VbvCbrModel} {c : CodedPicture} {cs : List CodedPicture} {e : VbvVerifyError} → removed m c ≡ Refused e → Course p m (c ∷ cs) (stopped e)
+pub data Course (p : VbvParams) : VbvCbrModel → List CodedPicture → Answer (List VbvPictureRecord) → Type 0 where
+  ended : {m : VbvCbrModel} → Course p m [] (value [])
+  ceased : {m : VbvCbrModel} {c : CodedPicture} {cs : List CodedPicture} {n k x y : ℕ} → RefusedBy (removed m c) n k x y → Course p m (c ∷ cs) (refused n k x y)
   went : {m k : VbvCbrModel} {c : CodedPicture} {cs : List CodedPicture} {r : VbvPictureRecord} {rs : List VbvPictureRecord}
-      → removed m c ≡ Recorded r k → r .«occupancy_before_bits» ≤ p .«buffer_size_bits» → Course p k cs (ran rs) → Course p m (c ∷ cs) (ran (r ∷ rs))
-  halted : {m k : VbvCbrModel} {c : CodedPicture} {cs : List CodedPicture} {r : VbvPictureRecord} {e : VbvVerifyError}
-      → removed m c ≡ Recorded r k → Course p k cs (stopped e) → Course p m (c ∷ cs) (stopped e)
+      → removed m c ≡ Recorded r k → r .«occupancy_before_bits» ≤ p .«buffer_size_bits» → Course p k cs (value rs) → Course p m (c ∷ cs) (value (r ∷ rs))
+  halted : {m k : VbvCbrModel} {c : CodedPicture} {cs : List CodedPicture} {r : VbvPictureRecord} {n i x y : ℕ}
+      → removed m c ≡ Recorded r k → Course p k cs (refused n i x y) → Course p m (c ∷ cs) (refused n i x y)
 
-goes : {p : VbvParams} {m k : VbvCbrModel} {c : CodedPicture} {cs : List CodedPicture} {r : VbvPictureRecord} (o : Run)
-    → removed m c ≡ Recorded r k → r .«occupancy_before_bits» ≤ p .«buffer_size_bits» → Course p k cs o → Course p m (c ∷ cs) (onward r o)
-unfolding onward
-goes (stopped e) h b t = halted h t
-goes (ran rs) h b t = went h b t
+goes : {p : VbvParams} {m k : VbvCbrModel} {c : CodedPicture} {cs : List CodedPicture} {r : VbvPictureRecord} (o : Answer (List VbvPictureRecord))
+    → removed m c ≡ Recorded r k → r .«occupancy_before_bits» ≤ p .«buffer_size_bits» → Course p k cs o
+    → Course p m (c ∷ cs) (andThen o (λ rs. value (r ∷ rs)))
+goes (refused n i x y) h b t = halted h t
+goes (value rs) h b t = went h b t
 
 pub course : {p : VbvParams} {m : VbvCbrModel} {previous : ℕ} {cs : List CodedPicture} → Ready p m → m .«prev_end_bits» ≡ previous → Rising previous cs
     → Course p m cs (run p (m .removed) (m .«prev_end_bits») (delivered m) cs)
-unfolding run after removedBy
+unfolding run
 course y x last = ended
 course {p} {m} y x (next {previous} {c} {cs} q t) =
     go (λ k z w. course z w t) (rw x q) (removal p (m .removed) (m .«prev_end_bits») (delivered m) c) refl
@@ -104,10 +104,10 @@ course {p} {m} y x (next {previous} {c} {cs} q t) =
     k = afterRemoval m (c .«end_bits») (nextDelivered m (c .interval))
 
     go : ((k : VbvCbrModel) → Ready p k → k .«prev_end_bits» ≡ c .«end_bits» → Course p k cs (run p (k .removed) (k .«prev_end_bits») (delivered k) cs))
-        → Placed (m .«prev_end_bits») c → (o : Removal) → removal p (m .removed) (m .«prev_end_bits») (delivered m) c ≡ o
-        → Course p m (c ∷ cs) (after o (run p (suc (m .removed)) (c .«end_bits») (delivered m + gain p (periods (c .interval))) cs))
-    go ih q (refused e) h = ceased {e = e} (by-annex y q ∙ rw h)
-    go ih q (recorded r) h =
+        → Placed (m .«prev_end_bits») c → (o : Answer VbvPictureRecord) → removal p (m .removed) (m .«prev_end_bits») (delivered m) c ≡ o
+        → Course p m (c ∷ cs) (andThen o (λ r. andThen (run p (suc (m .removed)) (c .«end_bits») (delivered m + gain p (periods (c .interval))) cs) (λ rs. value (r ∷ rs))))
+    go ih q (refused n i u v) h = ceased {n = n} {k = i} {x = u} {y = v} (refused-by (removed m c) (by-annex y q ∙ rw h))
+    go ih q (value r) h =
         let w = step y q h in
         let z : Ready p k
         = record { fits = w .fits; on = w .is-started; kept = w .params-kept ∙ y .kept; few = rw (w .count-is, w .end-is) (omega (arith, q .grows, y .few)) } in
@@ -115,6 +115,6 @@ course {p} {m} y x (next {previous} {c} {cs} q t) =
         let e : run p (k .removed) (k .«prev_end_bits») (delivered k) cs
         ≡ run p (suc (m .removed)) (c .«end_bits») (delivered m + gain p (periods (c .interval))) cs = cc (add-one (m .removed)) in
         goes (run p (suc (m .removed)) (c .«end_bits») (delivered m + gain p (periods (c .interval))) cs)
-        (by-annex y q ∙ rw h)
+        (recorded-by (removed m c) (by-annex y q ∙ rw h))
         (within y q h)
-        (subst (λ (o : Run). Course p k cs o) e (ih k z (w .end-is)))
+        (subst (λ (o : Answer (List VbvPictureRecord)). Course p k cs o) e (ih k z (w .end-is)))

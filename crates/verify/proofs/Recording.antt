@@ -7,6 +7,7 @@ use native.Mathlib.Omega.{arith}
 use lib.ListN.{length}
 use borrow.Author.Tests.{lt-leb, le-leb}
 use Rattle.bits.specs.Bits.{pick}
+use Rattle.bits.specs.Refusals.{Answer, value, refused}
 use Rattle.headers.specs.declared.Error.{Error}
 use Rattle.vbv.specs.declared.VbvParams.{VbvParams}
 use Rattle.vbv.specs.declared.VbvCbrModel.{VbvCbrModel}
@@ -22,8 +23,10 @@ use Rattle.verify.specs.declared.recorder.VbvRecorder.{VbvRecorder}
 use Rattle.scan.specs.Pictures.{Pic}
 use Rattle.scan.specs.Walk.{nextPicture}
 use Rattle.verify.specs.Sequence.{declared}
-use Rattle.verify.specs.Coded.{read}
-use Rattle.verify.specs.Check.{Verdict, no, yes, verdict, verified, records}
+use Rattle.verify.specs.Check.{Accepted, verdict, reportOf, reported, records}
+use Rattle.verify.specs.Answers.{verifiedAnswer}
+use Rattle.verify.specs.declared.VbvVerified.{VbvVerified}
+use Rattle.verify.specs.declared.VbvVerified.the-variants.{Report, Refused}
 use Rattle.verify.specs.Walk.{codedAt, advanced, ifCoded}
 use Rattle.verify.specs.Recorder.{recorderOf, recordCount, noRecord, lastOf, stayed, wentOn, recordedBy, nextRecord}
 use Rattle.scan.proofs.Pictures.{picturesAt, walked as walked-on, pictures-done, pictures-walk}
@@ -77,7 +80,7 @@ abbrev standing : VbvStandard → VbvParams → ℕ → Progress → VbvRecorder
 standing standard p i st = record { standard = standard; params = p; at = i; progress = st }
 
 yields : {standard : VbvStandard} {s : List ℕ} → length s ≤ 35184372088832 → (p : VbvParams) {qs : List Pic} {cs : List CodedPicture} (i : ℕ) (st : Progress)
-    → picturesAt s i ≡ qs → Reads standard s qs (read cs) → Yields s (standing standard p i st) (lastsAll p st cs)
+    → picturesAt s i ≡ qs → Reads standard s qs (value cs) → Yields s (standing standard p i st) (lastsAll p st cs)
 unfolding lastsAll wentOn
 yields short p i st l none = no-more
 yields {standard} {s} short p i st l (good {q} {qs} {c} {cs} t r) = go (λ k x. yields short p k (advanced p st c) x r) (nextPicture s i) refl
@@ -100,18 +103,20 @@ pub record Placing (s : List ℕ) (places : ℕ) (w : VbvRecorder) (rs : List Vb
 -- of every stream, whatever its answer
 pub records-placed : (standard : VbvStandard) (s : List ℕ) (places : ℕ)
     → Placing s places (recorderOf standard (declared standard s)) (records (verdict standard s places))
-unfolding recorderOf records
+unfolding recorderOf
 records-placed standard s places = go (verdict standard s places) refl
   where
-    go : (v : Verdict) → verdict standard s places ≡ v → Placing s places (recorderOf standard (declared standard s)) (records v)
-    go (no e) h = record { each = no-more; few = omega arith }
-    go (yes p r rs) h =
+    go : (v : Answer Accepted) → verdict standard s places ≡ v → Placing s places (recorderOf standard (declared standard s)) (records v)
+    go (refused n k x y) h = record { each = no-more; few = omega arith }
+    go (value v) h =
         let a = was-accepted standard s places h in
-        let j = judges p places (a .first ∷ a .others) (rising (a .short) (a .are-read)) in
-        let l = yields (omega (arith, a .short)) p 0 Fresh (pictures-walk s) (a .are-read) in
-        rw (a .declared-is) record { each = rw (j .lasts r rs (a .judged-is)) at l; few = rw (a .judged-is) at (j .few) }
+        let j = judges (v .params) places (a .first ∷ a .others) (rising (a .short) (a .are-read)) in
+        let l = yields (omega (arith, a .short)) (v .params) 0 Fresh (pictures-walk s) (a .are-read) in
+        rw (a .declared-is) record { each = rw (j .lasts (v .first) (v .others) (a .judged-is)) at l; few = rw (a .judged-is) at (j .few) }
 
-pub count-is : (v : Verdict) → recordCount (verified v) ≡ length (records v)
-unfolding recordCount verified records
-count-is (no e) = refl
-count-is (yes p r rs) = refl
+pub count-is : (r : VbvVerified) (v : Answer Accepted) → verifiedAnswer r ≡ reported v → recordCount r ≡ length (records v)
+unfolding recordCount
+count-is (Report x) (value v) h = let e : x ≡ reportOf v = cc in rw e
+count-is (Report x) (refused n k c e) h = let z : _≡_ {A = ℕ} 0 1 = cc in absurd (omega arith)
+count-is (Refused x) (value v) h = let z : _≡_ {A = ℕ} 0 1 = cc in absurd (omega arith)
+count-is (Refused x) (refused n k c e) h = refl

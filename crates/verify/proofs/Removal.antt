@@ -1,58 +1,76 @@
 -- A removal by the model is a removal by Annex C.
 -- Assumes nothing.
-use mathlib.Core.Path.{_≡_, refl}
-use mathlib.Core.Bool.{Bool, true, false}
+use mathlib.Core.Path.{_≡_, refl, ap}
+use mathlib.Core.Bool.{true}
 use Prim.Native.Nat.{ℕ, _^_, _≤_}
-use lib.Dec.{ltb, leb}
-use borrow.Author.Tests.{leb-true, leb-false, le-ltb, lt-ltb}
-use Rattle.bits.specs.Bits.{pick}
+use native.Mathlib.Omega.{arith}
+use Rattle.bits.specs.Refusals.{Answer, value, refused, andThen}
 use Rattle.vbv.specs.Model.{delivered, modelFits, afterRemoval, nextDelivered}
 use Rattle.vbv.specs.Steps.{EndFits}
 use Rattle.vbv.specs.declared.VbvCbrModel.{VbvCbrModel}
-use Rattle.vbv.proofs.Laws.{occupancy-told}
-use Rattle.vbv.proofs.Told.{delay-told, removal-told}
+use Rattle.vbv.proofs.Named.{pick-in, delay-named, removal-named, occupancy-named}
 use Rattle.verify.specs.declared.CodedPicture.{CodedPicture}
+use Rattle.verify.specs.Answers.{refusal, refusalOf}
+use Rattle.verify.specs.declared.VbvPictureRecord.{VbvPictureRecord}
+use Rattle.verify.specs.declared.VbvVerifyError.{VbvVerifyError}
 use Rattle.verify.specs.declared.Removed.{Removed}
 use Rattle.verify.specs.declared.Removed.the-variants.{Recorded, Refused}
-use Rattle.verify.specs.Run.{Removal, refused, recorded, recordOf, removal}
+use Rattle.verify.specs.Run.{recordOf, removal}
 use Rattle.verify.specs.Walk.{removed, byDelay, byOccupancy, byRemoval, withDelays}
 
--- the answer of the code, by Annex C's
-unfoldable pub removedBy : VbvCbrModel → CodedPicture → Removal → Removed
-removedBy m c (refused e) = Refused e
-removedBy m c (recorded r) = Recorded r (afterRemoval m (c .«end_bits») (nextDelivered m (c .interval)))
+-- the answer of the code by number and values; with the model behind it
+abbrev pub removedAnswer : Removed → Answer (VbvPictureRecord × VbvCbrModel)
+removedAnswer (Refused e) = refusal e
+removedAnswer (Recorded r m) = value (r, m)
 
--- what is made of an answer that a test chooses
-pick-in : {A B : Type 0} (f : A → B) (t : Bool) (x y : A) → f (pick t x y) ≡ pick t (f x) (f y)
-unfolding pick
-pick-in f true x y = refl
-pick-in f false x y = refl
-
-pick-long : {A : Type 0} (n k : ℕ) (x y : A) → pick (leb n k) x y ≡ pick (ltb k n) y x
-unfolding pick
-pick-long n k x y = go (leb n k) refl
-  where
-    go : (t : Bool) → leb n k ≡ t → pick (leb n k) x y ≡ pick (ltb k n) y x
-    go true q = rw (q, le-ltb k n (leb-true n k q))
-    go false q = rw (q, lt-ltb k n (leb-false n k q))
+-- Annex C's answer, with the model behind it
+abbrev pub withModel : VbvCbrModel → CodedPicture → Answer VbvPictureRecord → Answer (VbvPictureRecord × VbvCbrModel)
+withModel m c a = andThen a (λ r. value (r, afterRemoval m (c .«end_bits») (nextDelivered m (c .interval))))
 
 module _ (m : VbvCbrModel) (c : CodedPicture) (f : modelFits m ≡ true) (s : m .started ≡ true)
     (h : c .«pos_bits» ≤ 2 ^ 48) (g : EndFits m (c .«end_bits»)) where
-  pub removal-is : removed m c ≡ removedBy m c (removal (m .params) (m .removed) (m .«prev_end_bits») (delivered m) c)
-  unfolding removed byDelay byOccupancy byRemoval withDelays removal recordOf removedBy
+  pub removal-is : removedAnswer (removed m c) ≡ withModel m c (removal (m .params) (m .removed) (m .«prev_end_bits») (delivered m) c)
+  unfolding removed byDelay byOccupancy byRemoval withDelays removal recordOf
   removal-is =
       rw (
-        delay-told m f s (c .«pos_bits») h,
+        delay-named m f s (c .«pos_bits») h,
         pick-in (byDelay m c),
         pick-in (byDelay m c),
-        pick-long _ 65534,
-        occupancy-told m f s,
-        removal-told m f s (c .«end_bits») (c .interval) g,
+        occupancy-named m f s,
+        removal-named m f s (c .«end_bits») (c .interval) g,
         pick-in (byRemoval m c _ _),
         pick-in (byRemoval m c _ _),
-        pick-in (removedBy m c),
-        pick-in (removedBy m c),
-        pick-in (removedBy m c),
-        pick-in (removedBy m c),
-        pick-in (removedBy m c),
+        pick-in removedAnswer,
+        pick-in removedAnswer,
+        pick-in removedAnswer,
+        pick-in removedAnswer,
+        pick-in removedAnswer,
+        pick-in (withModel m c),
+        pick-in (withModel m c),
+        pick-in (withModel m c),
+        pick-in (withModel m c),
+        pick-in (withModel m c),
       )
+
+-- which case it is
+pub record RefusedBy (x : Removed) (n k c e : ℕ) : Type 0 where
+  pub error : VbvVerifyError
+  pub is-refused : x ≡ Refused error
+  pub told : refusalOf error ≡ record { number = n; picture = k; coded = c; expected = e }
+
+pub refused-by : {n k c e : ℕ} (x : Removed) → removedAnswer x ≡ refused n k c e → RefusedBy x n k c e
+refused-by {n} {k} {c} {e} (Refused x) h =
+    let a : refusalOf x .number ≡ n = cc in
+    let b : refusalOf x .picture ≡ k = cc in
+    let d : refusalOf x .coded ≡ c = cc in
+    let f : refusalOf x .expected ≡ e = cc in
+    record { error = x; is-refused = refl; told = rw (← a, ← b, ← d, ← f) }
+refused-by (Recorded r m) h = let z : _≡_ {A = ℕ} 0 1 = cc in absurd (omega arith)
+
+pub recorded-by : {r : VbvPictureRecord} {m : VbvCbrModel} (x : Removed) → removedAnswer x ≡ value (r, m) → x ≡ Recorded r m
+recorded-by (Refused e) h = let z : _≡_ {A = ℕ} 0 1 = cc in absurd (omega arith)
+recorded-by {r} {m} (Recorded q n) h =
+    let y : _≡_ {A = VbvPictureRecord × VbvCbrModel} (q, n) (r, m) = cc in
+    let a : q ≡ r = ap (λ (z : VbvPictureRecord × VbvCbrModel). z .0) y in
+    let b : n ≡ m = ap (λ (z : VbvPictureRecord × VbvCbrModel). z .1) y in
+    rw (a, b)

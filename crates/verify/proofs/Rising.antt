@@ -14,6 +14,7 @@ use Rattle.picture_header.specs.declared.PictureRead.the-variants.{Parsed as Pi
 use Rattle.picture_header.proofs.PictureHeader.{picture-header-parsed, delay-high}
 use Rattle.picture_header.proofs.Picture.{picture-parsed}
 use Rattle.vbv.specs.declared.RemovalInterval.{RemovalInterval}
+use Rattle.bits.specs.Refusals.{value}
 use Rattle.scan.specs.declared.Next.{Next}
 use Rattle.scan.specs.declared.Next.the-variants.{Picture, Done}
 use Rattle.verify.specs.declared.VbvStandard.{VbvStandard}
@@ -24,7 +25,7 @@ use Rattle.verify.specs.declared.CodedPicture.{CodedPicture}
 use Rattle.verify.specs.declared.Coded.the-variants as cd
 use Rattle.scan.specs.Pictures.{Pic, pictures}
 use Rattle.scan.specs.Walk.{nextPicture}
-use Rattle.verify.specs.Coded.{toldByHeader, toldByPicture, told, read, codedOf}
+use Rattle.verify.specs.Coded.{toldByHeader, toldByPicture, told, codedOf}
 use Rattle.verify.specs.Walk.{codedBy, codedAt}
 use Rattle.scan.proofs.Pictures.{picturesAt, walked, pictures-done, pictures-walk}
 use Rattle.verify.proofs.Fold.{Reads, none, good}
@@ -77,7 +78,7 @@ coded-from standard s q c h = go (told standard (drop (q .start) s)) refl h
 module _ {standard : VbvStandard} {s : List ℕ} (short : 8 * length s ≤ 2 ^ 48) where
   -- from place i on, behind what ends at byte e
   from : {qs : List Pic} {cs : List CodedPicture} (i e : ℕ) → picturesAt s i ≡ qs → ((a b k : ℕ) → nextPicture s i ≡ Picture a b k → e ≤ a)
-      → Reads standard s qs (read cs) → Rising (8 * e) cs
+      → Reads standard s qs (value cs) → Rising (8 * e) cs
   from i e l clear none = last
   from i e l clear (good {q} {qs} {c} {cs} t r) = go (λ k b x y. from k b x y r) (nextPicture s i) refl
     where
@@ -102,5 +103,5 @@ module _ {standard : VbvStandard} {s : List ℕ} (short : 8 * length s ≤ 2 ^ 4
           })
           (rw ec (ih k b z (w .clear)))
 
-  pub rising : {cs : List CodedPicture} → Reads standard s (pictures s) (read cs) → Rising 0 cs
+  pub rising : {cs : List CodedPicture} → Reads standard s (pictures s) (value cs) → Rising 0 cs
   rising r = from 0 0 (pictures-walk s) (λ a b k h. omega arith) r

@@ -3,6 +3,7 @@
 use mathlib.Core.Path.{_≡_}
 use Prim.Native.Nat.{ℕ, _*_}
 use mathlib.Core.List.{List, _∷_}
+use Rattle.bits.specs.Refusals.{value}
 use Rattle.picture_header.specs.Picture.{picture}
 use Rattle.headers.specs.Sequence.{sequence}
 use Rattle.picture_header.specs.declared.Mpeg2PictureHeader.{Mpeg2PictureHeader}
@@ -10,7 +11,6 @@ use Rattle.picture_header.specs.declared.PictureCodingExtension.{PictureCodingE
 use Rattle.picture_header.specs.declared.PictureRead.the-variants.{Parsed as PictureParsed}
 use Rattle.headers.specs.declared.sequence_header.Answer.the-variants.{Parsed}
 use Rattle.vbv.specs.Answers.{frameRate}
-use Rattle.vbv.specs.declared.FrameRate.the-variants.{Rate}
 use Rattle.scan.specs.Codes.{Code, codes, found}
 use Rattle.scan.specs.Pictures.{skip, notSequence}
 use Rattle.scan.specs.declared.Found.the-variants.{At}
@@ -19,7 +19,6 @@ use Rattle.verify.specs.Coded.{intervalOf, toldByPicture, told}
 use Rattle.verify.specs.Sequence.{rated, ifParsed, declaredBy, declaredAt, declared}
 use Rattle.verify.specs.declared.VbvStandard.the-variants.{Mpeg2}
 use Rattle.verify.specs.declared.Told.the-variants.{Delay}
-use Rattle.verify.specs.declared.Declared.the-variants.{Params}
 
 pub told-parsed : (s : List ℕ) (h : Mpeg2PictureHeader) (x : PictureCodingExtension) → picture s ≡ PictureParsed h x
     → told Mpeg2 s ≡ Delay (h .«vbv_delay») (intervalOf (x .«picture_structure»))
@@ -30,9 +29,9 @@ module _ (s : List ℕ) (cs : List Code) (c : codes s ≡ record { offset = 0; c
   first-sequence : found (skip notSequence (codes s)) ≡ At 0 0xB3
   first-sequence = rw (c, skip-stops notSequence (record { offset = 0; code = 0xB3 }) cs sequence-code, found-first)
 
-  pub declared-parsed : sequence s .answer ≡ Parsed → (n d : ℕ) → frameRate (sequence s .sequence .header .«frame_rate_code») ≡ Rate n d
+  pub declared-parsed : sequence s .answer ≡ Parsed → (n d : ℕ) → frameRate (sequence s .sequence .header .«frame_rate_code») ≡ value (n, d)
       → declared Mpeg2 s
-      ≡ Params (record {
+      ≡ value (record {
         «bit_rate» = 400 * sequence s .sequence .«bit_rate»;
         «buffer_size_bits» = 16384 * sequence s .sequence .«vbv_buffer_size»;
         frn = n;

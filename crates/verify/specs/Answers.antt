@@ -1,11 +1,18 @@
 -- The refusals of the check: paper 01's number, and the picture, coded and expected delay that each carries.
 -- Assumes nothing.
 use Prim.Native.Nat.{ℕ}
+use Rattle.bits.specs.Refusals.{Answer, value, refused}
+use Rattle.vbv.specs.declared.VbvParams.{VbvParams}
 use Rattle.headers.specs.Answers.{errorNumber}
 use Rattle.vbv.specs.Answers.{errorNumber as modelNumber, violationNumber, violationPicture, violationCoded, violationExpected}
 use Rattle.verify.specs.declared.VbvVerifyError.{VbvVerifyError}
 use Rattle.verify.specs.declared.VbvVerifyError.the-variants.{Parse, Model, NoSequenceHeader, NoPictures, VariableRate, RecordPlaces, Violation}
 use Rattle.verify.specs.declared.VbvRefusal.{VbvRefusal}
+use Rattle.verify.specs.declared.VbvStreamReport.{VbvStreamReport}
+use Rattle.verify.specs.declared.VbvVerified.{VbvVerified}
+use Rattle.verify.specs.declared.VbvVerified.the-variants.{Report, Refused}
+use Rattle.verify.specs.declared.Declared.{Declared}
+use Rattle.verify.specs.declared.Declared.the-variants.{Params, Refused as NotDeclared}
 
 -- 9 to 11 carry all three, every other refusal zeros
 abbrev pub plain : ℕ → VbvRefusal
@@ -20,3 +27,15 @@ refusalOf VariableRate = plain 5
 refusalOf RecordPlaces = plain 15
 refusalOf (Violation v) =
     record { number = violationNumber v; picture = violationPicture v; coded = violationCoded v; expected = violationExpected v }
+
+-- each answer by its number and values
+abbrev pub refusal : {X : Type 0} → VbvVerifyError → Answer X
+refusal e = refused (refusalOf e .number) (refusalOf e .picture) (refusalOf e .coded) (refusalOf e .expected)
+
+abbrev pub verifiedAnswer : VbvVerified → Answer VbvStreamReport
+verifiedAnswer (Report r) = value r
+verifiedAnswer (Refused e) = refusal e
+
+abbrev pub declaredAnswer : Declared → Answer VbvParams
+declaredAnswer (Params p) = value p
+declaredAnswer (NotDeclared e) = refusal e

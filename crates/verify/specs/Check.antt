@@ -2,66 +2,59 @@
 -- Assumes nothing.
 use Prim.Native.Nat.{ℕ, _*_, _^_}
 use mathlib.Core.List.{List, [], _∷_}
-use lib.Dec.{leb, eqb}
+use mathlib.Core.Bool.{not}
+use lib.Dec.{ltb, eqb}
 use lib.ListN.{length}
-use Rattle.bits.specs.Bits.{pick}
+use Rattle.bits.specs.Refusals.{Answer, value, refused, refuse, andThen}
 use Rattle.vbv.specs.Annex.{firstDelivered}
 use Rattle.vbv.specs.Model.{paramsFit}
 use Rattle.vbv.specs.declared.VbvParams.{VbvParams}
-use Rattle.vbv.specs.declared.VbvError.the-variants.{Params as ParamsError, Range}
 use Rattle.verify.specs.Sequence.{declared}
-use Rattle.verify.specs.Coded.{Headers, unread, read, codedPictures}
-use Rattle.verify.specs.Run.{Run, stopped, ran, run, leastAfter, greatestBefore}
+use Rattle.verify.specs.Coded.{codedPictures}
+use Rattle.verify.specs.Run.{run, leastAfter, greatestBefore}
 use Rattle.verify.specs.declared.VbvStandard.{VbvStandard}
-use Rattle.verify.specs.declared.Declared.{Declared}
-use Rattle.verify.specs.declared.Declared.the-variants.{Params, Refused as NotDeclared}
 use Rattle.verify.specs.declared.VbvPictureRecord.{VbvPictureRecord}
-use Rattle.verify.specs.declared.VbvVerifyError.{VbvVerifyError}
-use Rattle.verify.specs.declared.VbvVerifyError.the-variants.{Parse, Model, NoPictures, VariableRate, RecordPlaces}
-use Rattle.verify.specs.declared.VbvVerified.{VbvVerified}
-use Rattle.verify.specs.declared.VbvVerified.the-variants.{Report, Refused}
+use Rattle.verify.specs.declared.VbvStreamReport.{VbvStreamReport}
+use Rattle.verify.specs.declared.CodedPicture.{CodedPicture}
 
--- accepted with the parameters and a record a picture, the first beside the others; or refused
-pub data Verdict : Type 0 where
-  no : VbvVerifyError → Verdict
-  yes : VbvParams → VbvPictureRecord → List VbvPictureRecord → Verdict
+-- an accepted stream: what it declares, and a record a picture, the first beside the others
+pub record Accepted : Type 0 where
+  pub params : VbvParams
+  pub first : VbvPictureRecord
+  pub others : List VbvPictureRecord
 
-unfoldable pub judged : VbvParams → Run → Verdict
-judged p (stopped e) = no e
-judged p (ran []) = no NoPictures
-judged p (ran (r ∷ rs)) = yes p r rs
+abbrev pub accepted : VbvParams → List VbvPictureRecord → Answer Accepted
+accepted p [] = refused 4 0 0 0
+accepted p (r ∷ rs) = value (record { params = p; first = r; others = rs })
 
-unfoldable pub withPictures : ℕ → VbvParams → Headers → Verdict
-withPictures places p (unread e) = no (Parse e)
-withPictures places p (read []) = no NoPictures
-withPictures places p (read (c ∷ cs)) =
-    pick (eqb (c .«vbv_delay») 0xFFFF) (no VariableRate)
-    (pick (paramsFit p)
-    (pick (leb (length (c ∷ cs)) places)
-    (judged p (run p 0 0 (firstDelivered p (c .«pos_bits») (c .«vbv_delay»)) (c ∷ cs)))
-    (no RecordPlaces))
-    (no (Model ParamsError)))
+unfoldable pub withPictures : ℕ → VbvParams → List CodedPicture → Answer Accepted
+withPictures places p [] = refused 4 0 0 0
+withPictures places p (c ∷ cs) =
+    refuse 5 (eqb (c .«vbv_delay») 0xFFFF)
+    (refuse 12 (not (paramsFit p))
+    (refuse 15 (ltb places (length (c ∷ cs)))
+    (andThen (run p 0 0 (firstDelivered p (c .«pos_bits») (c .«vbv_delay»)) (c ∷ cs)) (accepted p))))
 
-unfoldable pub withParams : VbvStandard → List ℕ → ℕ → Declared → Verdict
-withParams standard s places (NotDeclared e) = no e
-withParams standard s places (Params p) = withPictures places p (codedPictures standard s)
-
-unfoldable pub verdict : VbvStandard → List ℕ → ℕ → Verdict
+unfoldable pub verdict : VbvStandard → List ℕ → ℕ → Answer Accepted
 verdict standard s places =
-    pick (leb (8 * length s) (2 ^ 48)) (withParams standard s places (declared standard s)) (no (Model Range))
+    refuse 14 (ltb (2 ^ 48) (8 * length s))
+    (andThen (declared standard s) (λ p.
+    andThen (codedPictures standard s) (λ cs.
+    withPictures places p cs)))
 
--- the answer, and the records
-unfoldable pub verified : Verdict → VbvVerified
-verified (no e) = Refused e
-verified (yes p r rs) =
-    Report record {
-      «bit_rate» = p .«bit_rate»;
-      «buffer_size_bits» = p .«buffer_size_bits»;
-      pictures = length (r ∷ rs);
-      «min_occupancy_after_bits» = leastAfter r rs;
-      «max_occupancy_before_bits» = greatestBefore (r ∷ rs);
-    }
+-- the report, and the records
+abbrev pub reportOf : Accepted → VbvStreamReport
+reportOf a = record {
+  «bit_rate» = a .params .«bit_rate»;
+  «buffer_size_bits» = a .params .«buffer_size_bits»;
+  pictures = length (a .first ∷ a .others);
+  «min_occupancy_after_bits» = leastAfter (a .first) (a .others);
+  «max_occupancy_before_bits» = greatestBefore (a .first ∷ a .others);
+}
 
-unfoldable pub records : Verdict → List VbvPictureRecord
-records (no e) = []
-records (yes p r rs) = r ∷ rs
+abbrev pub reported : Answer Accepted → Answer VbvStreamReport
+reported v = andThen v (λ a. value (reportOf a))
+
+abbrev pub records : Answer Accepted → List VbvPictureRecord
+records (value a) = a .first ∷ a .others
+records (refused n k c e) = []

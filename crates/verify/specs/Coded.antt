@@ -3,9 +3,10 @@
 use Prim.Native.Nat.{ℕ, _+_, _*_}
 use mathlib.Core.List.{List, [], _∷_}
 use lib.ListN.{drop}
+use Rattle.bits.specs.Refusals.{Answer, value, refused, andThen}
 use Rattle.picture_header.specs.PictureHeader.{pictureHeader}
 use Rattle.picture_header.specs.Picture.{picture}
-use Rattle.headers.specs.declared.Error.{Error}
+use Rattle.headers.specs.Answers.{errorNumber}
 use Rattle.picture_header.specs.declared.PictureStructure.{PictureStructure}
 use Rattle.picture_header.specs.declared.PictureStructure.the-variants.{TopField, BottomField, Frame as FramePicture}
 use Rattle.picture_header.specs.declared.PictureHeaderRead.{PictureHeaderRead}
@@ -41,25 +42,18 @@ unfoldable pub told : VbvStandard → List ℕ → Told
 told Mpeg1 s = toldByHeader (pictureHeader s)
 told Mpeg2 s = toldByPicture (picture s)
 
-pub data Headers : Type 0 where
-  unread : Error → Headers
-  read : List CodedPicture → Headers
-
-unfoldable pub oneMore : CodedPicture → Headers → Headers
-oneMore c (unread e) = unread e
-oneMore c (read cs) = read (c ∷ cs)
-
 -- in bits: the end of the picture's start code, and the end of its data
 unfoldable pub codedOf : Pic → ℕ → RemovalInterval → CodedPicture
 codedOf q d i = record { «pos_bits» = 8 * (q .start + 4); «end_bits» = 8 * q .end; «vbv_delay» = d; interval = i }
 
-unfoldable pub behind : Pic → Told → Headers → Headers
-behind q (Delay d i) rest = oneMore (codedOf q d i) rest
-behind q (Refused e) rest = unread e
+-- 1 or 2, or one picture more
+unfoldable pub behind : Pic → Told → Answer (List CodedPicture) → Answer (List CodedPicture)
+behind q (Delay d i) rest = andThen rest (λ cs. value (codedOf q d i ∷ cs))
+behind q (Refused e) rest = refused (errorNumber e) 0 0 0
 
-unfoldable pub headers : VbvStandard → List ℕ → List Pic → Headers
-headers standard s [] = read []
+unfoldable pub headers : VbvStandard → List ℕ → List Pic → Answer (List CodedPicture)
+headers standard s [] = value []
 headers standard s (q ∷ qs) = behind q (told standard (drop (q .start) s)) (headers standard s qs)
 
-unfoldable pub codedPictures : VbvStandard → List ℕ → Headers
+unfoldable pub codedPictures : VbvStandard → List ℕ → Answer (List CodedPicture)
 codedPictures standard s = headers standard s (pictures s)

@@ -5,6 +5,8 @@ use mathlib.Core.List.{List}
 use lib.Dec.{leb}
 use lib.ListN.{length}
 use Rattle.bits.specs.Bits.{pick}
+use Rattle.bits.specs.Refusals.{Answer, value, refused}
+use Rattle.vbv.specs.declared.VbvParams.{VbvParams}
 use Rattle.headers.specs.declared.Error.{Error}
 use Rattle.scan.specs.Walk.{nextPicture}
 use Rattle.verify.specs.Walk.{codedAt, advanced, ifCoded}
@@ -13,8 +15,7 @@ use Rattle.scan.specs.declared.Next.the-variants.{Picture, Done}
 use Rattle.verify.specs.declared.VbvStandard.{VbvStandard}
 use Rattle.verify.specs.declared.CodedPicture.{CodedPicture}
 use Rattle.verify.specs.declared.VbvPictureRecord.{VbvPictureRecord}
-use Rattle.verify.specs.declared.Declared.{Declared}
-use Rattle.verify.specs.declared.Declared.the-variants.{Params, Refused as NotDeclared}
+use Rattle.verify.specs.declared.VbvVerifyError.the-variants.{NoSequenceHeader}
 use Rattle.verify.specs.declared.Progress.{Progress}
 use Rattle.verify.specs.declared.Progress.the-variants.{Fresh, Unmodelled, Running, Stopped}
 use Rattle.verify.specs.declared.VbvVerified.{VbvVerified}
@@ -27,10 +28,10 @@ recordCount (Report x) = x .pictures
 recordCount (Refused e) = 0
 
 -- before the first picture; a stream that declares nothing has no use for it
-unfoldable pub recorderOf : VbvStandard → Declared → VbvRecorder
-recorderOf standard (Params p) = record { standard = standard; params = p; at = 0; progress = Fresh }
-recorderOf standard (NotDeclared e) =
-    record { standard = standard; params = record { «bit_rate» = 0; «buffer_size_bits» = 0; frn = 0; frd = 0 }; at = 0; progress = Unmodelled e }
+unfoldable pub recorderOf : VbvStandard → Answer VbvParams → VbvRecorder
+recorderOf standard (value p) = record { standard = standard; params = p; at = 0; progress = Fresh }
+recorderOf standard (refused n k c e) =
+    record { standard = standard; params = record { «bit_rate» = 0; «buffer_size_bits» = 0; frn = 0; frd = 0 }; at = 0; progress = Unmodelled NoSequenceHeader }
 
 unfoldable pub noRecord : VbvPictureRecord
 noRecord = record { «vbv_delay» = 0; «expected_delay» = 0; «data_bits» = 0; «occupancy_before_bits» = 0 }

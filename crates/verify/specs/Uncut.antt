@@ -3,12 +3,13 @@
 use Prim.Native.Nat.{ℕ, _+_, _*_, _≤_}
 use mathlib.Core.Path.{_≡_}
 use mathlib.Core.List.{List, [], _∷_}
+use Rattle.bits.specs.Refusals.{value}
 use Rattle.vbv.specs.Annex.{unit, firstDelivered, gain}
 use Rattle.vbv.specs.Model.{periods}
 use Rattle.vbv.specs.declared.VbvParams.{VbvParams}
-use Rattle.verify.specs.Coded.{read, codedPictures}
+use Rattle.verify.specs.Coded.{codedPictures}
 use Rattle.verify.specs.Run.{recordOf}
-use Rattle.verify.specs.Check.{yes, verdict}
+use Rattle.verify.specs.Check.{verdict}
 use Rattle.verify.specs.declared.VbvStandard.{VbvStandard}
 use Rattle.verify.specs.declared.CodedPicture.{CodedPicture}
 use Rattle.verify.specs.declared.VbvPictureRecord.{VbvPictureRecord}
@@ -31,11 +32,11 @@ pub data AllUncut (p : VbvParams) : ℕ → ℕ → List CodedPicture → List V
 pub record UncutRun (standard : VbvStandard) (s : List ℕ) (p : VbvParams) (rs : List VbvPictureRecord) : Type 0 where
   pub first : CodedPicture
   pub others : List CodedPicture
-  pub pictures-are : codedPictures standard s ≡ read (first ∷ others)
+  pub pictures-are : codedPictures standard s ≡ value (first ∷ others)
   pub all : AllUncut p 0 (firstDelivered p (first .«pos_bits») (first .«vbv_delay»)) (first ∷ others) rs
 
 -- what is owed
 abbrev pub Owed : Type 0
 Owed =
     (standard : VbvStandard) (s : List ℕ) (places : ℕ) (p : VbvParams) (r : VbvPictureRecord) (rs : List VbvPictureRecord)
-    → verdict standard s places ≡ yes p r rs → UncutRun standard s p (r ∷ rs)
+    → verdict standard s places ≡ value (record { params = p; first = r; others = rs }) → UncutRun standard s p (r ∷ rs)

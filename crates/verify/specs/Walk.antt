@@ -8,6 +8,7 @@ use lib.Seq.{sets}
 use Rattle.bits.specs.Bits.{pick}
 use Rattle.headers.specs.declared.Error.{Error}
 use Rattle.vbv.specs.Model.{newModel, startModel, delayForPicture, removePicture, occupancyBeforeRemoval}
+use Rattle.vbv.specs.Steps.{modelOf, delayOf, bitsOf, removalOf}
 use Rattle.vbv.specs.declared.VbvParams.{VbvParams}
 use Rattle.vbv.specs.declared.VbvCbrModel.{VbvCbrModel}
 use Rattle.vbv.specs.declared.VbvViolation.{VbvViolation}
@@ -71,18 +72,18 @@ byRemoval m c expected before (rm.Refused e) = Refused (Model e)
 byRemoval m c expected before (rm.Violation v) = Refused (Violation (withDelays (c .«vbv_delay») expected v))
 
 unfoldable pub byOccupancy : VbvCbrModel → CodedPicture → ℕ → VbvBits → Removed
-byOccupancy m c expected (bt.Bits before) = byRemoval m c expected before (removePicture m (c .«end_bits») (c .interval))
+byOccupancy m c expected (bt.Bits before) = byRemoval m c expected before (removalOf (removePicture m (c .«end_bits») (c .interval)))
 byOccupancy m c expected (bt.Refused e) = Refused (Model e)
 
 unfoldable pub byDelay : VbvCbrModel → CodedPicture → VbvDelay → Removed
 byDelay m c (dl.Delay expected) =
     pick (apart (c .«vbv_delay») expected)
     (Refused (Violation (DelayMismatch (m .removed) (c .«vbv_delay») expected)))
-    (byOccupancy m c expected (occupancyBeforeRemoval m))
+    (byOccupancy m c expected (bitsOf (occupancyBeforeRemoval m)))
 byDelay m c (dl.Refused e) = Refused (Model e)
 
 unfoldable pub removed : VbvCbrModel → CodedPicture → Removed
-removed m c = byDelay m c (delayForPicture m (c .«pos_bits»))
+removed m c = byDelay m c (delayOf (delayForPicture m (c .«pos_bits»)))
 
 -- ---- the progress
 
@@ -96,11 +97,11 @@ begun c buffer (md.Model m) = onward buffer 0 (removed m c)
 begun c buffer (md.Refused e) = Unmodelled (Model e)
 
 unfoldable pub made : CodedPicture → ℕ → VbvModel → Progress
-made c buffer (md.Model m) = begun c buffer (startModel m (c .«vbv_delay») (c .«pos_bits»))
+made c buffer (md.Model m) = begun c buffer (modelOf (startModel m (c .«vbv_delay») (c .«pos_bits»)))
 made c buffer (md.Refused e) = Unmodelled (Model e)
 
 unfoldable pub first : VbvParams → CodedPicture → Progress
-first p c = pick (eqb (c .«vbv_delay») 0xFFFF) (Unmodelled VariableRate) (made c (p .«buffer_size_bits») (newModel p))
+first p c = pick (eqb (c .«vbv_delay») 0xFFFF) (Unmodelled VariableRate) (made c (p .«buffer_size_bits») (modelOf (newModel p)))
 
 unfoldable pub advanced : VbvParams → Progress → CodedPicture → Progress
 advanced p Fresh c = first p c

@@ -3,6 +3,7 @@ ghost use mathlib.Core.Path.{_≡_};
 ghost use Prim.Native.Nat.{_+_, _*_, _^_, _≤_};
 ghost use lib.ListN.{length};
 ghost use Rattle.vbv.specs.Answers.{frameRate};
+ghost use Rattle.verify.specs.Answers.{declaredAnswer};
 ghost use Rattle.verify.specs.Sequence.{rated, declaredBy, declared};
 ghost use Rattle.verify.specs.Coded.{intervalOf, told};
 ghost use Rattle.verify.specs.Walk.{codedAt};
@@ -29,7 +30,7 @@ use vbv::VbvParams;
 fn rated_by(rate: u64, buffer: u64, code: u8) -> Declared
     requires { ⌜ rate ≤ 4294967295 ⌝ }
     requires { ⌜ buffer ≤ 4294967295 ⌝ }
-    ensures { λ r. ⌜ r ≡ rated rate buffer (frameRate code) ⌝ }
+    ensures { λ r. ⌜ declaredAnswer r ≡ rated rate buffer (frameRate code) ⌝ }
 {
     match vbv::frame_rate_value(code) {
         FrameRate::Rate(frn, frd) => Declared::Params(VbvParams {
@@ -44,7 +45,7 @@ fn rated_by(rate: u64, buffer: u64, code: u8) -> Declared
 
 // What the sequence header that begins a part of the stream declares.
 fn declared_at(part: &[u8], standard: VbvStandard) -> Declared
-    ensures { λ r. ⌜ r ≡ declaredBy standard (now (part .entry)) ⌝ }
+    ensures { λ r. ⌜ declaredAnswer r ≡ declaredBy standard (now (part .entry)) ⌝ }
 {
     match standard {
         VbvStandard::Mpeg1 => {
@@ -83,7 +84,7 @@ fn declared_at(part: &[u8], standard: VbvStandard) -> Declared
 
 // What the first sequence header declares.
 pub(crate) fn declared_params(stream: &[u8], standard: VbvStandard) -> Declared
-    ensures { λ r. ⌜ r ≡ declared standard (now (stream .entry)) ⌝ }
+    ensures { λ r. ⌜ declaredAnswer r ≡ declared standard (now (stream .entry)) ⌝ }
 {
     match first_sequence(stream) {
         Found::At { offset, code: _ } => declared_at(&stream[offset..], standard),

@@ -1,7 +1,8 @@
 // The check by value: the answer, and the records one by one.
 ghost use mathlib.Core.Path.{_≡_};
 ghost use Rattle.verify.specs.Sequence.{declared};
-ghost use Rattle.verify.specs.Check.{verdict, verified};
+ghost use Rattle.verify.specs.Answers.{verifiedAnswer};
+ghost use Rattle.verify.specs.Check.{verdict, reported};
 ghost use Rattle.verify.specs.Recorder.{recorderOf, recordCount, noRecord, lastOf, stayed, wentOn, nextRecord};
 use crate::Coded;
 use crate::Declared;
@@ -36,7 +37,7 @@ pub struct VbvRecorded {
 
 // The check with so many record places, without their bytes.
 pub fn check_stream(stream: &[u8], standard: VbvStandard, places: usize) -> VbvVerified
-    ensures { λ r. ⌜ r ≡ verified (verdict standard (now (stream .entry)) places) ⌝ }
+    ensures { λ r. ⌜ verifiedAnswer r ≡ reported (verdict standard (now (stream .entry)) places) ⌝ }
 {
     // 2^48 bits.
     if 35184372088832 < stream.len() {
@@ -99,7 +100,7 @@ impl VbvRecorder {
                 at: 0,
                 progress: Progress::Fresh,
             },
-            Declared::Refused(error) => {
+            Declared::Refused(_) => {
                 let params = VbvParams {
                     bit_rate: 0,
                     buffer_size_bits: 0,
@@ -110,7 +111,7 @@ impl VbvRecorder {
                     standard,
                     params,
                     at: 0,
-                    progress: Progress::Unmodelled(error),
+                    progress: Progress::Unmodelled(VbvVerifyError::NoSequenceHeader),
                 }
             }
         }

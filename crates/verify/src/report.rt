@@ -5,7 +5,8 @@ ghost use Prim.Native.Nat.{_*_, _/_, _^_, _≤_};
 ghost use lib.ListN.{length};
 ghost use Rattle.bits.specs.Answers.{over};
 ghost use Rattle.scan.specs.Pictures.{pictures};
-ghost use Rattle.verify.specs.Check.{verdict, verified, records as recordsOf};
+ghost use Rattle.verify.specs.Answers.{verifiedAnswer};
+ghost use Rattle.verify.specs.Check.{verdict, reported, records as recordsOf};
 ghost use Rattle.verify.specs.Layout.{recordsBytes};
 ghost use Rattle.verify.specs.Walk.{walked, stored, placed, judgement};
 ghost use Rattle.verify.specs.declared.Progress.the-variants.{Fresh};
@@ -100,7 +101,7 @@ pub(crate) fn judge(params: VbvParams, places: usize, walked: Walked) -> VbvVeri
 
 // The buffer report of a stream with its records, or why it is refused. A place is 32 bytes (docs/LAYOUT.md).
 pub fn verify_cbr_stream(stream: &[u8], standard: VbvStandard, records: &mut [u8]) -> VbvVerified
-    ensures { λ r. ⌜ r ≡ verified (verdict standard (now (stream .entry)) (length (now (records .entry)) / 32)) ⌝ }
+    ensures { λ r. ⌜ verifiedAnswer r ≡ reported (verdict standard (now (stream .entry)) (length (now (records .entry)) / 32)) ⌝ }
     ensures { λ r. ⌜ now (records .exit) ≡ over (recordsBytes (recordsOf (verdict standard (now (stream .entry)) (length (now (records .entry)) / 32)))) (now (records .entry)) ⌝ }
 {
     // 2^48 bits.

@@ -2,6 +2,7 @@
 ghost use mathlib.Core.Path.{_≡_};
 ghost use Prim.Native.Nat.{_-_, min, max};
 ghost use Rattle.vbv.specs.Model.{occupancyBeforeRemoval};
+ghost use Rattle.vbv.specs.Steps.{bitsOf};
 ghost use Rattle.verify.specs.Run.{apart};
 ghost use Rattle.verify.specs.Walk.{withDelays, byOccupancy, removed, onward, first, advanced};
 use crate::CodedPicture;
@@ -82,7 +83,7 @@ fn with_delays(violation: VbvViolation, coded: u16, expected: u16) -> VbvViolati
 
 // Removes a picture whose coded delay agrees with the expected one.
 fn remove_expected(model: VbvCbrModel, coded: CodedPicture, expected: u16) -> Removed
-    ensures { λ r. ⌜ r ≡ byOccupancy model coded expected (occupancyBeforeRemoval model) ⌝ }
+    ensures { λ r. ⌜ r ≡ byOccupancy model coded expected (bitsOf (occupancyBeforeRemoval model)) ⌝ }
 {
     match model.occupancy_before_removal_bits() {
         VbvBits::Refused(error) => Removed::Refused(VbvVerifyError::Model(error)),

@@ -52,7 +52,8 @@ use denote.Triple.Table.{entered, cited}
 use denote.Triple.Walked.{says, Stays, stay-slice, stay-none, stay-none-slice, walkOf, AllGo, goes-none, goes-none-slice, goes-slice, Walks, ends-at, walked, walk-meets}
 use denote.Exit.{yes}
 use Rattle.verify.specs.Sequence.{declared}
-use Rattle.verify.specs.Check.{verdict, verified}
+use Rattle.verify.specs.Answers.{verifiedAnswer}
+use Rattle.verify.specs.Check.{verdict, reported}
 use Rattle.verify.specs.Recorder.{recordCount, recorderOf, nextRecord}
 use Rattle.verify.specs.declared.VbvStandard.{VbvStandard}
 use Rattle.verify.specs.declared.VbvVerified.{VbvVerified}
@@ -153,13 +154,6 @@ module _ {M : Type 1} (𝓤 : URA M) (H : Heap 𝓤) (A : Atoms 𝓤) (W : Given
   abbrev svals : List Val
   svals = sliceVal (s .ptr) (length xs) ∷ []
 
-  -- what the check by value answers, how many records that has, and the walk over the pictures at first
-  abbrev vd : VbvVerified
-  vd = verified (verdict standard xs (length ys))
-
-  abbrev n : ℕ
-  n = recordCount vd
-
   abbrev w₀ : VbvRecorder
   w₀ = recorderOf standard (declared standard xs)
 
@@ -191,16 +185,10 @@ module _ {M : Type 1} (𝓤 : URA M) (H : Heap 𝓤) (A : Atoms 𝓤) (W : Given
   abbrev Post : Val → SProp 𝓤
   Post = walkOf 𝓤 H A fn′.ended stayed (fn′.clauses 𝓤 H A at-mem run) .post (((κ, (κ′, tt)), (q, (q′, tt)), bounds, x, at), tt)
 
-  exits : Room T.the-row (length ys) → Is N.the-row standard (nvals standard) → Is E.the-row vd (avals vd) → (i : ℕ) → i ≡ n → ent 𝓤 (⋆ 𝓤 H A (‵ (Obs (zs i)) ∷ ‵ (Bor (zs i)) ∷ ‵ (flft κ′ q′) ∷ ‵ (flft κ q) ∷ ‵ Src ∷ [])) (Post (only (avals vd)))
-  exits room gn ga i e =
-      qed W (‵ (Obs (zs i)) ∷ ‵ (Bor (zs i)) ∷ ‵ (flft κ′ q′) ∷ ‵ (flft κ q) ∷ ‵ Src ∷ []) ∵
-      suffices ! _ (ends-at 𝓤 H A fn′.ended stayed (fn′.clauses 𝓤 H A at-mem run) W (((κ, (κ′, tt)), (q, (q′, tt)), bounds, x, at), tt) (only (avals vd)) vd (tt, (tt, (zs i, tt))) (tt, (tt, (length-stored xs w₀ i ys, tt)))) $
-      says ! (refl, ap zs e ∙ stored-is standard xs ys) $
-      nothing ! $ move ! (3 ∷ 0 ∷ []) $ join ! $ move ! (3 ∷ 0 ∷ []) $ join ! $ frame ! $
-      fjoin ! $ pureI ! (at-slice T.the-row (R (zs i)) (at .1 .1 .0)) (tt, (tt, tt)) (ap (λ (m : ℕ). sliceVal (b, o) m ∷ []) (sym (length-stored xs w₀ i ys)), subst (Room T.the-row) (sym (length-stored xs w₀ i ys)) room) $ fjoin ! $
-      nothing ! $ move ! (1 ∷ 0 ∷ []) $ fjoin ! $ owned ! N.the-row (Is N.the-row) (EL.makes N.the-type N′.the-plain 𝓤 H A) standard _ gn $ fjoin ! $ move ! (1 ∷ 0 ∷ []) $ fjoin ! $ owned ! E.the-row (Is E.the-row) (EL.makes E.the-type E′.the-plain 𝓤 H A) vd _ ga $ move ! (1 ∷ 0 ∷ []) $ done !
-
   -- ---- the calls: what each is passed, and what it says
+  abbrev Told : VbvVerified → Type 0
+  Told r = verifiedAnswer r ≡ reported (verdict standard xs (length ys))
+
   abbrev given : RefT (List ℕ) × (VbvStandard × (ℕ × Unit {0}))
   given = (s, (standard, (length ys, tt)))
 
@@ -213,17 +201,8 @@ module _ {M : Type 1} (𝓤 : URA M) (H : Heap 𝓤) (A : Atoms 𝓤) (W : Given
   asked-chk : ent 𝓤 (sep 𝓤 (A .lft κ q) (sem 𝓤 H A (owns (ShrSlice (named 0) κ u8 ∷ N.the-row ∷ usize ∷ []) given passed))) (Chk 𝓤 H A at-mem run .pre to-chk)
   asked-chk = qed W (‵ (flft κ q) ∷ ‵ (owns (ShrSlice (named 0) κ u8 ∷ N.the-row ∷ usize ∷ []) given passed) ∷ []) ∵ nothing ! $ move ! (1 ∷ 0 ∷ []) $ join ! $ join ! $ frame ! $ done !
 
-  said-chk : (r : VbvVerified) → ent 𝓤 (ensured 𝓤 H A chk.ended (chk.clauses 𝓤 H A at-mem run) (κ, tt) given tt r) (fact 𝓤 (r ≡ vd))
-  said-chk r = exE 𝓤 _ (λ ws. snd∗ 𝓤 (sem 𝓤 H A (lasts chk.ended (κ, tt) given ws)) (fact 𝓤 (r ≡ vd)))
-
-  abbrev to-cnt : Cnt 𝓤 H A at-mem run .Ghost
-  to-cnt = ((tt, tt, tt, (vd, tt), (avals vd, tt)), tt)
-
-  asked-cnt : ent 𝓤 (sep 𝓤 (sem 𝓤 H A ftrue) (sem 𝓤 H A (owns (E.the-row ∷ []) (vd, tt) (avals vd, tt)))) (Cnt 𝓤 H A at-mem run .pre to-cnt)
-  asked-cnt = qed W (‵ ftrue ∷ ‵ (owns (E.the-row ∷ []) (vd, tt) (avals vd, tt)) ∷ []) ∵ join ! $ frame ! $ done !
-
-  said-cnt : (r : ℕ) → ent 𝓤 (ensured 𝓤 H A cnt.ended (cnt.clauses 𝓤 H A at-mem run) tt (vd, tt) tt r) (fact 𝓤 (r ≡ n))
-  said-cnt r = exE 𝓤 _ (λ ws. snd∗ 𝓤 (sem 𝓤 H A (lasts cnt.ended tt (vd, tt) ws)) (fact 𝓤 (r ≡ n)))
+  said-chk : (r : VbvVerified) → ent 𝓤 (ensured 𝓤 H A chk.ended (chk.clauses 𝓤 H A at-mem run) (κ, tt) given tt r) (fact 𝓤 (Told r))
+  said-chk r = exE 𝓤 _ (λ ws. snd∗ 𝓤 (sem 𝓤 H A (lasts chk.ended (κ, tt) given ws)) (fact 𝓤 (Told r)))
 
   abbrev to-opn : Opn 𝓤 H A at-mem run .Ghost
   to-opn = (((κ, tt), (q, tt), tt, (s, (standard, tt)), (svals, (nvals standard, tt))), tt)
@@ -242,16 +221,6 @@ module _ {M : Type 1} (𝓤 : URA M) (H : Heap 𝓤) (A : Atoms 𝓤) (W : Given
 
   said : (i : ℕ) (r : VbvRecorded) → ent 𝓤 (ensured 𝓤 H A adv.ended (adv.clauses 𝓤 H A at-mem run) (κ, tt) (st i, (s, tt)) tt r) (fact 𝓤 (r ≡ nx i))
   said i r = exE 𝓤 _ (λ ws. snd∗ 𝓤 (sem 𝓤 H A (lasts adv.ended (κ, tt) (st i, (s, tt)) ws)) (fact 𝓤 (r ≡ nx i)))
-
-  -- ---- the loop
-  abbrev Upto : Type 0
-  Upto = (i : ℕ) × ((i ≤ n) × Is S.the-row (st i) (wvals (st i)))
-
-  abbrev Nearer : Upto → Upto → Type 0
-  Nearer j i = n - j .0 < n - i .0
-
-  Nearer-wf : WellFounded Nearer
-  Nearer-wf = InvImage·wf (λ (i : Upto). n - i .0) (Nat·lt-wfRel .wf)
 
   -- ---- the body, from its last part on
   module _ (𝓣 : Tables 𝓤 H) (known-chk : Triple 𝓤 (𝓣 .C #chk) (Chk 𝓤 H A at-mem run)) (known-cnt : Triple 𝓤 (𝓣 .C #cnt) (Cnt 𝓤 H A at-mem run)) (known-opn : Triple 𝓤 (𝓣 .C #opn) (Opn 𝓤 H A at-mem run)) (known : Triple 𝓤 (𝓣 .C #adv) (Adv 𝓤 H A at-mem run)) (room : Room T.the-row (length ys)) (gn : Is N.the-row standard (nvals standard)) (l₀ l₁ l₂ l₃ l₄ l₅ l₆ l₇ l₈ l₉ l₁₀ l₁₁ l₁₂ : ℕ) where
@@ -273,119 +242,153 @@ module _ {M : Type 1} (𝓤 : URA M) (H : Heap 𝓤) (A : Atoms 𝓤) (W : Given
     abbrev En : Env 𝓤 H
     En = (E′.mir, l₀) ∷ (srcTy, l₁) ∷ (N′.mir, l₂) ∷ (dstTy, l₃) ∷ (E′.mir, l₄) ∷ (word, l₅) ∷ (S′.mir, l₆) ∷ (word, l₇) ∷ (D′.mir, l₈) ∷ (word, l₉) ∷ (tyBool, l₁₀) ∷ (word, l₁₁) ∷ (tyPtr, l₁₂) ∷ []
 
-    abbrev State : ℕ → Item 𝓤
-    State i = ‵ (fat fullShare S′.mir l₆ 0 (only (wvals (st i))))
+    -- what the check by value answered
+    module _ (vd : VbvVerified) (told : verifiedAnswer vd ≡ reported (verdict standard xs (length ys))) where
+      -- the walk over the pictures at first
+      abbrev n : ℕ
+      n = recordCount vd
 
-    -- the invariant: the borrow at what is stored, the tokens, what src owns, and the locals, the last first
-    abbrev At : Upto → List (Item 𝓤)
-    At i = ‵ (Obs (zs (i .0))) ∷ ‵ (Bor (zs (i .0))) ∷ ‵ (flft κ′ q′) ∷ ‵ (flft κ q) ∷ ‵ Src
-        ∷ ‵ (froom tyPtr l₁₂ 0) ∷ ‵ (fdies tyPtr l₁₂) ∷ ‵ (froom word l₁₁ 0) ∷ ‵ (fdies word l₁₁) ∷ ‵ (froom tyBool l₁₀ 0) ∷ ‵ (fdies tyBool l₁₀) ∷ ‵ (fat fullShare word l₉ 0 (vint w64 (length ys))) ∷ ‵ (fdies word l₉) ∷ ‵ (froom D′.mir l₈ 0) ∷ ‵ (fdies D′.mir l₈)
-        ∷ ‵ (fat fullShare word l₇ 0 (vint w64 (i .0))) ∷ ‵ (fdies word l₇) ∷ State (i .0) ∷ ‵ (fdies S′.mir l₆) ∷ ‵ (fat fullShare word l₅ 0 (vint w64 n)) ∷ ‵ (fdies word l₅) ∷ ‵ (fat fullShare E′.mir l₄ 0 (only (avals vd))) ∷ ‵ (fdies E′.mir l₄)
-        ∷ ‵ (fat fullShare dstTy l₃ 0 (sliceVal (b, o) (length ys))) ∷ ‵ (fdies dstTy l₃) ∷ ‵ (fat fullShare N′.mir l₂ 0 (only (nvals standard))) ∷ ‵ (fdies N′.mir l₂) ∷ ‵ (fat fullShare srcTy l₁ 0 (sliceVal (s .ptr) (length xs))) ∷ ‵ (fdies srcTy l₁) ∷ ‵ (froom E′.mir l₀ 0) ∷ ‵ (fdies E′.mir l₀) ∷ []
+      exits : Room T.the-row (length ys) → Is N.the-row standard (nvals standard) → Is E.the-row vd (avals vd) → (i : ℕ) → i ≡ n → ent 𝓤 (⋆ 𝓤 H A (‵ (Obs (zs i)) ∷ ‵ (Bor (zs i)) ∷ ‵ (flft κ′ q′) ∷ ‵ (flft κ q) ∷ ‵ Src ∷ [])) (Post (only (avals vd)))
+      exits room gn ga i e =
+          qed W (‵ (Obs (zs i)) ∷ ‵ (Bor (zs i)) ∷ ‵ (flft κ′ q′) ∷ ‵ (flft κ q) ∷ ‵ Src ∷ []) ∵
+          suffices ! _ (ends-at 𝓤 H A fn′.ended stayed (fn′.clauses 𝓤 H A at-mem run) W (((κ, (κ′, tt)), (q, (q′, tt)), bounds, x, at), tt) (only (avals vd)) vd (tt, (tt, (zs i, tt))) (tt, (tt, (length-stored xs w₀ i ys, tt)))) $
+          says ! (told, ap zs e ∙ stored-is standard xs ys vd told) $
+          nothing ! $ move ! (3 ∷ 0 ∷ []) $ join ! $ move ! (3 ∷ 0 ∷ []) $ join ! $ frame ! $
+          fjoin ! $ pureI ! (at-slice T.the-row (R (zs i)) (at .1 .1 .0)) (tt, (tt, tt)) (ap (λ (m : ℕ). sliceVal (b, o) m ∷ []) (sym (length-stored xs w₀ i ys)), subst (Room T.the-row) (sym (length-stored xs w₀ i ys)) room) $ fjoin ! $
+          nothing ! $ move ! (1 ∷ 0 ∷ []) $ fjoin ! $ owned ! N.the-row (Is N.the-row) (EL.makes N.the-type N′.the-plain 𝓤 H A) standard _ gn $ fjoin ! $ move ! (1 ∷ 0 ∷ []) $ fjoin ! $ owned ! E.the-row (Is E.the-row) (EL.makes E.the-type E′.the-plain 𝓤 H A) vd _ ga $ move ! (1 ∷ 0 ∷ []) $ done !
 
-    abbrev Turned : Upto → Out → SProp 𝓤
-    Turned i = afterTurn 𝓤 H (Below 𝓤 H A Nearer At i) (afterBlock 𝓤 H (afterSeq 𝓤 H (Wp 𝓤 H C Λ En body.t-7 (atReturn 𝓤 H En Post)) (atReturn 𝓤 H En Post)))
+      abbrev to-cnt : Cnt 𝓤 H A at-mem run .Ghost
+      to-cnt = ((tt, tt, tt, (vd, tt), (avals vd, tt)), tt)
 
-    -- a turn that stores a record
-    more : n < 2 ^ 64 → (i : Upto) → i .0 < n → ltb (i .0) n ≡ true → Sq W (At i) (runs C Λ En body.turn-1 (anyQ (Turned i)))
-    unfolding afterTurn
-    more fits i less e =
-        assigns ! (bin ! (load ! (from ! (stop !)) (look ! 15 refl)) (load ! (from ! (stop !)) (look ! 19 refl)) tt) (from ! (stop !)) (init ! 9 refl (tt, tt)) $
-        rewrite ! 9 (λ (t : Bool). ‵ (fat fullShare tyBool l₁₀ 0 (vbool t))) e refl $ stays ! (load ! (from ! (stop !)) (look ! 9 refl)) $
-        -- the call: what src owns is had twice
-        move ! (4 ∷ []) $ use1 W (‵ Src ⊛ ‵ Src) (shr-slice-copy 𝓤 H A W (named 0) κ u8 .twice s svals) $ split ! $ nothing ! $ move ! (1 ∷ 0 ∷ []) $ fjoin ! $
-        owned ! S.the-row (Is S.the-row) (LL.makes S.the-type S′.the-plain 𝓤 H A) (st (i .0)) _ (i .1 .1) $ fjoin ! $ move ! (5 ∷ 0 ∷ []) $ use2 W (raw (Adv 𝓤 H A at-mem run .pre (to (i .0)))) (asked (i .0)) $
-        calls-at ! (fmOf 𝓤 H (W .laws) 𝓣) (Adv 𝓤 H A at-mem run) known (to (i .0)) (and-then ! (load ! (from ! (stop !)) (look ! 17 refl)) (and-then ! (load ! (from ! (stop !)) (look ! 27 refl)) (no-more !))) (λ v.
-        use1 W (later (some (λ (r : VbvRecorded). ((‵ (flft κ q) ⊛ ‵ ftrue) ⊛ ‵ (D.the-row .own r (v ∷ []))) ⊛ raw (ensured 𝓤 H A adv.ended (adv.clauses 𝓤 H A at-mem run) (κ, tt) (st (i .0), (s, tt)) tt r)))) (id⊢ 𝓤 _) $ await ! tt $ pick ! (λ r.
-        split ! $ move ! (1 ∷ []) $ use1 W (raw (fact 𝓤 (r ≡ nx (i .0)))) (said (i .0) r) $ heard ! (r ≡ nx (i .0)) (λ is-nx. split ! $ split ! $ move ! (2 ∷ []) $
-        rewrite ! 0 (λ (d : VbvRecorded). ‵ (D.the-row .own d (v ∷ []))) is-nx refl $ peeks ! D.the-row (Is D.the-row) (shows 𝓤 H A D.the-row) (nx (i .0)) (v ∷ []) (λ is.
-        -- [what the result owns; src's token; true; src's; obs; the borrow; the token; _9; …; … ; room for _0; …]
-        land ! (from ! (stop !)) (init ! 15 refl (LL.lawful D.the-type D′.the-laws 𝓤 H A W .typed (nx (i .0)) _ is .0)) $
-        rewrite ! 15 (λ (us : List Val). ‵ (fat fullShare D′.mir l₈ 0 (only us))) (LL.tells D.the-type D′.the-laws (nx (i .0)) (v ∷ []) is) refl $
-        assigns ! (bin ! (load ! (from ! (stop !)) (look ! 17 refl)) (lit ! tt) (record { fits = byte-fits (room .1) in-ys })) (from ! (stop !)) (init ! 9 refl (tt, record { fits = byte-fits (room .1) in-ys })) $
-        assigns ! (bin ! (load ! (from ! (fld ! refl (stop !))) (look-in ! 25 (sub ! 0 refl (whole !)))) (load ! (from ! (stop !)) (look ! 9 refl)) tt) (from ! (stop !)) (init ! 7 refl (tt, tt)) $
-        rewrite ! 7 (λ (p : ℕ). ‵ (fat fullShare tyPtr l₁₂ 0 (vptr b p))) (sym (place-is 24 o (i .0))) refl $
-        move ! (4 ∷ 5 ∷ 6 ∷ []) $ opens-slice ! tt T.the-row (zs (i .0)) b o $
-        elem-out ! T.the-row (Is T.the-row) (shows 𝓤 H A T.the-row) rvals (LL.tells T.the-type T′.the-laws) fullShare (zs (i .0)) (i .0) (nx (i .0) .last) b o in-zs (λ _.
-        -- [records[i]; what it owns; the others; the open borrow; obs; auth; what the result owns; src's token; true; src's; _9; …; … ; room for _0; …]
-        assigns ! (of-opd ! (load ! (from ! (fld ! refl (stop !))) (look-in ! 18 (sub ! 1 refl (whole !))))) (from ! (hop ! (look ! 10 refl) (stop !))) (store-raw ! 0 refl (LL.lawful T.the-type T′.the-laws 𝓤 H A W .typed (nx (i .0) .last) _ (rec-is i v is) .0)) $
-        assigns ! (of-opd ! (load ! (from ! (fld ! refl (stop !))) (look-in ! 18 (sub ! 0 refl (whole !))))) (from ! (stop !)) (store ! 22 refl (LL.lawful S.the-type S′.the-laws 𝓤 H A W .typed (nx (i .0) .recorder) _ (walk-is i v is) .0)) $
-        move ! (1 ∷ []) $ drop ! $ owned ! T.the-row (Is T.the-row) (LL.makes T.the-type T′.the-plain 𝓤 H A) (nx (i .0) .last) _ (rec-is i v is) $ move ! (1 ∷ 0 ∷ []) $ elem-put ! T.the-row fullShare (zs (i .0)) (i .0) (nx (i .0) .last) (rvals (nx (i .0) .last)) b o in-zs $
-        closes-slice ! tt T.the-row (zs (i .0)) (zs (suc (i .0))) (length-set (zs (i .0)) (i .0) (nx (i .0) .last)) b o $
-        -- [obs; the borrow; the token; what the result owns; src's token; true; src's; _9; …; … ; room for _0; …]
-        assigns-last ! (bin ! (load ! (from ! (stop !)) (look ! 17 refl)) (lit ! tt) (record { fits = next-fits fits less })) (from ! (stop !)) (store ! 17 refl (tt, record { fits = next-fits fits less })) $
-        forget ! 7 refl $ forget ! 9 refl $ forget ! 11 refl $ forget ! 15 refl $
-        rewrite ! 0 (λ (k : ℕ). ‵ (Obs (zs k))) (sym (add-one (i .0))) refl $ rewrite ! 1 (λ (k : ℕ). ‵ (Bor (zs k))) (sym (add-one (i .0))) refl $ rewrite ! 19 State (sym (add-one (i .0))) refl $
-        move ! (3 ∷ []) $ drop ! $ move ! (4 ∷ []) $ drop ! $
-        again ! Nearer At i (i .0 + 1, (next-le less, subst (λ (k : ℕ). Is S.the-row (st k) (wvals (st k))) (sym (add-one (i .0))) (walk-is i v is))) (nearer less))))))
-      where
-        in-ys : i .0 < length ys
-        in-ys = lt-of-lt-of-le less (count-few standard xs (length ys))
+      asked-cnt : ent 𝓤 (sep 𝓤 (sem 𝓤 H A ftrue) (sem 𝓤 H A (owns (E.the-row ∷ []) (vd, tt) (avals vd, tt)))) (Cnt 𝓤 H A at-mem run .pre to-cnt)
+      asked-cnt = qed W (‵ ftrue ∷ ‵ (owns (E.the-row ∷ []) (vd, tt) (avals vd, tt)) ∷ []) ∵ join ! $ frame ! $ done !
 
-        in-zs : i .0 < length (zs (i .0))
-        in-zs = subst (λ (m : ℕ). i .0 < m) (sym (length-stored xs w₀ (i .0) ys)) in-ys
+      said-cnt : (r : ℕ) → ent 𝓤 (ensured 𝓤 H A cnt.ended (cnt.clauses 𝓤 H A at-mem run) tt (vd, tt) tt r) (fact 𝓤 (r ≡ n))
+      said-cnt r = exE 𝓤 _ (λ ws. snd∗ 𝓤 (sem 𝓤 H A (lasts cnt.ended tt (vd, tt) ws)) (fact 𝓤 (r ≡ n)))
 
-        walk-is : (j : Upto) (v : Val) → Is D.the-row (nx (j .0)) (v ∷ []) → Is S.the-row (nx (j .0) .recorder) (wvals (nx (j .0) .recorder))
-        walk-is j v is = LL.owed D.the-type D′.the-laws (nx (j .0)) (v ∷ []) is .0
+      -- ---- the loop
+      abbrev Upto : Type 0
+      Upto = (i : ℕ) × ((i ≤ n) × Is S.the-row (st i) (wvals (st i)))
 
-        rec-is : (j : Upto) (v : Val) → Is D.the-row (nx (j .0)) (v ∷ []) → Is T.the-row (nx (j .0) .last) (rvals (nx (j .0) .last))
-        rec-is j v is = LL.owed D.the-type D′.the-laws (nx (j .0)) (v ∷ []) is .1 .0
+      abbrev Nearer : Upto → Upto → Type 0
+      Nearer j i = n - j .0 < n - i .0
 
-    -- the turn that leaves the loop, and the rest of the body
-    ends : Is E.the-row vd (avals vd) → (i : Upto) → i .0 ≡ n → ltb (i .0) n ≡ false → Sq W (At i) (runs C Λ En body.turn-1 (anyQ (Turned i)))
-    unfolding afterTurn
-    ends ga i is e =
-        assigns ! (bin ! (load ! (from ! (stop !)) (look ! 15 refl)) (load ! (from ! (stop !)) (look ! 19 refl)) tt) (from ! (stop !)) (init ! 9 refl (tt, tt)) $
-        rewrite ! 9 (λ (t : Bool). ‵ (fat fullShare tyBool l₁₀ 0 (vbool t))) e refl $ leaves-loop ! (load ! (from ! (stop !)) (look ! 9 refl)) $ exec ! C Λ En body.t-7 (atRet En Post) $
-        assigns ! (of-opd ! (load ! (from ! (stop !)) (look ! 21 refl))) (from ! (stop !)) (init ! 29 refl (EL.lawful E.the-type E′.the-laws 𝓤 H A W tt .typed vd _ ga .0)) $
-        returns ! (look ! 29 refl) $ forget ! 9 refl $ forget ! 11 refl $ forget ! 15 refl $ forget ! 17 refl $ forget ! 19 refl $ forget ! 21 refl $ forget ! 23 refl $ forget ! 25 refl $ forget ! 27 refl $ forget ! 29 refl $
-        move ! (29 ∷ 30 ∷ []) $ free1 ! $ move ! (27 ∷ 28 ∷ []) $ free1 ! $ move ! (25 ∷ 26 ∷ []) $ free1 ! $ move ! (23 ∷ 24 ∷ []) $ free1 ! $ move ! (21 ∷ 22 ∷ []) $ free1 ! $ move ! (19 ∷ 20 ∷ []) $ free1 ! $ move ! (17 ∷ 18 ∷ []) $ free1 ! $ move ! (15 ∷ 16 ∷ []) $ free1 ! $ move ! (13 ∷ 14 ∷ []) $ free1 ! $ move ! (11 ∷ 12 ∷ []) $ free1 ! $ move ! (9 ∷ 10 ∷ []) $ free1 ! $ move ! (7 ∷ 8 ∷ []) $ free1 ! $ move ! (5 ∷ 6 ∷ []) $ free1 ! $ free0 ! $ by ! (exits room gn ga (i .0) is)
+      Nearer-wf : WellFounded Nearer
+      Nearer-wf = InvImage·wf (λ (i : Upto). n - i .0) (Nat·lt-wfRel .wf)
 
-    turns : n < 2 ^ 64 → Is E.the-row vd (avals vd) → (i : Upto) → Sq W (At i) (runs C Λ En body.turn-1 (anyQ (Turned i)))
-    turns fits ga i = by-bool (ltb (i .0) n) (λ e. more fits i (ltb→lt (i .0) n (subst Holds (sym e) tt)) e) (λ e. ends ga i (at-end (i .1 .0) (λ l. subst Holds e (lt→ltb (i .0) n l))) e)
+      abbrev State : ℕ → Item 𝓤
+      State i = ‵ (fat fullShare S′.mir l₆ 0 (only (wvals (st i))))
 
-    -- the loop and the rest of the body, from the invariant. It stands as a lemma of its own: inside `walk` the kernel's check of it does not end
-    enters : n < 2 ^ 64 → Is E.the-row vd (avals vd) → (i : Upto) → Sq W (At i) (runs C Λ En body.t-6 (atRet En Post))
-    enters fits ga i = first ! $ blocks ! $ loops ! 𝓣 Nearer Nearer-wf At (turns fits ga) i
+      -- the invariant: the borrow at what is stored, the tokens, what src owns, and the locals, the last first
+      abbrev At : Upto → List (Item 𝓤)
+      At i = ‵ (Obs (zs (i .0))) ∷ ‵ (Bor (zs (i .0))) ∷ ‵ (flft κ′ q′) ∷ ‵ (flft κ q) ∷ ‵ Src
+          ∷ ‵ (froom tyPtr l₁₂ 0) ∷ ‵ (fdies tyPtr l₁₂) ∷ ‵ (froom word l₁₁ 0) ∷ ‵ (fdies word l₁₁) ∷ ‵ (froom tyBool l₁₀ 0) ∷ ‵ (fdies tyBool l₁₀) ∷ ‵ (fat fullShare word l₉ 0 (vint w64 (length ys))) ∷ ‵ (fdies word l₉) ∷ ‵ (froom D′.mir l₈ 0) ∷ ‵ (fdies D′.mir l₈)
+          ∷ ‵ (fat fullShare word l₇ 0 (vint w64 (i .0))) ∷ ‵ (fdies word l₇) ∷ State (i .0) ∷ ‵ (fdies S′.mir l₆) ∷ ‵ (fat fullShare word l₅ 0 (vint w64 n)) ∷ ‵ (fdies word l₅) ∷ ‵ (fat fullShare E′.mir l₄ 0 (only (avals vd))) ∷ ‵ (fdies E′.mir l₄)
+          ∷ ‵ (fat fullShare dstTy l₃ 0 (sliceVal (b, o) (length ys))) ∷ ‵ (fdies dstTy l₃) ∷ ‵ (fat fullShare N′.mir l₂ 0 (only (nvals standard))) ∷ ‵ (fdies N′.mir l₂) ∷ ‵ (fat fullShare srcTy l₁ 0 (sliceVal (s .ptr) (length xs))) ∷ ‵ (fdies srcTy l₁) ∷ ‵ (froom E′.mir l₀ 0) ∷ ‵ (fdies E′.mir l₀) ∷ []
 
-    -- the walk over the pictures is made, and the index
-    abbrev Counted : List (Item 𝓤)
-    Counted = ‵ (flft κ q) ∷ ‵ ftrue ∷ ‵ Src ∷ ‵ (Obs ys) ∷ ‵ (Bor ys) ∷ ‵ (flft κ′ q′)
-        ∷ ‵ (froom tyPtr l₁₂ 0) ∷ ‵ (fdies tyPtr l₁₂) ∷ ‵ (froom word l₁₁ 0) ∷ ‵ (fdies word l₁₁) ∷ ‵ (froom tyBool l₁₀ 0) ∷ ‵ (fdies tyBool l₁₀) ∷ ‵ (fat fullShare word l₉ 0 (vint w64 (length ys))) ∷ ‵ (fdies word l₉)
-        ∷ ‵ (froom D′.mir l₈ 0) ∷ ‵ (fdies D′.mir l₈) ∷ ‵ (froom word l₇ 0) ∷ ‵ (fdies word l₇) ∷ ‵ (froom S′.mir l₆ 0) ∷ ‵ (fdies S′.mir l₆) ∷ ‵ (fat fullShare word l₅ 0 (vint w64 n)) ∷ ‵ (fdies word l₅) ∷ ‵ (fat fullShare E′.mir l₄ 0 (only (avals vd))) ∷ ‵ (fdies E′.mir l₄)
-        ∷ ‵ (fat fullShare dstTy l₃ 0 (sliceVal (b, o) (length ys))) ∷ ‵ (fdies dstTy l₃) ∷ ‵ (fat fullShare N′.mir l₂ 0 (only (nvals standard))) ∷ ‵ (fdies N′.mir l₂) ∷ ‵ (fat fullShare srcTy l₁ 0 (sliceVal (s .ptr) (length xs))) ∷ ‵ (fdies srcTy l₁) ∷ ‵ (froom E′.mir l₀ 0) ∷ ‵ (fdies E′.mir l₀) ∷ []
+      abbrev Turned : Upto → Out → SProp 𝓤
+      Turned i = afterTurn 𝓤 H (Below 𝓤 H A Nearer At i) (afterBlock 𝓤 H (afterSeq 𝓤 H (Wp 𝓤 H C Λ En body.t-7 (atReturn 𝓤 H En Post)) (atReturn 𝓤 H En Post)))
 
-    makes : n < 2 ^ 64 → Is E.the-row vd (avals vd) → Sq W Counted (runs C Λ En body.t-4 (atRet En Post))
-    makes fits ga =
-        move ! (2 ∷ []) $ use1 W (‵ Src ⊛ ‵ Src) (shr-slice-copy 𝓤 H A W (named 0) κ u8 .twice s svals) $ split ! $
-        nothing ! $ owned ! N.the-row (Is N.the-row) (EL.makes N.the-type N′.the-plain 𝓤 H A) standard _ gn $ fjoin ! $ move ! (1 ∷ 0 ∷ []) $ fjoin ! $ move ! (2 ∷ 0 ∷ []) $ use2 W (raw (Opn 𝓤 H A at-mem run .pre to-opn)) asked-opn $
-        calls-at ! (fmOf 𝓤 H (W .laws) 𝓣) (Opn 𝓤 H A at-mem run) known-opn to-opn (and-then ! (load ! (from ! (stop !)) (look ! 28 refl)) (and-then ! (load ! (from ! (stop !)) (look ! 26 refl)) (no-more !))) (λ v.
-        use1 W (later (some (λ (r : VbvRecorder). ((‵ (flft κ q) ⊛ ‵ ftrue) ⊛ ‵ (S.the-row .own r (v ∷ []))) ⊛ raw (ensured 𝓤 H A opn.ended (opn.clauses 𝓤 H A at-mem run) (κ, tt) (s, (standard, tt)) tt r)))) (id⊢ 𝓤 _) $ await ! tt $ pick ! (λ r.
-        split ! $ move ! (1 ∷ []) $ use1 W (raw (fact 𝓤 (r ≡ w₀))) (said-opn r) $ heard ! (r ≡ w₀) (λ e. split ! $ split ! $ move ! (2 ∷ []) $
-        rewrite ! 0 (λ (d : VbvRecorder). ‵ (S.the-row .own d (v ∷ []))) e refl $ peeks ! S.the-row (Is S.the-row) (shows 𝓤 H A S.the-row) w₀ (v ∷ []) (λ is.
-        -- [what the result owns; src's token; true; src's; true; obs; the borrow; the token; _12; …; … ; room for _0; …]
-        land ! (from ! (stop !)) (init ! 20 refl (LL.lawful S.the-type S′.the-laws 𝓤 H A W .typed w₀ _ is .0)) $
-        rewrite ! 20 (λ (us : List Val). ‵ (fat fullShare S′.mir l₆ 0 (only us))) (LL.tells S.the-type S′.the-laws w₀ (v ∷ []) is) refl $ drop ! $
-        assigns ! (of-opd ! (lit ! tt)) (from ! (stop !)) (init ! 17 refl (tt, record { fits = lit< tt })) $
-        keep ! (4 ∷ 5 ∷ 6 ∷ 0 ∷ 2 ∷ 7 ∷ 8 ∷ 9 ∷ 10 ∷ 11 ∷ 12 ∷ 13 ∷ 14 ∷ 15 ∷ 16 ∷ 17 ∷ 18 ∷ 19 ∷ 20 ∷ 21 ∷ 22 ∷ 23 ∷ 24 ∷ 25 ∷ 26 ∷ 27 ∷ 28 ∷ 29 ∷ 30 ∷ 31 ∷ 32 ∷ []) $
-        enters fits ga (0, (zero-le, subst (Is S.the-row w₀) (LL.tells S.the-type S′.the-laws w₀ (v ∷ []) is) is))))))
+      -- a turn that stores a record
+      more : n < 2 ^ 64 → (i : Upto) → i .0 < n → ltb (i .0) n ≡ true → Sq W (At i) (runs C Λ En body.turn-1 (anyQ (Turned i)))
+      unfolding afterTurn
+      more fits i less e =
+          assigns ! (bin ! (load ! (from ! (stop !)) (look ! 15 refl)) (load ! (from ! (stop !)) (look ! 19 refl)) tt) (from ! (stop !)) (init ! 9 refl (tt, tt)) $
+          rewrite ! 9 (λ (t : Bool). ‵ (fat fullShare tyBool l₁₀ 0 (vbool t))) e refl $ stays ! (load ! (from ! (stop !)) (look ! 9 refl)) $
+          -- the call: what src owns is had twice
+          move ! (4 ∷ []) $ use1 W (‵ Src ⊛ ‵ Src) (shr-slice-copy 𝓤 H A W (named 0) κ u8 .twice s svals) $ split ! $ nothing ! $ move ! (1 ∷ 0 ∷ []) $ fjoin ! $
+          owned ! S.the-row (Is S.the-row) (LL.makes S.the-type S′.the-plain 𝓤 H A) (st (i .0)) _ (i .1 .1) $ fjoin ! $ move ! (5 ∷ 0 ∷ []) $ use2 W (raw (Adv 𝓤 H A at-mem run .pre (to (i .0)))) (asked (i .0)) $
+          calls-at ! (fmOf 𝓤 H (W .laws) 𝓣) (Adv 𝓤 H A at-mem run) known (to (i .0)) (and-then ! (load ! (from ! (stop !)) (look ! 17 refl)) (and-then ! (load ! (from ! (stop !)) (look ! 27 refl)) (no-more !))) (λ v.
+          use1 W (later (some (λ (r : VbvRecorded). ((‵ (flft κ q) ⊛ ‵ ftrue) ⊛ ‵ (D.the-row .own r (v ∷ []))) ⊛ raw (ensured 𝓤 H A adv.ended (adv.clauses 𝓤 H A at-mem run) (κ, tt) (st (i .0), (s, tt)) tt r)))) (id⊢ 𝓤 _) $ await ! tt $ pick ! (λ r.
+          split ! $ move ! (1 ∷ []) $ use1 W (raw (fact 𝓤 (r ≡ nx (i .0)))) (said (i .0) r) $ heard ! (r ≡ nx (i .0)) (λ is-nx. split ! $ split ! $ move ! (2 ∷ []) $
+          rewrite ! 0 (λ (d : VbvRecorded). ‵ (D.the-row .own d (v ∷ []))) is-nx refl $ peeks ! D.the-row (Is D.the-row) (shows 𝓤 H A D.the-row) (nx (i .0)) (v ∷ []) (λ is.
+          -- [what the result owns; src's token; true; src's; obs; the borrow; the token; _9; …; … ; room for _0; …]
+          land ! (from ! (stop !)) (init ! 15 refl (LL.lawful D.the-type D′.the-laws 𝓤 H A W .typed (nx (i .0)) _ is .0)) $
+          rewrite ! 15 (λ (us : List Val). ‵ (fat fullShare D′.mir l₈ 0 (only us))) (LL.tells D.the-type D′.the-laws (nx (i .0)) (v ∷ []) is) refl $
+          assigns ! (bin ! (load ! (from ! (stop !)) (look ! 17 refl)) (lit ! tt) (record { fits = byte-fits (room .1) in-ys })) (from ! (stop !)) (init ! 9 refl (tt, record { fits = byte-fits (room .1) in-ys })) $
+          assigns ! (bin ! (load ! (from ! (fld ! refl (stop !))) (look-in ! 25 (sub ! 0 refl (whole !)))) (load ! (from ! (stop !)) (look ! 9 refl)) tt) (from ! (stop !)) (init ! 7 refl (tt, tt)) $
+          rewrite ! 7 (λ (p : ℕ). ‵ (fat fullShare tyPtr l₁₂ 0 (vptr b p))) (sym (place-is 24 o (i .0))) refl $
+          move ! (4 ∷ 5 ∷ 6 ∷ []) $ opens-slice ! tt T.the-row (zs (i .0)) b o $
+          elem-out ! T.the-row (Is T.the-row) (shows 𝓤 H A T.the-row) rvals (LL.tells T.the-type T′.the-laws) fullShare (zs (i .0)) (i .0) (nx (i .0) .last) b o in-zs (λ _.
+          -- [records[i]; what it owns; the others; the open borrow; obs; auth; what the result owns; src's token; true; src's; _9; …; … ; room for _0; …]
+          assigns ! (of-opd ! (load ! (from ! (fld ! refl (stop !))) (look-in ! 18 (sub ! 1 refl (whole !))))) (from ! (hop ! (look ! 10 refl) (stop !))) (store-raw ! 0 refl (LL.lawful T.the-type T′.the-laws 𝓤 H A W .typed (nx (i .0) .last) _ (rec-is i v is) .0)) $
+          assigns ! (of-opd ! (load ! (from ! (fld ! refl (stop !))) (look-in ! 18 (sub ! 0 refl (whole !))))) (from ! (stop !)) (store ! 22 refl (LL.lawful S.the-type S′.the-laws 𝓤 H A W .typed (nx (i .0) .recorder) _ (walk-is i v is) .0)) $
+          move ! (1 ∷ []) $ drop ! $ owned ! T.the-row (Is T.the-row) (LL.makes T.the-type T′.the-plain 𝓤 H A) (nx (i .0) .last) _ (rec-is i v is) $ move ! (1 ∷ 0 ∷ []) $ elem-put ! T.the-row fullShare (zs (i .0)) (i .0) (nx (i .0) .last) (rvals (nx (i .0) .last)) b o in-zs $
+          closes-slice ! tt T.the-row (zs (i .0)) (zs (suc (i .0))) (length-set (zs (i .0)) (i .0) (nx (i .0) .last)) b o $
+          -- [obs; the borrow; the token; what the result owns; src's token; true; src's; _9; …; … ; room for _0; …]
+          assigns-last ! (bin ! (load ! (from ! (stop !)) (look ! 17 refl)) (lit ! tt) (record { fits = next-fits fits less })) (from ! (stop !)) (store ! 17 refl (tt, record { fits = next-fits fits less })) $
+          forget ! 7 refl $ forget ! 9 refl $ forget ! 11 refl $ forget ! 15 refl $
+          rewrite ! 0 (λ (k : ℕ). ‵ (Obs (zs k))) (sym (add-one (i .0))) refl $ rewrite ! 1 (λ (k : ℕ). ‵ (Bor (zs k))) (sym (add-one (i .0))) refl $ rewrite ! 19 State (sym (add-one (i .0))) refl $
+          move ! (3 ∷ []) $ drop ! $ move ! (4 ∷ []) $ drop ! $
+          again ! Nearer At i (i .0 + 1, (next-le less, subst (λ (k : ℕ). Is S.the-row (st k) (wvals (st k))) (sym (add-one (i .0))) (walk-is i v is))) (nearer less))))))
+        where
+          in-ys : i .0 < length ys
+          in-ys = lt-of-lt-of-le less (count-few standard xs (length ys) vd told)
 
-    -- the records are counted
-    abbrev Answered : List (Item 𝓤)
-    Answered = ‵ (flft κ q) ∷ ‵ ftrue ∷ ‵ Src ∷ ‵ (Obs ys) ∷ ‵ (Bor ys) ∷ ‵ (flft κ′ q′)
-        ∷ ‵ (froom tyPtr l₁₂ 0) ∷ ‵ (fdies tyPtr l₁₂) ∷ ‵ (froom word l₁₁ 0) ∷ ‵ (fdies word l₁₁) ∷ ‵ (froom tyBool l₁₀ 0) ∷ ‵ (fdies tyBool l₁₀) ∷ ‵ (fat fullShare word l₉ 0 (vint w64 (length ys))) ∷ ‵ (fdies word l₉)
-        ∷ ‵ (froom D′.mir l₈ 0) ∷ ‵ (fdies D′.mir l₈) ∷ ‵ (froom word l₇ 0) ∷ ‵ (fdies word l₇) ∷ ‵ (froom S′.mir l₆ 0) ∷ ‵ (fdies S′.mir l₆) ∷ ‵ (froom word l₅ 0) ∷ ‵ (fdies word l₅) ∷ ‵ (fat fullShare E′.mir l₄ 0 (only (avals vd))) ∷ ‵ (fdies E′.mir l₄)
-        ∷ ‵ (fat fullShare dstTy l₃ 0 (sliceVal (b, o) (length ys))) ∷ ‵ (fdies dstTy l₃) ∷ ‵ (fat fullShare N′.mir l₂ 0 (only (nvals standard))) ∷ ‵ (fdies N′.mir l₂) ∷ ‵ (fat fullShare srcTy l₁ 0 (sliceVal (s .ptr) (length xs))) ∷ ‵ (fdies srcTy l₁) ∷ ‵ (froom E′.mir l₀ 0) ∷ ‵ (fdies E′.mir l₀) ∷ []
+          in-zs : i .0 < length (zs (i .0))
+          in-zs = subst (λ (m : ℕ). i .0 < m) (sym (length-stored xs w₀ (i .0) ys)) in-ys
 
-    counts : Is E.the-row vd (avals vd) → Sq W Answered (runs C Λ En body.t-3 (atRet En Post))
-    counts ga =
-        nothing ! $ owned ! E.the-row (Is E.the-row) (EL.makes E.the-type E′.the-plain 𝓤 H A) vd _ ga $ fjoin ! $ nothing ! $ use2 W (raw (Cnt 𝓤 H A at-mem run .pre to-cnt)) asked-cnt $
-        calls-at ! (fmOf 𝓤 H (W .laws) 𝓣) (Cnt 𝓤 H A at-mem run) known-cnt to-cnt (and-then ! (load ! (from ! (stop !)) (look ! 23 refl)) (no-more !)) (λ u.
-        use1 W (later (some (λ (m : ℕ). (‵ ftrue ⊛ ‵ (usize .own m (u ∷ []))) ⊛ raw (ensured 𝓤 H A cnt.ended (cnt.clauses 𝓤 H A at-mem run) tt (vd, tt) tt m)))) (id⊢ 𝓤 _) $ await ! tt $ pick ! (λ m.
-        split ! $ move ! (1 ∷ []) $ use1 W (raw (fact 𝓤 (m ≡ n))) (said-cnt m) $ heard ! (m ≡ n) (λ e. split ! $ drop ! $
-        rewrite ! 0 (λ (k : ℕ). ‵ (usize .own k (u ∷ []))) e refl $ peeks ! usize (Is usize) (shows 𝓤 H A usize) n (u ∷ []) (λ is.
-        land ! (from ! (stop !)) (init ! 21 refl (uint-lawful 𝓤 H A W w64 .typed n _ is .0)) $ rewrite ! 21 (λ (us : List Val). ‵ (fat fullShare word l₅ 0 (only us))) (is .0) refl $ drop ! $
-        makes (is .1) ga))))
+          walk-is : (j : Upto) (v : Val) → Is D.the-row (nx (j .0)) (v ∷ []) → Is S.the-row (nx (j .0) .recorder) (wvals (nx (j .0) .recorder))
+          walk-is j v is = LL.owed D.the-type D′.the-laws (nx (j .0)) (v ∷ []) is .0
+
+          rec-is : (j : Upto) (v : Val) → Is D.the-row (nx (j .0)) (v ∷ []) → Is T.the-row (nx (j .0) .last) (rvals (nx (j .0) .last))
+          rec-is j v is = LL.owed D.the-type D′.the-laws (nx (j .0)) (v ∷ []) is .1 .0
+
+      -- the turn that leaves the loop, and the rest of the body
+      ends : Is E.the-row vd (avals vd) → (i : Upto) → i .0 ≡ n → ltb (i .0) n ≡ false → Sq W (At i) (runs C Λ En body.turn-1 (anyQ (Turned i)))
+      unfolding afterTurn
+      ends ga i is e =
+          assigns ! (bin ! (load ! (from ! (stop !)) (look ! 15 refl)) (load ! (from ! (stop !)) (look ! 19 refl)) tt) (from ! (stop !)) (init ! 9 refl (tt, tt)) $
+          rewrite ! 9 (λ (t : Bool). ‵ (fat fullShare tyBool l₁₀ 0 (vbool t))) e refl $ leaves-loop ! (load ! (from ! (stop !)) (look ! 9 refl)) $ exec ! C Λ En body.t-7 (atRet En Post) $
+          assigns ! (of-opd ! (load ! (from ! (stop !)) (look ! 21 refl))) (from ! (stop !)) (init ! 29 refl (EL.lawful E.the-type E′.the-laws 𝓤 H A W tt .typed vd _ ga .0)) $
+          returns ! (look ! 29 refl) $ forget ! 9 refl $ forget ! 11 refl $ forget ! 15 refl $ forget ! 17 refl $ forget ! 19 refl $ forget ! 21 refl $ forget ! 23 refl $ forget ! 25 refl $ forget ! 27 refl $ forget ! 29 refl $
+          move ! (29 ∷ 30 ∷ []) $ free1 ! $ move ! (27 ∷ 28 ∷ []) $ free1 ! $ move ! (25 ∷ 26 ∷ []) $ free1 ! $ move ! (23 ∷ 24 ∷ []) $ free1 ! $ move ! (21 ∷ 22 ∷ []) $ free1 ! $ move ! (19 ∷ 20 ∷ []) $ free1 ! $ move ! (17 ∷ 18 ∷ []) $ free1 ! $ move ! (15 ∷ 16 ∷ []) $ free1 ! $ move ! (13 ∷ 14 ∷ []) $ free1 ! $ move ! (11 ∷ 12 ∷ []) $ free1 ! $ move ! (9 ∷ 10 ∷ []) $ free1 ! $ move ! (7 ∷ 8 ∷ []) $ free1 ! $ move ! (5 ∷ 6 ∷ []) $ free1 ! $ free0 ! $ by ! (exits room gn ga (i .0) is)
+
+      turns : n < 2 ^ 64 → Is E.the-row vd (avals vd) → (i : Upto) → Sq W (At i) (runs C Λ En body.turn-1 (anyQ (Turned i)))
+      turns fits ga i = by-bool (ltb (i .0) n) (λ e. more fits i (ltb→lt (i .0) n (subst Holds (sym e) tt)) e) (λ e. ends ga i (at-end (i .1 .0) (λ l. subst Holds e (lt→ltb (i .0) n l))) e)
+
+      -- the loop and the rest of the body, from the invariant. It stands as a lemma of its own: inside `walk` the kernel's check of it does not end
+      enters : n < 2 ^ 64 → Is E.the-row vd (avals vd) → (i : Upto) → Sq W (At i) (runs C Λ En body.t-6 (atRet En Post))
+      enters fits ga i = first ! $ blocks ! $ loops ! 𝓣 Nearer Nearer-wf At (turns fits ga) i
+
+      -- the walk over the pictures is made, and the index
+      abbrev Counted : List (Item 𝓤)
+      Counted = ‵ (flft κ q) ∷ ‵ ftrue ∷ ‵ Src ∷ ‵ (Obs ys) ∷ ‵ (Bor ys) ∷ ‵ (flft κ′ q′)
+          ∷ ‵ (froom tyPtr l₁₂ 0) ∷ ‵ (fdies tyPtr l₁₂) ∷ ‵ (froom word l₁₁ 0) ∷ ‵ (fdies word l₁₁) ∷ ‵ (froom tyBool l₁₀ 0) ∷ ‵ (fdies tyBool l₁₀) ∷ ‵ (fat fullShare word l₉ 0 (vint w64 (length ys))) ∷ ‵ (fdies word l₉)
+          ∷ ‵ (froom D′.mir l₈ 0) ∷ ‵ (fdies D′.mir l₈) ∷ ‵ (froom word l₇ 0) ∷ ‵ (fdies word l₇) ∷ ‵ (froom S′.mir l₆ 0) ∷ ‵ (fdies S′.mir l₆) ∷ ‵ (fat fullShare word l₅ 0 (vint w64 n)) ∷ ‵ (fdies word l₅) ∷ ‵ (fat fullShare E′.mir l₄ 0 (only (avals vd))) ∷ ‵ (fdies E′.mir l₄)
+          ∷ ‵ (fat fullShare dstTy l₃ 0 (sliceVal (b, o) (length ys))) ∷ ‵ (fdies dstTy l₃) ∷ ‵ (fat fullShare N′.mir l₂ 0 (only (nvals standard))) ∷ ‵ (fdies N′.mir l₂) ∷ ‵ (fat fullShare srcTy l₁ 0 (sliceVal (s .ptr) (length xs))) ∷ ‵ (fdies srcTy l₁) ∷ ‵ (froom E′.mir l₀ 0) ∷ ‵ (fdies E′.mir l₀) ∷ []
+
+      makes : n < 2 ^ 64 → Is E.the-row vd (avals vd) → Sq W Counted (runs C Λ En body.t-4 (atRet En Post))
+      makes fits ga =
+          move ! (2 ∷ []) $ use1 W (‵ Src ⊛ ‵ Src) (shr-slice-copy 𝓤 H A W (named 0) κ u8 .twice s svals) $ split ! $
+          nothing ! $ owned ! N.the-row (Is N.the-row) (EL.makes N.the-type N′.the-plain 𝓤 H A) standard _ gn $ fjoin ! $ move ! (1 ∷ 0 ∷ []) $ fjoin ! $ move ! (2 ∷ 0 ∷ []) $ use2 W (raw (Opn 𝓤 H A at-mem run .pre to-opn)) asked-opn $
+          calls-at ! (fmOf 𝓤 H (W .laws) 𝓣) (Opn 𝓤 H A at-mem run) known-opn to-opn (and-then ! (load ! (from ! (stop !)) (look ! 28 refl)) (and-then ! (load ! (from ! (stop !)) (look ! 26 refl)) (no-more !))) (λ v.
+          use1 W (later (some (λ (r : VbvRecorder). ((‵ (flft κ q) ⊛ ‵ ftrue) ⊛ ‵ (S.the-row .own r (v ∷ []))) ⊛ raw (ensured 𝓤 H A opn.ended (opn.clauses 𝓤 H A at-mem run) (κ, tt) (s, (standard, tt)) tt r)))) (id⊢ 𝓤 _) $ await ! tt $ pick ! (λ r.
+          split ! $ move ! (1 ∷ []) $ use1 W (raw (fact 𝓤 (r ≡ w₀))) (said-opn r) $ heard ! (r ≡ w₀) (λ e. split ! $ split ! $ move ! (2 ∷ []) $
+          rewrite ! 0 (λ (d : VbvRecorder). ‵ (S.the-row .own d (v ∷ []))) e refl $ peeks ! S.the-row (Is S.the-row) (shows 𝓤 H A S.the-row) w₀ (v ∷ []) (λ is.
+          -- [what the result owns; src's token; true; src's; true; obs; the borrow; the token; _12; …; … ; room for _0; …]
+          land ! (from ! (stop !)) (init ! 20 refl (LL.lawful S.the-type S′.the-laws 𝓤 H A W .typed w₀ _ is .0)) $
+          rewrite ! 20 (λ (us : List Val). ‵ (fat fullShare S′.mir l₆ 0 (only us))) (LL.tells S.the-type S′.the-laws w₀ (v ∷ []) is) refl $ drop ! $
+          assigns ! (of-opd ! (lit ! tt)) (from ! (stop !)) (init ! 17 refl (tt, record { fits = lit< tt })) $
+          keep ! (4 ∷ 5 ∷ 6 ∷ 0 ∷ 2 ∷ 7 ∷ 8 ∷ 9 ∷ 10 ∷ 11 ∷ 12 ∷ 13 ∷ 14 ∷ 15 ∷ 16 ∷ 17 ∷ 18 ∷ 19 ∷ 20 ∷ 21 ∷ 22 ∷ 23 ∷ 24 ∷ 25 ∷ 26 ∷ 27 ∷ 28 ∷ 29 ∷ 30 ∷ 31 ∷ 32 ∷ []) $
+          enters fits ga (0, (zero-le, subst (Is S.the-row w₀) (LL.tells S.the-type S′.the-laws w₀ (v ∷ []) is) is))))))
+
+      -- the records are counted
+      abbrev Answered : List (Item 𝓤)
+      Answered = ‵ (flft κ q) ∷ ‵ ftrue ∷ ‵ Src ∷ ‵ (Obs ys) ∷ ‵ (Bor ys) ∷ ‵ (flft κ′ q′)
+          ∷ ‵ (froom tyPtr l₁₂ 0) ∷ ‵ (fdies tyPtr l₁₂) ∷ ‵ (froom word l₁₁ 0) ∷ ‵ (fdies word l₁₁) ∷ ‵ (froom tyBool l₁₀ 0) ∷ ‵ (fdies tyBool l₁₀) ∷ ‵ (fat fullShare word l₉ 0 (vint w64 (length ys))) ∷ ‵ (fdies word l₉)
+          ∷ ‵ (froom D′.mir l₈ 0) ∷ ‵ (fdies D′.mir l₈) ∷ ‵ (froom word l₇ 0) ∷ ‵ (fdies word l₇) ∷ ‵ (froom S′.mir l₆ 0) ∷ ‵ (fdies S′.mir l₆) ∷ ‵ (froom word l₅ 0) ∷ ‵ (fdies word l₅) ∷ ‵ (fat fullShare E′.mir l₄ 0 (only (avals vd))) ∷ ‵ (fdies E′.mir l₄)
+          ∷ ‵ (fat fullShare dstTy l₃ 0 (sliceVal (b, o) (length ys))) ∷ ‵ (fdies dstTy l₃) ∷ ‵ (fat fullShare N′.mir l₂ 0 (only (nvals standard))) ∷ ‵ (fdies N′.mir l₂) ∷ ‵ (fat fullShare srcTy l₁ 0 (sliceVal (s .ptr) (length xs))) ∷ ‵ (fdies srcTy l₁) ∷ ‵ (froom E′.mir l₀ 0) ∷ ‵ (fdies E′.mir l₀) ∷ []
+
+      counts : Is E.the-row vd (avals vd) → Sq W Answered (runs C Λ En body.t-3 (atRet En Post))
+      counts ga =
+          nothing ! $ owned ! E.the-row (Is E.the-row) (EL.makes E.the-type E′.the-plain 𝓤 H A) vd _ ga $ fjoin ! $ nothing ! $ use2 W (raw (Cnt 𝓤 H A at-mem run .pre to-cnt)) asked-cnt $
+          calls-at ! (fmOf 𝓤 H (W .laws) 𝓣) (Cnt 𝓤 H A at-mem run) known-cnt to-cnt (and-then ! (load ! (from ! (stop !)) (look ! 23 refl)) (no-more !)) (λ u.
+          use1 W (later (some (λ (m : ℕ). (‵ ftrue ⊛ ‵ (usize .own m (u ∷ []))) ⊛ raw (ensured 𝓤 H A cnt.ended (cnt.clauses 𝓤 H A at-mem run) tt (vd, tt) tt m)))) (id⊢ 𝓤 _) $ await ! tt $ pick ! (λ m.
+          split ! $ move ! (1 ∷ []) $ use1 W (raw (fact 𝓤 (m ≡ n))) (said-cnt m) $ heard ! (m ≡ n) (λ e. split ! $ drop ! $
+          rewrite ! 0 (λ (k : ℕ). ‵ (usize .own k (u ∷ []))) e refl $ peeks ! usize (Is usize) (shows 𝓤 H A usize) n (u ∷ []) (λ is.
+          land ! (from ! (stop !)) (init ! 21 refl (uint-lawful 𝓤 H A W w64 .typed n _ is .0)) $ rewrite ! 21 (λ (us : List Val). ‵ (fat fullShare word l₅ 0 (only us))) (is .0) refl $ drop ! $
+          makes (is .1) ga))))
 
     -- the check by value is asked
     abbrev Asking : List (Item 𝓤)
@@ -400,12 +403,12 @@ module _ {M : Type 1} (𝓤 : URA M) (H : Heap 𝓤) (A : Atoms 𝓤) (W : Given
         nothing ! $ owned ! usize (Is usize) (uint-makes 𝓤 H A W w64) (length ys) _ (refl, room .0) $ fjoin ! $ owned ! N.the-row (Is N.the-row) (EL.makes N.the-type N′.the-plain 𝓤 H A) standard _ gn $ fjoin ! $ move ! (1 ∷ 0 ∷ []) $ fjoin ! $ move ! (5 ∷ 0 ∷ []) $ use2 W (raw (Chk 𝓤 H A at-mem run .pre to-chk)) asked-chk $
         calls-at ! (fmOf 𝓤 H (W .laws) 𝓣) (Chk 𝓤 H A at-mem run) known-chk to-chk (and-then ! (load ! (from ! (stop !)) (look ! 27 refl)) (and-then ! (load ! (from ! (stop !)) (look ! 25 refl)) (and-then ! (load ! (from ! (stop !)) (look ! 11 refl)) (no-more !)))) (λ v.
         use1 W (later (some (λ (r : VbvVerified). ((‵ (flft κ q) ⊛ ‵ ftrue) ⊛ ‵ (E.the-row .own r (v ∷ []))) ⊛ raw (ensured 𝓤 H A chk.ended (chk.clauses 𝓤 H A at-mem run) (κ, tt) given tt r)))) (id⊢ 𝓤 _) $ await ! tt $ pick ! (λ r.
-        split ! $ move ! (1 ∷ []) $ use1 W (raw (fact 𝓤 (r ≡ vd))) (said-chk r) $ heard ! (r ≡ vd) (λ e. split ! $ split ! $ move ! (2 ∷ []) $
-        rewrite ! 0 (λ (d : VbvVerified). ‵ (E.the-row .own d (v ∷ []))) e refl $ peeks ! E.the-row (Is E.the-row) (shows 𝓤 H A E.the-row) vd (v ∷ []) (λ is.
+        split ! $ move ! (1 ∷ []) $ use1 W (raw (fact 𝓤 (Told r))) (said-chk r) $ heard ! (Told r) (λ e. split ! $ split ! $ move ! (2 ∷ []) $
+        peeks ! E.the-row (Is E.the-row) (shows 𝓤 H A E.the-row) r (v ∷ []) (λ is.
         -- [what the result owns; src's token; true; src's; obs; the borrow; the token; _12; …; … ; room for _0; …]
-        land ! (from ! (stop !)) (init ! 23 refl (EL.lawful E.the-type E′.the-laws 𝓤 H A W tt .typed vd _ is .0)) $
-        rewrite ! 23 (λ (us : List Val). ‵ (fat fullShare E′.mir l₄ 0 (only us))) (EL.tells E.the-type E′.the-laws vd (v ∷ []) is) refl $ drop ! $
-        counts (subst (Is E.the-row vd) (EL.tells E.the-type E′.the-laws vd (v ∷ []) is) is)))))
+        land ! (from ! (stop !)) (init ! 23 refl (EL.lawful E.the-type E′.the-laws 𝓤 H A W tt .typed r _ is .0)) $
+        rewrite ! 23 (λ (us : List Val). ‵ (fat fullShare E′.mir l₄ 0 (only us))) (EL.tells E.the-type E′.the-laws r (v ∷ []) is) refl $ drop ! $
+        counts r e (subst (Is E.the-row r) (EL.tells E.the-type E′.the-laws r (v ∷ []) is) is)))))
 
     -- the places are counted
     abbrev Entered : List (Item 𝓤)

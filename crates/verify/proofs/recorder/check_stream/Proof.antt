@@ -1,4 +1,5 @@
-use mathlib.Core.Path.{sym, _∙_}
+use mathlib.Core.Path.{ap, _∙_}
+use Rattle.verify.specs.Answers.{verifiedAnswer}
 use native.Mathlib.Omega.{arith}
 use Rattle.verify.proofs.Verdict.{checked-long, checked-undeclared, checked-declared}
 use borrow.Author.Needs.{needs}
@@ -27,10 +28,10 @@ judge-requires : tie.Need-judge-requires
 judge-requires c κs = search needs
 
 returns-2 : tie.Need-returns-2
-returns-2 c = checked-undeclared _ _ _ (omega arith) _ (sym (c .before .before .before .declared-params .ensures) ∙ c .before .error .given .1)
+returns-2 c = checked-undeclared _ _ _ (omega arith) (c .before .error .given .1) (c .before .before .before .declared-params .ensures)
 
 returns-3 : tie.Need-returns-3
-returns-3 c = c .judge .ensures ∙ rw (c .before .before .walk .ensures .0) (checked-declared _ _ _ (omega arith) _ (sym (c .before .before .before .before .before .before .before .declared-params .ensures) ∙ c .before .before .before .before .before .params .given .1))
+returns-3 c = ap verifiedAnswer (c .judge .ensures) ∙ rw (c .before .before .walk .ensures .0) (checked-declared _ _ _ (omega arith) (c .before .before .before .before .before .params .given .1) (c .before .before .before .before .before .before .before .declared-params .ensures))
 
 pub check-stream-spec : {M : Type 1} → statement M
 check-stream-spec =

@@ -1,6 +1,6 @@
 use native.Mathlib.Omega.{arith}
-use mathlib.Core.Path.{sym, _∙_}
-use Rattle.verify.proofs.Verdict.{range-refused, undeclared, refused, reported}
+use mathlib.Core.Path.{_∙_}
+use Rattle.verify.proofs.Verdict.{range-refused, undeclared, refused-answer, reported-answer}
 use borrow.Author.Needs.{needs}
 use Rattle.verify.proofs.report.verify_cbr_stream.Statement.{statement}
 use Rattle.verify.proofs.report.verify_cbr_stream.Tie as tie
@@ -33,7 +33,7 @@ enum-told-2 : tie.Need-enum-told-2
 enum-told-2 c = search needs
 
 returns-2 : tie.Need-returns-2
-returns-2 c = undeclared _ _ _ (omega arith) _ (sym (c .before .before .before .declared-params .ensures) ∙ c .before .error .given .1)
+returns-2 c = undeclared _ _ _ (omega arith) (c .before .error .given .1) (c .before .before .before .declared-params .ensures)
 
 same-length : tie.Need-same-length
 same-length c = search needs
@@ -42,7 +42,7 @@ returns-3 : tie.Need-returns-3
 returns-3 c =
     let k = c .before .before .before .before .before .before in
     let w = k .before .before .before in
-    reported _ _ _ (omega arith) _ (sym (w .before .before .before .before .before .declared-params .ensures) ∙ w .before .before .before .params .given .1)
+    reported-answer _ _ _ (omega arith) (w .before .before .before .params .given .1) (w .before .before .before .before .before .declared-params .ensures)
     (k .judge .ensures ∙ rw (w .walk .ensures .0)) (w .walk .ensures .1) _ (c .before .before .before .before .enum-told .given .1) (c .before .before .walk2 .ensures .1)
 
 same-length-2 : tie.Need-same-length-2
@@ -52,7 +52,7 @@ returns-4 : tie.Need-returns-4
 returns-4 c =
     let k = c .before .before in
     let w = k .before .before .before in
-    refused _ _ _ (omega arith) _ (sym (w .before .before .before .before .before .declared-params .ensures) ∙ w .before .before .before .params .given .1)
+    refused-answer _ _ _ (omega arith) (w .before .before .before .params .given .1) (w .before .before .before .before .before .declared-params .ensures)
     (k .judge .ensures ∙ rw (w .walk .ensures .0)) (w .walk .ensures .1) _ (c .enum-told2 .given .1)
 
 pub verify-cbr-stream-spec : {M : Type 1} → statement M

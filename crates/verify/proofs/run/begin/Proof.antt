@@ -1,3 +1,4 @@
+use Rattle.vbv.proofs.Numbers.{model-case}
 use Rattle.bits.specs.Bits.{pick}
 use borrow.Author.Tests.{ne-eqb}
 use Rattle.verify.specs.Walk.{first, made, begun}
@@ -35,15 +36,15 @@ go-on-requires c κs = search needs
 
 returns-2 : tie.Need-returns-2
 unfolding first made pick
-returns-2 c = rw (ne-eqb _ _ (c .before .before .before .before .if1 .left), ← c .before .before .before .new .ensures, c .before .unfit .given .1)
+returns-2 c = rw (ne-eqb _ _ (c .before .before .before .before .if1 .left), model-case (c .before .unfit .given .1) (c .before .before .before .new .ensures))
 
 returns-3 : tie.Need-returns-3
 unfolding first made begun pick
-returns-3 c = let k = c .before .before .before .before in rw (ne-eqb _ _ (k .before .before .before .before .if1 .left), ← k .before .before .before .new .ensures, k .before .model .given .1, ← c .before .before .before .start .ensures, c .before .error .given .1)
+returns-3 c = let k = c .before .before .before .before in rw (ne-eqb _ _ (k .before .before .before .before .if1 .left), model-case (k .before .model .given .1) (k .before .before .before .new .ensures), model-case (c .before .error .given .1) (c .before .before .before .start .ensures))
 
 returns-4 : tie.Need-returns-4
 unfolding first made begun pick
-returns-4 c = let k = c .before .before .before .before .before .before in rw (ne-eqb _ _ (k .before .before .before .before .if1 .left), ← k .before .before .before .new .ensures, k .before .model .given .1, ← c .before .before .before .before .before .start .ensures, c .before .before .before .started .given .1, ← c .before .remove .ensures) (c .go-on .ensures)
+returns-4 c = let k = c .before .before .before .before .before .before in rw (ne-eqb _ _ (k .before .before .before .before .if1 .left), model-case (k .before .model .given .1) (k .before .before .before .new .ensures), model-case (c .before .before .before .started .given .1) (c .before .before .before .before .before .start .ensures), ← c .before .remove .ensures) (c .go-on .ensures)
 
 pub begin-spec : {M : Type 1} → statement M
 begin-spec =

@@ -1,3 +1,4 @@
+use Rattle.vbv.proofs.Numbers.{delay-case}
 use Rattle.bits.specs.Bits.{pick}
 use Rattle.verify.specs.Walk.{removed, byDelay}
 use borrow.Author.Needs.{needs}
@@ -18,18 +19,18 @@ are-apart-requires c κs = search needs
 
 returns : tie.Need-returns
 unfolding removed byDelay pick
-returns c = rw (← c .before .before .before .before .before .delay-for-picture .ensures, c .before .before .before .expected .given .1, ← c .before .are-apart .ensures, c .if1 .taken)
+returns c = rw (delay-case (c .before .before .before .expected .given .1) (c .before .before .before .before .before .delay-for-picture .ensures), ← c .before .are-apart .ensures, c .if1 .taken)
 
 remove-expected-requires : tie.Need-remove-expected-requires
 remove-expected-requires c κs = search needs
 
 returns-2 : tie.Need-returns-2
 unfolding removed byDelay
-returns-2 c = rw (← c .before .before .before .delay-for-picture .ensures, c .before .error .given .1)
+returns-2 c = rw (delay-case (c .before .error .given .1) (c .before .before .before .delay-for-picture .ensures))
 
 returns-3 : tie.Need-returns-3
 unfolding removed byDelay pick
-returns-3 c = rw (← c .before .before .before .before .before .before .delay-for-picture .ensures, c .before .before .before .before .expected .given .1, ← c .before .before .are-apart .ensures, c .before .if1 .left) (c .remove-expected .ensures)
+returns-3 c = rw (delay-case (c .before .before .before .before .expected .given .1) (c .before .before .before .before .before .before .delay-for-picture .ensures), ← c .before .before .are-apart .ensures, c .before .if1 .left) (c .remove-expected .ensures)
 
 pub remove-spec : {M : Type 1} → statement M
 remove-spec =

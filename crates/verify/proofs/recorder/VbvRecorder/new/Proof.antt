@@ -9,8 +9,8 @@ declared-params-requires c κs = search needs
 enum-known-params : tie.Need-enum-known-params
 enum-known-params c = search needs
 
-enum-known-error : tie.Need-enum-known-error
-enum-known-error c = search needs
+enum-told : tie.Need-enum-told
+enum-told c = search needs
 
 returns : tie.Need-returns
 unfolding recorderOf
@@ -18,9 +18,9 @@ returns c = rw (← c .before .before .before .declared-params .ensures, c .befo
 
 returns-2 : tie.Need-returns-2
 unfolding recorderOf
-returns-2 c = rw (← c .before .before .before .declared-params .ensures, c .before .error .given .1)
+returns-2 c = rw (← c .before .before .declared-params .ensures, c .enum-told .given .1)
 
 pub new-spec : {M : Type 1} → statement M
 new-spec =
     tie.close
-    (tie.spec declared-params-requires enum-known-params enum-known-error returns returns-2)
+    (tie.spec declared-params-requires enum-known-params enum-told returns returns-2)
