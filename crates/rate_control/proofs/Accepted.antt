@@ -9,11 +9,11 @@ use lib.ListN.{length}
 use Rattle.vbv.specs.Model.{paramsFit}
 use Rattle.vbv.specs.declared.VbvParams.{VbvParams}
 use Rattle.vbv.proofs.Laws.{units-over, units-beyond}
-use Rattle.verify.specs.Run.{ran, run}
-use Rattle.verify.specs.Coded.{read, codedPictures}
+use Rattle.verify.specs.Run.{run}
+use Rattle.bits.specs.Refusals.{value}
+use Rattle.verify.specs.Coded.{codedPictures}
 use Rattle.verify.specs.Sequence.{declared}
 use Rattle.verify.specs.declared.VbvStandard.the-variants.{Mpeg2}
-use Rattle.verify.specs.declared.Declared.the-variants.{Params}
 use Rattle.verify.proofs.Accepting.{Passed, exactRecord, run-none, run-passed, accepted}
 use Rattle.layers.proofs.Stream.{Part, PartsFit, part, stream, coded, coded-none, stream-coded, stream-declared}
 use Rattle.rate_control.specs.Sent.{Sent, end, sentRecord, sentRecords, Passes}
@@ -39,7 +39,7 @@ done-record {previous = previous} {x = x} r =
     rw e
 
 course-ran : {p : VbvParams} {d previous : ℕ} {xs : List Sent} (n : ℕ) → Course p d previous xs
-    → run p n previous d (codedBy xs) ≡ ran (sentRecords p d previous xs)
+    → run p n previous d (codedBy xs) ≡ value (sentRecords p d previous xs)
 unfolding codedOf codedBy sentRecords
 course-ran {p} {d} {previous} n ended = run-none p n previous d
 course-ran n (goes {xs = xs} r z c) = rw (← done-record r) (run-passed n (codedBy xs) (done-passed r) (course-ran (suc n) c))
@@ -55,19 +55,19 @@ first-told : {p : VbvParams} {d previous : ℕ} {x : Sent} {xs : List Sent} → 
 first-told (goes r z c) = r .removed .delay-told
 
 passes-by : (p : VbvParams) (s : List ℕ) (x : Sent) (xs : List Sent) → paramsFit p ≡ true → 8 * length s ≤ 2 ^ 48 → First p (x ∷ xs)
-    → declared Mpeg2 s ≡ Params p → codedPictures Mpeg2 s ≡ read (codedBy (x ∷ xs)) → Passes p s (x ∷ xs)
+    → declared Mpeg2 s ≡ value p → codedPictures Mpeg2 s ≡ value (codedBy (x ∷ xs)) → Passes p s (x ∷ xs)
 unfolding codedBy codedOf sentRecords
 passes-by p s x xs f l c d h places m = accepted Mpeg2 s places l d h (first-told c) f (rw (coded-length xs) m) (course-ran 0 c)
 
-sending-declared : {p : VbvParams} {s : List ℕ} {x : Sent} {xs : List Sent} → Sending p false 0 s (x ∷ xs) → declared Mpeg2 s ≡ Params p
+sending-declared : {p : VbvParams} {s : List ℕ} {x : Sent} {xs : List Sent} → Sending p false 0 s (x ∷ xs) → declared Mpeg2 s ≡ value p
 unfolding codedBy
 sending-declared {p} {s} {x} {xs} a = ap (declared Mpeg2) (a .handed-is) ∙ go (a .parts) (a .fit) (a .coded-is)
   where
-    go : (ys : List Part) → PartsFit p false ys → coded 0 ys (length (a .follows)) ≡ codedBy (x ∷ xs) → declared Mpeg2 (stream ys (a .follows)) ≡ Params p
+    go : (ys : List Part) → PartsFit p false ys → coded 0 ys (length (a .follows)) ≡ codedBy (x ∷ xs) → declared Mpeg2 (stream ys (a .follows)) ≡ value p
     go [] f e = let z = sym (coded-none 0 (length (a .follows))) ∙ e in cc
     go (y ∷ ys) (part f fs) e = stream-declared f ys (a .follows)
 
 pub passes : (p : VbvParams) (s : List ℕ) (xs : List Sent) → paramsFit p ≡ true → 8 * length s ≤ 2 ^ 48 → First p xs → Sending p false 0 s xs → Passes p s xs
 passes p s [] f l c a = tt
 passes p s (x ∷ xs) f l c a =
-    passes-by p s x xs f l c (sending-declared a) (ap (codedPictures Mpeg2) (a .handed-is) ∙ stream-coded (a .fit) (a .ends) ∙ ap read (a .coded-is))
+    passes-by p s x xs f l c (sending-declared a) (ap (codedPictures Mpeg2) (a .handed-is) ∙ stream-coded (a .fit) (a .ends) ∙ ap value (a .coded-is))

@@ -10,7 +10,10 @@ use lib.Dec.{leb}
 use borrow.Author.Tests.{le-leb}
 use Rattle.bits.specs.Bits.{pick}
 use Rattle.bits.proofs.Reading.{both-true}
-use Rattle.vbv.specs.Answers.{frameRate}
+use Rattle.bits.specs.Refusals.{Answer, value, refused}
+use Rattle.vbv.specs.Answers.{frameRate, modelAnswer, rateAnswer}
+use Rattle.vbv.specs.Steps.{modelOf, rateOf}
+use Rattle.vbv.proofs.Numbers.{model-case, rate-case}
 use Rattle.vbv.specs.Model.{paramsFit, newModel}
 use Rattle.vbv.specs.declared.FrameRate.{FrameRate}
 use Rattle.vbv.specs.declared.FrameRate.the-variants.{Rate, Refused as NoRate}
@@ -107,7 +110,7 @@ module _ (p : VbvParams) (between anchors : ℕ) (h : Shares p between anchors) 
       simp (le-leb _ _ (target-low 40 (omega arith)), le-leb _ _ (target-low 16 (omega arith)), le-leb _ _ (target-low 9 (omega arith)))
 
 -- a model of parameters that fit has targets
-pub shared-out : (p : VbvParams) (m : VbvCbrModel) (between anchors : ℕ) → newModel p ≡ Model m
+pub shared-out : (p : VbvParams) (m : VbvCbrModel) (between anchors : ℕ) → newModel p ≡ value m
     → p .«bit_rate» ≤ 104857200 → between ≤ 15 → anchors ≤ 255 → Shares (m .params) between anchors
 shared-out p m between anchors h r b a =
     let k = made p m h in
@@ -133,28 +136,28 @@ fresh-told c m t e = rw e
 
 module _ (c : CbrConfig) where
   module _ (n d : ℕ) (x : VbvModel)
-      (e : x ≡ newModel (record { «bit_rate» = 400 * c .«bit_rate_value»; «buffer_size_bits» = 16384 * c .«vbv_buffer_size_value»; frn = n; frd = d })) where
+      (e : modelAnswer x ≡ newModel (record { «bit_rate» = 400 * c .«bit_rate_value»; «buffer_size_bits» = 16384 * c .«vbv_buffer_size_value»; frn = n; frd = d })) where
     pub way-made : (m : VbvCbrModel) (w : CbrWriter) → x ≡ Model m → w ≡ freshWriter c m
         → _≡_ {A = CbrCreated} (record { answer = Created; writer = w }) (withRate c (Rate n d))
     unfolding withRate withModel
-    way-made m w h g = rw (← e, h, g)
+    way-made m w h g = rw (model-case h e, g)
 
     pub way-unmade : (error : VbvError) (r : CbrCreated) → x ≡ NoModel error → r ≡ notCreated error → r ≡ withRate c (Rate n d)
     unfolding withRate withModel
-    way-unmade error r h g = rw (← e, h, g)
+    way-unmade error r h g = rw (model-case h e, g)
 
   pub way-12 : (f : Bool) (r : CbrCreated) → f ≡ configFits c → f ≡ false → r ≡ notCreated Params → r ≡ create c
   unfolding create pick
   way-12 f r e h g = rw (← e, h, g)
 
-  module _ (f : Bool) (e : f ≡ configFits c) (h : f ≡ true) (x : FrameRate) (k : x ≡ frameRate (c .«frame_rate_code»)) where
+  module _ (f : Bool) (e : f ≡ configFits c) (h : f ≡ true) (x : FrameRate) (k : rateAnswer x ≡ frameRate (c .«frame_rate_code»)) where
     pub way-6 : (error : VbvError) (r : CbrCreated) → x ≡ NoRate error → r ≡ notCreated error → r ≡ create c
     unfolding create withRate pick
-    way-6 error r l g = rw (← e, h, ← k, l, g)
+    way-6 error r l g = rw (← e, h, rate-case l k, g)
 
     pub way-rate : (n d : ℕ) (r : CbrCreated) → x ≡ Rate n d → r ≡ withRate c (Rate n d) → r ≡ create c
     unfolding create pick
-    way-rate n d r l g = rw (← e, h, ← k, l, g)
+    way-rate n d r l g = rw (← e, h, rate-case l k, g)
 
 -- ---- a creation that was accepted
 
@@ -164,31 +167,31 @@ pub record Creation (c : CbrConfig) (w : CbrWriter) : Type 0 where
   pub params : VbvParams
   pub configured-by : Configured c params
   pub model : VbvCbrModel
-  pub model-is : newModel params ≡ Model model
+  pub model-is : newModel params ≡ value model
   pub writer-is : w ≡ freshWriter c model
 
 not-created : {e : VbvError} → Refused e ≡ Created → ⊥
 not-created h = true≢false cc
 
-with-model : (c : CbrConfig) (p : VbvParams) → configFits c ≡ true → Configured c p → (x : VbvModel) → newModel p ≡ x
-    → withModel c x .answer ≡ Created → Creation c (withModel c x .writer)
-unfolding withModel notCreated
-with-model c p f r (Model m) e h = record { ranges = f; params = p; configured-by = r; model = m; model-is = e; writer-is = refl }
-with-model c p f r (NoModel v) e h = absurd (not-created h)
+with-model : (c : CbrConfig) (p : VbvParams) → configFits c ≡ true → Configured c p → (x : Answer VbvCbrModel) → newModel p ≡ x
+    → withModel c (modelOf x) .answer ≡ Created → Creation c (withModel c (modelOf x) .writer)
+unfolding withModel notCreated modelOf
+with-model c p f r (value m) e h = record { ranges = f; params = p; configured-by = r; model = m; model-is = e; writer-is = refl }
+with-model c p f r (refused n k i j) e h = absurd (not-created h)
 
-with-rate : (c : CbrConfig) → configFits c ≡ true → (x : FrameRate) → frameRate (c .«frame_rate_code») ≡ x → withRate c x .answer ≡ Created
-    → Creation c (withRate c x .writer)
-unfolding withRate notCreated
-with-rate c f (Rate n d) e h = with-model c _ f (record { rate = refl; buffer = refl; frames = e }) (newModel _) refl h
-with-rate c f (NoRate v) e h = absurd (not-created h)
+with-rate : (c : CbrConfig) → configFits c ≡ true → (x : Answer (ℕ × ℕ)) → frameRate (c .«frame_rate_code») ≡ x → withRate c (rateOf x) .answer ≡ Created
+    → Creation c (withRate c (rateOf x) .writer)
+unfolding withRate notCreated rateOf
+with-rate c f (value x) e h = with-model c _ f (record { rate = refl; buffer = refl; frames = e }) (newModel _) refl h
+with-rate c f (refused n k i j) e h = absurd (not-created h)
 
 pub creation : (c : CbrConfig) → create c .answer ≡ Created → Creation c (create c .writer)
 unfolding create notCreated pick
 creation c h = go (configFits c) refl h
   where
     go : (t : Bool) → configFits c ≡ t
-        → pick t (withRate c (frameRate (c .«frame_rate_code»))) (notCreated Params) .answer ≡ Created
-        → Creation c (pick t (withRate c (frameRate (c .«frame_rate_code»))) (notCreated Params) .writer)
+        → pick t (withRate c (rateOf (frameRate (c .«frame_rate_code»)))) (notCreated Params) .answer ≡ Created
+        → Creation c (pick t (withRate c (rateOf (frameRate (c .«frame_rate_code»)))) (notCreated Params) .writer)
     go true e h = with-rate c e (frameRate (c .«frame_rate_code»)) refl h
     go false e h = absurd (not-created h)
 

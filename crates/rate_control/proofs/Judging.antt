@@ -10,7 +10,7 @@ use borrow.Author.Tests.{ltb-true, ltb-false, lt-ltb, le-ltb}
 use Rattle.bits.proofs.Flags.{pick-elim}
 use Rattle.bits.specs.Bits.{pick}
 use Rattle.vbv.specs.Annex.{firstDelivered, overflows, beyond, expectedDelay, greatestEnd, leastEnd}
-use Rattle.vbv.specs.Steps.{EndFits}
+use Rattle.vbv.specs.Steps.{EndFits, delayOf, bitsOf, removalOf}
 use Rattle.vbv.specs.Model.{paramsFit, delivered, modelFits, atDelivered, afterRemoval, nextDelivered, delayForPicture, removePicture, maxEndBits, minEndBits}
 use Rattle.vbv.specs.declared.RemovalInterval.{RemovalInterval}
 use Rattle.vbv.specs.declared.VbvParams.{VbvParams}
@@ -23,8 +23,9 @@ use Rattle.vbv.specs.declared.VbvRemoval.the-variants as rm
 use Rattle.vbv.specs.declared.VbvDelay.the-variants as dl
 use Rattle.vbv.specs.declared.VbvBits.the-variants as bt
 use Rattle.vbv.proofs.Fitting.{params-fit, model-fits}
-use Rattle.vbv.proofs.Laws.{beyond-is, delay-most, fits-params, started, starts, delays, max-end, min-end}
-use Rattle.vbv.proofs.Told.{next-told, removal-told}
+use Rattle.vbv.proofs.Laws.{beyond-is, delay-most, fits-params, started, starts}
+use Rattle.vbv.proofs.Told.{next-told}
+use Rattle.vbv.proofs.Named.{starts-named, removal-named, delays-named, max-named, min-named}
 use Rattle.vbv.proofs.After.{after-same}
 use Rattle.rate_control.specs.Writer.{writerFits}
 use Rattle.rate_control.specs.Offer.{Offer, position, content, end, firstDelay, deliveredAt, deliveredNext, stuffing, delay, tail, placedBytes}
@@ -129,7 +130,7 @@ begin w o f h = go (w .model .started) refl
         let r = started (w .model) d (position w o) _ s in
         record {
           model = atDelivered (w .model) (firstDelivered (w .model .params) (position w o) d);
-          started-is = other _ _ _ e ∙ s;
+          started-is = other _ _ _ e ∙ starts-named (w .model) d (position w o) fitted e h;
           begun =
               record {
                 fits = r .fits (first-small (w .model .params) (fits-params (w .model) fitted));
@@ -166,7 +167,7 @@ module _ (m : VbvCbrModel) (x : Extent) (z : ℕ) (i : RemovalInterval) where
   unfolding byEnd
   end-violated v = refl
 
-  end-model : (next : VbvCbrModel) → byEnd m x z (rm.Model next) ≡ byDelay next x z (delayForPicture m (x .position))
+  end-model : (next : VbvCbrModel) → byEnd m x z (rm.Model next) ≡ byDelay next x z (delayOf (delayForPicture m (x .position)))
   unfolding byEnd
   end-model next = refl
 
@@ -178,11 +179,11 @@ module _ (m : VbvCbrModel) (x : Extent) (z : ℕ) (i : RemovalInterval) where
   unfolding bySize violated
   size-under k c e = refl
 
-  size-model : (next : VbvCbrModel) → bySize m x z i (rm.Model next) ≡ byEnd m x z (removePicture m (x .content + 8 * z) i)
+  size-model : (next : VbvCbrModel) → bySize m x z i (rm.Model next) ≡ byEnd m x z (removalOf (removePicture m (x .content + 8 * z) i))
   unfolding bySize
   size-model next = refl
 
-  most-case : (most : ℕ) → byMost m x z i (bt.Bits most) ≡ pick (ltb most (x .position)) (Refused (Model Early)) (bySize m x z i (removePicture m (x .content) i))
+  most-case : (most : ℕ) → byMost m x z i (bt.Bits most) ≡ pick (ltb most (x .position)) (Refused (Model Early)) (bySize m x z i (removalOf (removePicture m (x .content) i)))
   unfolding byMost
   most-case most = refl
 
@@ -200,11 +201,11 @@ module _ (w : CbrWriter) (o : Offer) (f : writerFits w ≡ true) (n : VbvCbrMode
   unfolding deliveredNext
   next-same = next-told n (o .interval) ∙ rw (b .delivered-is, b .same-params)
 
-  pub least-told : minEndBits n (o .interval) ≡ bt.Bits (leastEnd p (deliveredNext w o))
-  least-told = min-end n (b .fits) (b .is-started) (o .interval) ∙ rw (next-same, b .same-params)
+  pub least-told : bitsOf (minEndBits n (o .interval)) ≡ bt.Bits (leastEnd p (deliveredNext w o))
+  least-told = min-named n (b .fits) (b .is-started) (o .interval) ∙ rw (next-same, b .same-params)
 
-  most-told : maxEndBits n ≡ bt.Bits (greatestEnd p (deliveredAt w o))
-  most-told = max-end n (b .fits) (b .is-started) ∙ rw (b .delivered-is, b .same-params)
+  most-told : bitsOf (maxEndBits n) ≡ bt.Bits (greatestEnd p (deliveredAt w o))
+  most-told = max-named n (b .fits) (b .is-started) ∙ rw (b .delivered-is, b .same-params)
 
   ends : (e : ℕ) → w .model .«prev_end_bits» ≤ e → e ≤ 2 ^ 48 → EndFits n e
   ends e l h =
@@ -213,12 +214,12 @@ module _ (w : CbrWriter) (o : Offer) (f : writerFits w ≡ true) (n : VbvCbrMode
       record { end-far = h; end-low = omega (arith, b .same-end); count = omega (arith, b .same-count, v .few, g .end-high) }
 
   removal : (e : ℕ) → w .model .«prev_end_bits» ≤ e → e ≤ 2 ^ 48
-      → removePicture n e (o .interval)
+      → removalOf (removePicture n e (o .interval))
       ≡ pick (overflows p (w .model .«prev_end_bits») (deliveredAt w o)) (rm.Violation (Overflow (w .model .removed) 0 0))
       (pick (beyond p e (deliveredAt w o)) (rm.Violation (Underflow (w .model .removed) 0 0))
       (rm.Model (afterRemoval (w .model) e (deliveredNext w o))))
   removal e l h =
-      removal-told n (b .fits) (b .is-started) e (o .interval) (ends e l h)
+      removal-named n (b .fits) (b .is-started) e (o .interval) (ends e l h)
       ∙ rw (next-same, after-same (w .model) n e (deliveredNext w o) (b .same-params) (b .same-count), b .delivered-is, b .same-end, b .same-count, b .same-params)
 
   sizes : x .bytes + stuffing w o ≡ length (placedBytes w o)
@@ -235,18 +236,18 @@ module _ (w : CbrWriter) (o : Offer) (f : writerFits w ≡ true) (n : VbvCbrMode
   -- in time and no overflow: the delay can be measuredFor
   ready-told : position w o ≤ 2 ^ 48 → beyond p (position w o) (deliveredAt w o) ≡ false
       → overflows p (w .model .«prev_end_bits») (deliveredAt w o) ≡ false
-      → byDelay (afterRemoval (w .model) (end w o) (deliveredNext w o)) x (stuffing w o) (delayForPicture n (position w o)) ≡ Ready (placement w o)
+      → byDelay (afterRemoval (w .model) (end w o) (deliveredNext w o)) x (stuffing w o) (delayOf (delayForPicture n (position w o))) ≡ Ready (placement w o)
   unfolding placement delay
   ready-told h t g =
       let e : beyond (n .params) (position w o) (delivered n) ≡ false = rw (b .delivered-is, b .same-params) t in
       let l = delay-most p params-fits (w .model .«prev_end_bits») (position w o) (deliveredAt w o) g before in
       let k : expectedDelay (n .params) (position w o) (delivered n) ≤ 65534 = rw (b .delivered-is, b .same-params) l in
-      rw (delays n (position w o) (b .fits) (b .is-started) h e k, b .delivered-is, b .same-params)
+      rw (delays-named n (position w o) (b .fits) (b .is-started) h e k, b .delivered-is, b .same-params)
       (delay-case n x (stuffing w o) (o .interval) _ _ ∙ rw sizes)
 
   module _ (near : position w o ≤ 2 ^ 48) (far : end w o ≤ 2 ^ 48) where
     end-told : beyond p (position w o) (deliveredAt w o) ≡ false → overflows p (w .model .«prev_end_bits») (deliveredAt w o) ≡ false
-        → byEnd n x (stuffing w o) (removePicture n (end w o) (o .interval))
+        → byEnd n x (stuffing w o) (removalOf (removePicture n (end w o) (o .interval)))
         ≡ pick (beyond p (end w o) (deliveredAt w o)) (Refused Stuffing) (Ready (placement w o))
     end-told t g =
         let i = o .interval in
@@ -255,7 +256,7 @@ module _ (w : CbrWriter) (o : Offer) (f : writerFits w ≡ true) (n : VbvCbrMode
         (λ h22. end-model n x (stuffing w o) i _ ∙ ready-told near t g)
 
     size-told : beyond p (position w o) (deliveredAt w o) ≡ false
-        → bySize n x (stuffing w o) (o .interval) (removePicture n (content w o) (o .interval))
+        → bySize n x (stuffing w o) (o .interval) (removalOf (removePicture n (content w o) (o .interval)))
         ≡ pick (overflows p (w .model .«prev_end_bits») (deliveredAt w o)) (Refused (Violation (Overflow (w .model .removed) 0 0)))
         (pick (beyond p (content w o) (deliveredAt w o)) TooLarge
         (pick (beyond p (end w o) (deliveredAt w o)) (Refused Stuffing) (Ready (placement w o))))
@@ -267,7 +268,7 @@ module _ (w : CbrWriter) (o : Offer) (f : writerFits w ≡ true) (n : VbvCbrMode
         (λ h9. through (bySize n x z i) _ _ _ _ _ (size-under n x z i _ _ _)
         (λ size. size-model n x z i _ ∙ rw (end-same w o) (end-told t h9)))
 
-    pub position-told : byMost n x (stuffing w o) (o .interval) (maxEndBits n) ≡ measuredFor w o
+    pub position-told : byMost n x (stuffing w o) (o .interval) (bitsOf (maxEndBits n)) ≡ measuredFor w o
     unfolding measuredFor
     position-told =
         rw most-told

@@ -3,6 +3,7 @@ pub mod Storage
 pub mod Ways
 pub mod Steering
 pub mod Chain
+pub mod Numbers
 pub mod Retries
 pub mod Fitting
 pub mod Placing

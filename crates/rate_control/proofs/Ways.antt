@@ -1,6 +1,6 @@
 -- The ways through the tests of an offer, by what the model answers.
 -- Assumes nothing.
-use mathlib.Core.Path.{_≡_, _∙_}
+use mathlib.Core.Path.{_≡_, refl, sym, _∙_}
 use mathlib.Core.Bool.{Bool, true, false}
 use Prim.Native.Nat.{ℕ, _+_, _-_, _*_, _/_, _^_, _≤_, _<_, max}
 use native.Mathlib.Omega.{arith}
@@ -8,7 +8,10 @@ use native.Mathlib.Nat.{div-lt-iff-lt-mul}
 use lib.ListN.{length}
 use borrow.Author.Tests.{lt-ltb, le-ltb}
 use Rattle.bits.specs.Bits.{pick}
-use Rattle.vbv.specs.Steps.{ParamsFit}
+use Rattle.bits.specs.Refusals.{Answer}
+use Rattle.vbv.specs.Answers.{modelAnswer, removalAnswer, delayAnswer, bitsAnswer}
+use Rattle.vbv.proofs.Numbers.{model-case, delay-case, bits-case, removal-case}
+use Rattle.vbv.specs.Steps.{ParamsFit, modelOf, delayOf, bitsOf, removalOf}
 use Rattle.vbv.specs.Model.{startModel, delayForPicture, removePicture, maxEndBits, minEndBits}
 use Rattle.vbv.specs.declared.RemovalInterval.{RemovalInterval}
 use Rattle.vbv.specs.declared.VbvParams.{VbvParams}
@@ -43,9 +46,9 @@ module _ (m : VbvCbrModel) (position : ℕ) where
   unfolding startedAt pick
   start-kept h = rw h
 
-  pub start-new : (d : ℕ) (r : VbvModel) → m .started ≡ false → d ≡ firstDelay (m .params) → r ≡ startModel m d position → r ≡ startedAt m position
+  pub start-new : (d : ℕ) (r : VbvModel) → m .started ≡ false → d ≡ firstDelay (m .params) → modelAnswer r ≡ startModel m d position → r ≡ startedAt m position
   unfolding startedAt pick
-  start-new d r h e g = g ∙ rw (h, e)
+  start-new d r h e g = sym (model-case refl g) ∙ rw (h, e)
 
 -- ---- stuffing
 
@@ -60,30 +63,30 @@ module _ (least content : ℕ) (last : Bool) where
 
 -- ---- the delay
 
-module _ (next : VbvCbrModel) (x : Extent) (z : ℕ) (r v : VbvDelay) (e : r ≡ v) where
-  pub delay-no : (error : VbvError) → r ≡ dl.Refused error → Refused (Model error) ≡ byDelay next x z v
+module _ (next : VbvCbrModel) (x : Extent) (z : ℕ) (r : VbvDelay) (v : Answer ℕ) (e : delayAnswer r ≡ v) where
+  pub delay-no : (error : VbvError) → r ≡ dl.Refused error → Refused (Model error) ≡ byDelay next x z (delayOf v)
   unfolding byDelay
-  delay-no error h = rw (← e, h)
+  delay-no error h = rw (delay-case h e)
 
   pub delay-yes : (d : ℕ) → r ≡ dl.Delay d
-      → Ready (record { model = next; «vbv_delay» = d; bytes = x .bytes + z; «stuffing_bytes» = z }) ≡ byDelay next x z v
+      → Ready (record { model = next; «vbv_delay» = d; bytes = x .bytes + z; «stuffing_bytes» = z }) ≡ byDelay next x z (delayOf v)
   unfolding byDelay
-  delay-yes d h = rw (← e, h)
+  delay-yes d h = rw (delay-case h e)
 
 -- ---- the stuffed end
 
-module _ (m : VbvCbrModel) (x : Extent) (z : ℕ) (r v : VbvRemoval) (e : r ≡ v) where
-  pub end-no : (error : VbvError) → r ≡ rm.Refused error → Refused (Model error) ≡ byEnd m x z v
+module _ (m : VbvCbrModel) (x : Extent) (z : ℕ) (r : VbvRemoval) (v : Answer VbvCbrModel) (e : removalAnswer r ≡ v) where
+  pub end-no : (error : VbvError) → r ≡ rm.Refused error → Refused (Model error) ≡ byEnd m x z (removalOf v)
   unfolding byEnd
-  end-no error h = rw (← e, h)
+  end-no error h = rw (removal-case h e)
 
-  pub end-under : (w : VbvViolation) → r ≡ rm.Violation w → Refused Stuffing ≡ byEnd m x z v
+  pub end-under : (w : VbvViolation) → r ≡ rm.Violation w → Refused Stuffing ≡ byEnd m x z (removalOf v)
   unfolding byEnd
-  end-under w h = rw (← e, h)
+  end-under w h = rw (removal-case h e)
 
-  pub end-yes : (next : VbvCbrModel) (j : Judged) → r ≡ rm.Model next → j ≡ byDelay next x z (delayForPicture m (x .position)) → j ≡ byEnd m x z v
+  pub end-yes : (next : VbvCbrModel) (j : Judged) → r ≡ rm.Model next → j ≡ byDelay next x z (delayOf (delayForPicture m (x .position))) → j ≡ byEnd m x z (removalOf v)
   unfolding byEnd
-  end-yes next j h g = g ∙ rw (← e, h)
+  end-yes next j h g = g ∙ rw (removal-case h e)
 
 -- ---- position and size
 
@@ -99,50 +102,50 @@ pub violated-delay : (v : VbvViolation) (n c d : ℕ) → v ≡ DelayMismatch n 
 unfolding violated
 violated-delay v n c d e = rw e
 
-module _ (m : VbvCbrModel) (x : Extent) (z : ℕ) (i : RemovalInterval) (r v : VbvBits) (e : r ≡ v) where
-  pub most-no : (error : VbvError) → r ≡ bt.Refused error → Refused (Model error) ≡ byMost m x z i v
+module _ (m : VbvCbrModel) (x : Extent) (z : ℕ) (i : RemovalInterval) (r : VbvBits) (v : Answer ℕ) (e : bitsAnswer r ≡ v) where
+  pub most-no : (error : VbvError) → r ≡ bt.Refused error → Refused (Model error) ≡ byMost m x z i (bitsOf v)
   unfolding byMost
-  most-no error h = rw (← e, h)
+  most-no error h = rw (bits-case h e)
 
   module _ (most : ℕ) (h : r ≡ bt.Bits most) where
-    pub most-early : most < x .position → Refused (Model Early) ≡ byMost m x z i v
+    pub most-early : most < x .position → Refused (Model Early) ≡ byMost m x z i (bitsOf v)
     unfolding byMost pick
-    most-early g = rw (← e, h, lt-ltb _ _ g)
+    most-early g = rw (bits-case h e, lt-ltb _ _ g)
 
-    module _ (g : x .position ≤ most) (s : VbvRemoval) (k : s ≡ removePicture m (x .content) i) where
-      pub size-no : (error : VbvError) → s ≡ rm.Refused error → Refused (Model error) ≡ byMost m x z i v
+    module _ (g : x .position ≤ most) (s : VbvRemoval) (k : removalAnswer s ≡ removePicture m (x .content) i) where
+      pub size-no : (error : VbvError) → s ≡ rm.Refused error → Refused (Model error) ≡ byMost m x z i (bitsOf v)
       unfolding byMost bySize pick
-      size-no error l = rw (← e, h, le-ltb _ _ g, ← k, l)
+      size-no error l = rw (bits-case h e, le-ltb _ _ g, removal-case l k)
 
-      pub size-violated : (w : VbvViolation) (j : Judged) → s ≡ rm.Violation w → j ≡ violated w → j ≡ byMost m x z i v
+      pub size-violated : (w : VbvViolation) (j : Judged) → s ≡ rm.Violation w → j ≡ violated w → j ≡ byMost m x z i (bitsOf v)
       unfolding byMost bySize pick
-      size-violated w j l q = q ∙ rw (← e, h, le-ltb _ _ g, ← k, l)
+      size-violated w j l q = q ∙ rw (bits-case h e, le-ltb _ _ g, removal-case l k)
 
-      pub size-yes : (next : VbvCbrModel) (j : Judged) → s ≡ rm.Model next → j ≡ byEnd m x z (removePicture m (x .content + 8 * z) i)
-          → j ≡ byMost m x z i v
+      pub size-yes : (next : VbvCbrModel) (j : Judged) → s ≡ rm.Model next → j ≡ byEnd m x z (removalOf (removePicture m (x .content + 8 * z) i))
+          → j ≡ byMost m x z i (bitsOf v)
       unfolding byMost bySize pick
-      size-yes next j l q = q ∙ rw (← e, h, le-ltb _ _ g, ← k, l)
+      size-yes next j l q = q ∙ rw (bits-case h e, le-ltb _ _ g, removal-case l k)
 
 -- ---- the end
 
-module _ (m : VbvCbrModel) (x : Extent) (i : RemovalInterval) (last : Bool) (r v : VbvBits) (e : r ≡ v) where
-  pub least-no : (error : VbvError) → r ≡ bt.Refused error → Refused (Model error) ≡ byLeast m x i last v
+module _ (m : VbvCbrModel) (x : Extent) (i : RemovalInterval) (last : Bool) (r : VbvBits) (v : Answer ℕ) (e : bitsAnswer r ≡ v) where
+  pub least-no : (error : VbvError) → r ≡ bt.Refused error → Refused (Model error) ≡ byLeast m x i last (bitsOf v)
   unfolding byLeast
-  least-no error h = rw (← e, h)
+  least-no error h = rw (bits-case h e)
 
   module _ (least z : ℕ) (h : r ≡ bt.Bits least) (k : z ≡ zeros least (x .content) last) where
-    pub far-zeros : 35184372088832 < z → Refused (Model Range) ≡ byLeast m x i last v
+    pub far-zeros : 35184372088832 < z → Refused (Model Range) ≡ byLeast m x i last (bitsOf v)
     unfolding byLeast withZeros pick
-    far-zeros g = rw (← e, h, ← k, lt-ltb (2 ^ 45) z g)
+    far-zeros g = rw (bits-case h e, ← k, lt-ltb (2 ^ 45) z g)
 
     module _ (g : z ≤ 35184372088832) where
-      pub far-end : 281474976710656 < x .content + 8 * z → Refused (Model Range) ≡ byLeast m x i last v
+      pub far-end : 281474976710656 < x .content + 8 * z → Refused (Model Range) ≡ byLeast m x i last (bitsOf v)
       unfolding byLeast withZeros pick
-      far-end l = rw (← e, h, ← k, le-ltb (2 ^ 45) z g, lt-ltb (2 ^ 48) (x .content + 8 * z) l)
+      far-end l = rw (bits-case h e, ← k, le-ltb (2 ^ 45) z g, lt-ltb (2 ^ 48) (x .content + 8 * z) l)
 
-      pub near-end : (j : Judged) → x .content + 8 * z ≤ 281474976710656 → j ≡ byMost m x z i (maxEndBits m) → j ≡ byLeast m x i last v
+      pub near-end : (j : Judged) → x .content + 8 * z ≤ 281474976710656 → j ≡ byMost m x z i (bitsOf (maxEndBits m)) → j ≡ byLeast m x i last (bitsOf v)
       unfolding byLeast withZeros pick
-      near-end j l q = q ∙ rw (← e, h, ← k, le-ltb (2 ^ 45) z g, le-ltb (2 ^ 48) (x .content + 8 * z) l)
+      near-end j l q = q ∙ rw (bits-case h e, ← k, le-ltb (2 ^ 45) z g, le-ltb (2 ^ 48) (x .content + 8 * z) l)
 
 -- ---- all
 
@@ -171,7 +174,7 @@ module _ (m : VbvCbrModel) (headers layer : ℕ) (i : RemovalInterval) (last : B
       not-started error l = rw (← e, le-ltb (2 ^ 45) a h, ← k, ← f, le-ltb (2 ^ 48) b g, ← q, l)
 
       pub is-started : (n : VbvCbrModel) (j : Judged) → s ≡ md.Model n
-          → j ≡ byLeast n (record { position = m .«prev_end_bits» + 8 * (headers + 4); content = m .«prev_end_bits» + 8 * (headers + layer + t); bytes = headers + layer + t }) i last (minEndBits n i)
+          → j ≡ byLeast n (record { position = m .«prev_end_bits» + 8 * (headers + 4); content = m .«prev_end_bits» + 8 * (headers + layer + t); bytes = headers + layer + t }) i last (bitsOf (minEndBits n i))
           → j ≡ measured m headers layer i last
       unfolding measured within14 extentOf byStart pick
       is-started n j l w = w ∙ rw (← e, le-ltb (2 ^ 45) a h, ← k, ← f, le-ltb (2 ^ 48) b g, ← q, l)

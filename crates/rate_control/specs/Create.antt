@@ -7,6 +7,7 @@ use lib.Dec.{leb}
 use Rattle.bits.specs.Bits.{pick}
 use Rattle.vbv.specs.Answers.{frameRate}
 use Rattle.vbv.specs.Model.{newModel}
+use Rattle.vbv.specs.Steps.{modelOf, rateOf}
 use Rattle.vbv.specs.declared.FrameRate.{FrameRate}
 use Rattle.vbv.specs.declared.FrameRate.the-variants.{Rate, Refused as NoRate}
 use Rattle.vbv.specs.declared.VbvCbrModel.{VbvCbrModel}
@@ -64,8 +65,8 @@ withModel c (NoModel e) = notCreated e
 -- R in units of 400 bits a second, B in units of 16 × 1024 bits
 unfoldable pub withRate : CbrConfig → FrameRate → CbrCreated
 withRate c (Rate n d) =
-    withModel c (newModel (record { «bit_rate» = 400 * c .«bit_rate_value»; «buffer_size_bits» = 16384 * c .«vbv_buffer_size_value»; frn = n; frd = d }))
+    withModel c (modelOf (newModel (record { «bit_rate» = 400 * c .«bit_rate_value»; «buffer_size_bits» = 16384 * c .«vbv_buffer_size_value»; frn = n; frd = d })))
 withRate c (NoRate e) = notCreated e
 
 unfoldable pub create : CbrConfig → CbrCreated
-create c = pick (configFits c) (withRate c (frameRate (c .«frame_rate_code»))) (notCreated Params)
+create c = pick (configFits c) (withRate c (rateOf (frameRate (c .«frame_rate_code»)))) (notCreated Params)

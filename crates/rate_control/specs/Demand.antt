@@ -7,7 +7,7 @@ use mathlib.Core.List.{List, [], _∷_, _++_}
 use lib.ListN.{take, drop, replicate}
 use Rattle.vbv.specs.Answers.{frameRate}
 use Rattle.vbv.specs.Patch.{patched}
-use Rattle.vbv.specs.declared.FrameRate.the-variants.{Rate}
+use Rattle.bits.specs.Refusals.{value}
 use Rattle.vbv.specs.declared.VbvParams.{VbvParams}
 use Rattle.vbv.specs.declared.VbvError.the-variants.{Early}
 use Rattle.vbv.specs.declared.VbvViolation.{VbvViolation}
@@ -69,7 +69,7 @@ writerParams c = create c .writer .model .params
 pub record Configured (c : CbrConfig) (p : VbvParams) : Type 0 where
   pub rate : p .«bit_rate» ≡ 400 * c .«bit_rate_value»
   pub buffer : p .«buffer_size_bits» ≡ 16384 * c .«vbv_buffer_size_value»
-  pub frames : frameRate (c .«frame_rate_code») ≡ Rate (p .frn) (p .frd)
+  pub frames : frameRate (c .«frame_rate_code») ≡ value (p .frn, p .frd)
 
 pub record Demand (c : CbrConfig) (calls : List Call) : Type 0 where
   pub configured : Configured c (writerParams c)

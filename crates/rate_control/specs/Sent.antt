@@ -14,7 +14,8 @@ use Rattle.vbv.specs.Annex.{unit, firstDelivered, gain, expectedDelay, occupanc
 use Rattle.vbv.specs.Model.{periods}
 use Rattle.vbv.specs.declared.RemovalInterval.{RemovalInterval}
 use Rattle.vbv.specs.declared.VbvParams.{VbvParams}
-use Rattle.verify.specs.Check.{verdict, yes}
+use Rattle.verify.specs.Check.{verdict}
+use Rattle.bits.specs.Refusals.{value}
 use Rattle.verify.specs.declared.VbvStandard.the-variants.{Mpeg2}
 use Rattle.verify.specs.declared.VbvPictureRecord.{VbvPictureRecord}
 use Rattle.rate_control.specs.Answers.{refusalOf}
@@ -127,8 +128,11 @@ Passes p s [] = Unit {0}
 Passes p s (x ∷ xs) =
     (places : ℕ) → length (x ∷ xs) ≤ places
     → verdict Mpeg2 s places
-    ≡ yes p (sentRecord p (firstDelivered p (position x) (x .delay)) 0 x)
-    (sentRecords p (firstDelivered p (position x) (x .delay) + gain p (periods (x .interval))) (end x) xs)
+    ≡ value (record {
+      params = p;
+      first = sentRecord p (firstDelivered p (position x) (x .delay)) 0 x;
+      others = sentRecords p (firstDelivered p (position x) (x .delay) + gain p (periods (x .interval))) (end x) xs;
+    })
 
 -- ---- retries
 

@@ -7,6 +7,7 @@ use lib.Dec.{ltb}
 use lib.ListN.{length, set}
 use Rattle.bits.specs.Bits.{pick}
 use Rattle.vbv.specs.Model.{startModel, delayForPicture, removePicture, maxEndBits, minEndBits}
+use Rattle.vbv.specs.Steps.{modelOf, delayOf, bitsOf, removalOf}
 use Rattle.vbv.specs.declared.RemovalInterval.{RemovalInterval}
 use Rattle.vbv.specs.declared.VbvParams.{VbvParams}
 use Rattle.vbv.specs.declared.VbvCbrModel.{VbvCbrModel}
@@ -63,7 +64,7 @@ pub record ExtentFits (x : Extent) (zeros : ℕ) : Type 0 where
 
 -- the model as it is, or, before the first placing, started with the first delay
 unfoldable pub startedAt : VbvCbrModel → ℕ → VbvModel
-startedAt m position = pick (m .started) (md.Model m) (startModel m (firstDelay (m .params)) position)
+startedAt m position = pick (m .started) (md.Model m) (modelOf (startModel m (firstDelay (m .params)) position))
 
 -- zero bytes up to the least end; none after the last picture
 unfoldable pub zeros : ℕ → ℕ → Bool → ℕ
@@ -75,7 +76,7 @@ byDelay next x z (dl.Refused e) = Refused (Model e)
 
 -- 22: the stuffed end
 unfoldable pub byEnd : VbvCbrModel → Extent → ℕ → VbvRemoval → Judged
-byEnd m x z (rm.Model next) = byDelay next x z (delayForPicture m (x .position))
+byEnd m x z (rm.Model next) = byDelay next x z (delayOf (delayForPicture m (x .position)))
 byEnd m x z (rm.Refused e) = Refused (Model e)
 byEnd m x z (rm.Violation v) = Refused Stuffing
 
@@ -86,27 +87,27 @@ violated (Underflow n c e) = TooLarge
 violated (DelayMismatch n c e) = Refused (Violation (DelayMismatch n c e))
 
 unfoldable pub bySize : VbvCbrModel → Extent → ℕ → RemovalInterval → VbvRemoval → Judged
-bySize m x z i (rm.Model next) = byEnd m x z (removePicture m (x .content + 8 * z) i)
+bySize m x z i (rm.Model next) = byEnd m x z (removalOf (removePicture m (x .content + 8 * z) i))
 bySize m x z i (rm.Refused e) = Refused (Model e)
 bySize m x z i (rm.Violation v) = violated v
 
 -- 7
 unfoldable pub byMost : VbvCbrModel → Extent → ℕ → RemovalInterval → VbvBits → Judged
-byMost m x z i (bt.Bits most) = pick (ltb most (x .position)) (Refused (Model Early)) (bySize m x z i (removePicture m (x .content) i))
+byMost m x z i (bt.Bits most) = pick (ltb most (x .position)) (Refused (Model Early)) (bySize m x z i (removalOf (removePicture m (x .content) i)))
 byMost m x z i (bt.Refused e) = Refused (Model e)
 
 -- 14 of the end; more than 2^45 zero bytes pass it
 unfoldable pub withZeros : VbvCbrModel → Extent → RemovalInterval → ℕ → Judged
 withZeros m x i z =
     pick (ltb (2 ^ 45) z) (Refused (Model Range))
-    (pick (ltb (2 ^ 48) (x .content + 8 * z)) (Refused (Model Range)) (byMost m x z i (maxEndBits m)))
+    (pick (ltb (2 ^ 48) (x .content + 8 * z)) (Refused (Model Range)) (byMost m x z i (bitsOf (maxEndBits m))))
 
 unfoldable pub byLeast : VbvCbrModel → Extent → RemovalInterval → Bool → VbvBits → Judged
 byLeast m x i last (bt.Bits least) = withZeros m x i (zeros least (x .content) last)
 byLeast m x i last (bt.Refused e) = Refused (Model e)
 
 unfoldable pub byStart : Extent → RemovalInterval → Bool → VbvModel → Judged
-byStart x i last (md.Model m) = byLeast m x i last (minEndBits m i)
+byStart x i last (md.Model m) = byLeast m x i last (bitsOf (minEndBits m i))
 byStart x i last (md.Refused e) = Refused (Model e)
 
 unfoldable pub extentOf : VbvCbrModel → ℕ → ℕ → Bool → Extent

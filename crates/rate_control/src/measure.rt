@@ -4,6 +4,7 @@ ghost use Prim.Native.Nat.{_+_, _*_, _^_, _≤_, max};
 ghost use lib.ListN.{length};
 ghost use Rattle.vbv.specs.Steps.{ParamsFit, ModelFits};
 ghost use Rattle.vbv.specs.Model.{delayForPicture, removePicture, maxEndBits, minEndBits};
+ghost use Rattle.vbv.specs.Steps.{delayOf, bitsOf, removalOf};
 ghost use Rattle.rate_control.specs.Offer.{firstDelay, tail};
 ghost use Rattle.rate_control.specs.Steps.{ExtentFits, startedAt, zeros, violated as violatedOf, byDelay, byEnd, byMost, byLeast, measured as measuredOf};
 use crate::CbrError;
@@ -87,7 +88,7 @@ fn violated(violation: VbvViolation) -> Judged
 // With the model behind the picture, the delay.
 fn ready(model: VbvCbrModel, next: VbvCbrModel, extent: Extent, zeros: u64) -> Judged
     requires { ⌜ ExtentFits extent zeros ⌝ }
-    ensures { λ r. ⌜ r ≡ byDelay next extent zeros (delayForPicture model (extent .position)) ⌝ }
+    ensures { λ r. ⌜ r ≡ byDelay next extent zeros (delayOf (delayForPicture model (extent .position))) ⌝ }
 {
     match model.delay_for_picture(extent.position) {
         VbvDelay::Refused(error) => Judged::Refused(CbrError::Model(error)),
@@ -103,7 +104,7 @@ fn ready(model: VbvCbrModel, next: VbvCbrModel, extent: Extent, zeros: u64) -> J
 // 22: the stuffed end.
 fn stuffed(model: VbvCbrModel, extent: Extent, zeros: u64, interval: RemovalInterval) -> Judged
     requires { ⌜ ExtentFits extent zeros ⌝ }
-    ensures { λ r. ⌜ r ≡ byEnd model extent zeros (removePicture model (extent .content + 8 * zeros) interval) ⌝ }
+    ensures { λ r. ⌜ r ≡ byEnd model extent zeros (removalOf (removePicture model (extent .content + 8 * zeros) interval)) ⌝ }
 {
     match model.remove_picture(extent.content + 8 * zeros, interval) {
         VbvRemoval::Refused(error) => Judged::Refused(CbrError::Model(error)),
@@ -115,7 +116,7 @@ fn stuffed(model: VbvCbrModel, extent: Extent, zeros: u64, interval: RemovalInte
 // 7, 9 and the size.
 fn removed(model: VbvCbrModel, extent: Extent, zeros: u64, interval: RemovalInterval) -> Judged
     requires { ⌜ ExtentFits extent zeros ⌝ }
-    ensures { λ r. ⌜ r ≡ byMost model extent zeros interval (maxEndBits model) ⌝ }
+    ensures { λ r. ⌜ r ≡ byMost model extent zeros interval (bitsOf (maxEndBits model)) ⌝ }
 {
     match model.max_end_bits() {
         VbvBits::Refused(error) => Judged::Refused(CbrError::Model(error)),
@@ -136,7 +137,7 @@ fn removed(model: VbvCbrModel, extent: Extent, zeros: u64, interval: RemovalInte
 fn ended(model: VbvCbrModel, extent: Extent, interval: RemovalInterval, last: bool) -> Judged
     requires { ⌜ extent .content ≤ 2 ^ 48 ⌝ }
     requires { ⌜ extent .bytes ≤ 2 ^ 48 ⌝ }
-    ensures { λ r. ⌜ r ≡ byLeast model extent interval last (minEndBits model interval) ⌝ }
+    ensures { λ r. ⌜ r ≡ byLeast model extent interval last (bitsOf (minEndBits model interval)) ⌝ }
 {
     match model.min_end_bits(interval) {
         VbvBits::Refused(error) => Judged::Refused(CbrError::Model(error)),

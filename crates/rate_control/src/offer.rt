@@ -1,6 +1,7 @@
 // An offer: its tests in paper 01's order, and its answer.
 ghost use mathlib.Core.Path.{_≡_};
 ghost use Rattle.rate_control.specs.Offer.{offer as offerOf, outAfter};
+ghost use Rattle.rate_control.specs.Numbers.{offerAnswer, answered};
 ghost use Rattle.rate_control.specs.Steps.{judged as judgedOf};
 use crate::CbrError;
 use crate::CbrOffered;
@@ -57,6 +58,7 @@ impl CbrWriter {
     ) -> CbrOffered
         ensures { λ r. ⌜ r ≡ offerOf self (record { headers = now (headers .entry); kind = kind; interval = interval; last = last; layer = now (layer .entry); out = now (out .entry) }) ⌝ }
         ensures { λ r. ⌜ now (out .exit) ≡ outAfter self (record { headers = now (headers .entry); kind = kind; interval = interval; last = last; layer = now (layer .entry); out = now (out .entry) }) ⌝ }
+        ensures { λ r. ⌜ offerAnswer (r .answer) ≡ answered self (record { headers = now (headers .entry); kind = kind; interval = interval; last = last; layer = now (layer .entry); out = now (out .entry) }) ⌝ }
     {
         match self.judged(headers, kind, interval, last, layer) {
             Judged::Refused(error) => self.refused(error),

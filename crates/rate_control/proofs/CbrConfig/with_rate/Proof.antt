@@ -1,5 +1,6 @@
 use native.Mathlib.Omega.{arith}
-use mathlib.Core.Path.{sym, _∙_}
+use mathlib.Core.Path.{sym, ap, _∙_}
+use Rattle.vbv.specs.Answers.{modelAnswer}
 use Rattle.rate_control.proofs.Creation.{shared-out, way-made, way-unmade}
 use borrow.Author.Needs.{needs}
 use Rattle.rate_control.proofs.CbrConfig.with_rate.Statement.{statement}
@@ -24,7 +25,7 @@ enum-known-model : tie.Need-enum-known-model
 enum-known-model c = search needs
 
 fresh-requires : tie.Need-fresh-requires
-fresh-requires c κs = shared-out _ _ _ _ (sym (c .before .before .before .new .ensures) ∙ c .before .model .given .1) (omega arith) (omega arith) (omega arith)
+fresh-requires c κs = shared-out _ _ _ _ (sym (c .before .before .before .new .ensures) ∙ ap modelAnswer (c .before .model .given .1)) (omega arith) (omega arith) (omega arith)
 
 enum-known-error : tie.Need-enum-known-error
 enum-known-error c = search needs

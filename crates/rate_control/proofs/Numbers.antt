@@ -1,0 +1,84 @@
+-- An offer by its numbers.
+-- Assumes nothing.
+use mathlib.Core.Path.{_≡_, refl, ap, _∙_}
+use mathlib.Core.Bool.{Bool, true, false}
+use Prim.Native.Nat.{ℕ}
+use lib.Dec.{eqb}
+use Rattle.bits.specs.Bits.{pick}
+use Rattle.rate_control.specs.Writer.{asked, coarser}
+use Rattle.rate_control.specs.Offer.{Offer, refused, tooLarge, placed, withPending, offer}
+use Rattle.bits.specs.Refusals.{Answer}
+use Rattle.rate_control.specs.Numbers.{Given, offerAnswer, answered, writerBy}
+use Rattle.rate_control.specs.declared.CbrWriter.{CbrWriter}
+use Rattle.rate_control.specs.declared.CbrOffered.{CbrOffered}
+
+pick-in : {A B : Type 0} (f : A → B) (t : Bool) (x y : A) → f (pick t x y) ≡ pick t (f x) (f y)
+unfolding pick
+pick-in f true x y = refl
+pick-in f false x y = refl
+
+abbrev told : CbrOffered → Answer Given
+told r = offerAnswer (r .answer)
+
+abbrev behind : CbrOffered → CbrWriter
+behind r = r .writer
+
+pick-true : {A : Type 0} (x y : A) → pick true x y ≡ x
+unfolding pick
+pick-true x y = refl
+
+pick-false : {A : Type 0} (x y : A) → pick false x y ≡ y
+unfolding pick
+pick-false x y = refl
+
+module _ (w : CbrWriter) (o : Offer) where
+  pub answer-is : offerAnswer (offer w o .answer) ≡ answered w o
+  unfolding offer answered refused tooLarge placed
+  answer-is =
+      rw (
+        pick-in told,
+        pick-in told,
+        pick-in told,
+        pick-in told,
+        pick-in told,
+        pick-in told,
+        pick-in told,
+        pick-in told,
+        pick-in told,
+        pick-in told,
+        pick-in told,
+      )
+
+  pub writer-is : offer w o .writer ≡ writerBy w o (answered w o)
+  unfolding offer answered refused tooLarge placed
+  writer-is =
+      rw (
+        pick-in behind,
+        pick-in behind,
+        pick-in behind,
+        pick-in behind,
+        pick-in behind,
+        pick-in behind,
+        pick-in behind,
+        pick-in behind,
+        pick-in behind,
+        pick-in behind,
+        pick-in behind,
+        pick-in (writerBy w o),
+        pick-in (writerBy w o),
+        pick-in (writerBy w o),
+        pick-in (writerBy w o),
+        pick-in (writerBy w o),
+        pick-in (writerBy w o),
+        pick-in (writerBy w o),
+        pick-in (writerBy w o),
+        pick-in (writerBy w o),
+        pick-in (writerBy w o),
+        pick-in (writerBy w o),
+        pick-true,
+        pick-false,
+      )
+
+-- beside what a call left
+pub numbered : (w : CbrWriter) (o : Offer) {r : CbrOffered} {B : Type 0} → (r ≡ offer w o) × B → (r ≡ offer w o) × (B × (offerAnswer (r .answer) ≡ answered w o))
+numbered w o h = (h .0, (h .1, ap told (h .0) ∙ answer-is w o))
