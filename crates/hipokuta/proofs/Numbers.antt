@@ -1,29 +1,42 @@
 -- Every refusal has a number: 0 from the check says that the stream is accepted, 0 from a creation that there is a state.
 -- Assumes nothing.
 use mathlib.Core.Path.{_≡_, refl, subst}
-use Prim.Native.Nat.{ℕ, _≤_}
-use mathlib.Core.List.{List}
+use Prim.Native.Nat.{ℕ, suc, _+_, _/_, _≤_}
+use mathlib.Core.List.{List, [], _∷_}
+use lib.ListN.{length}
 use native.Mathlib.Omega.{arith}
+use Rattle.bits.specs.Refusals.{Answer, value, refused, andThen}
 use Rattle.bits.proofs.Flags.{pick-elim}
 use Rattle.headers.specs.Answers.{errorNumber}
 use Rattle.headers.specs.declared.Error.{Error}
 use Rattle.headers.specs.declared.Error.the-variants as h
-use Rattle.vbv.specs.Answers.{errorNumber as modelNumber, violationNumber}
+use Rattle.headers.specs.declared.sequence_header.Answer.{Answer as HeaderAnswer}
+use Rattle.headers.specs.declared.sequence_header.Answer.the-variants.{Parsed, Refused as HeaderRefused}
+use Rattle.vbv.specs.Annex.{gain, firstDelivered}
+use Rattle.vbv.specs.Answers.{errorNumber as modelNumber, violationNumber, frameRate}
+use Rattle.vbv.specs.Model.{periods}
 use Rattle.vbv.specs.declared.VbvError.{VbvError}
 use Rattle.vbv.specs.declared.VbvError.the-variants as m
+use Rattle.vbv.specs.declared.VbvParams.{VbvParams}
 use Rattle.vbv.specs.declared.VbvViolation.{VbvViolation}
 use Rattle.vbv.specs.declared.VbvViolation.the-variants.{Overflow, Underflow, DelayMismatch}
-use Rattle.verify.specs.Answers.{refusalOf}
+use Rattle.scan.specs.Pictures.{Pic, pictures}
+use Rattle.scan.specs.declared.Found.{Found}
+use Rattle.scan.specs.declared.Found.the-variants.{At, Nothing}
+use Rattle.verify.specs.Sequence.{rated, ifParsed, declaredBy, declaredAt, declared}
+use Rattle.verify.specs.Coded.{behind, headers, codedPictures}
+use Rattle.verify.specs.Run.{removal, run}
+use Rattle.verify.specs.Check.{accepted, withPictures, verdict}
+use Rattle.verify.specs.declared.CodedPicture.{CodedPicture}
+use Rattle.verify.specs.declared.Told.{Told as ToldBy}
+use Rattle.verify.specs.declared.Told.the-variants.{Delay, Refused as Unread}
 use Rattle.verify.specs.declared.VbvPictureRecord.{VbvPictureRecord}
-use Rattle.verify.specs.declared.VbvRefusal.{VbvRefusal}
-use Rattle.verify.specs.declared.VbvVerified.{VbvVerified}
-use Rattle.verify.specs.declared.VbvVerified.the-variants.{Report, Refused}
-use Rattle.verify.specs.declared.VbvVerifyError.{VbvVerifyError}
-use Rattle.verify.specs.declared.VbvVerifyError.the-variants.{Parse, Model, NoSequenceHeader, NoPictures, VariableRate, RecordPlaces, Violation}
+use Rattle.verify.specs.declared.VbvStandard.{VbvStandard}
+use Rattle.verify.specs.declared.VbvStandard.the-variants.{Mpeg1, Mpeg2}
 use Rattle.rate_control.specs.Answers.{refusalOf as sentRefusal}
 use Rattle.rate_control.specs.declared.CbrError.{CbrError}
 use Rattle.rate_control.specs.declared.CbrError.the-variants as s
-use Rattle.hipokuta.specs.Check.{Checked, refused, reported, answered, judged, checked}
+use Rattle.hipokuta.specs.Check.{checked}
 
 header-number : (e : Error) → 1 ≤ errorNumber e
 header-number h.ShortHeader = omega arith
@@ -50,15 +63,6 @@ violation-range (Overflow n c e) = (omega arith, omega arith)
 violation-range (Underflow n c e) = (omega arith, omega arith)
 violation-range (DelayMismatch n c e) = (omega arith, omega arith)
 
-error-number : (e : VbvVerifyError) → 1 ≤ refusalOf e .number
-error-number (Parse e) = header-number e
-error-number (Model e) = model-number e
-error-number NoSequenceHeader = omega arith
-error-number NoPictures = omega arith
-error-number VariableRate = omega arith
-error-number RecordPlaces = omega arith
-error-number (Violation v) = violation-range v .0
-
 -- the numbers of an offer's refusals: no 0; 19 is the output part's alone, and 21 the size's
 offer-range : (e : CbrError) → (1 ≤ sentRefusal e .number) × (sentRefusal e .number ≡ 19 → e ≡ s.Output) × (sentRefusal e .number ≡ 21 → e ≡ s.TooLarge)
 offer-range (s.Model e) = let m = model-range e in (m .0, λ h. absurd (m .1 h), λ h. absurd (omega (arith, m .2)))
@@ -81,24 +85,96 @@ only-output e = offer-range e .1
 pub only-size : (e : CbrError) → sentRefusal e .number ≡ 21 → e ≡ s.TooLarge
 only-size e = offer-range e .2
 
--- ---- the check
+-- ---- the check, down its chain of tests
 
-abbrev Numbered : Checked → Type 0
-Numbered (refused r) = 1 ≤ r .number
-Numbered (reported r rs) = Unit {0}
+abbrev Told : {X : Type 0} → Answer X → Type 0
+Told (value x) = Unit {0}
+Told (refused n k c e) = 1 ≤ n
 
-answer-numbered : (a : VbvVerified) (rs : List VbvPictureRecord) → Numbered (answered a rs)
-unfolding answered
-answer-numbered (Refused e) rs = error-number e
-answer-numbered (Report r) rs = tt
+and-then : {X Y : Type 0} (a : Answer X) (next : X → Answer Y) → Told a → ((x : X) → Told (next x)) → Told (andThen a next)
+and-then (value x) next h k = k x
+and-then (refused n k c e) next h f = h
 
-numbered : (s : List ℕ) (standard : ℕ) (report recs refusal : List ℕ) → Numbered (checked s standard report recs refusal)
-unfolding checked judged
-numbered s standard report recs refusal =
-    pick-elim Numbered _
-    (λ e. pick-elim Numbered _ (λ e. answer-numbered _ _) (λ e. pick-elim Numbered _ (λ e. answer-numbered _ _) (λ e. omega arith)))
-    (λ e. omega arith)
+rate-told : (c : ℕ) → Told (frameRate c)
+unfolding frameRate
+rate-told c =
+    pick-elim Told _ (λ e. tt) λ e.
+    pick-elim Told _ (λ e. tt) λ e.
+    pick-elim Told _ (λ e. tt) λ e.
+    pick-elim Told _ (λ e. tt) λ e.
+    pick-elim Told _ (λ e. tt) λ e.
+    pick-elim Told _ (λ e. tt) λ e.
+    pick-elim Told _ (λ e. tt) λ e.
+    pick-elim Told _ (λ e. tt) λ e.
+    omega arith
 
-pub refusal-number : (s : List ℕ) (standard : ℕ) (report recs refusal : List ℕ) (r : VbvRefusal) → checked s standard report recs refusal ≡ refused r
-    → 1 ≤ r .number
-refusal-number s standard report recs refusal r e = subst Numbered e (numbered s standard report recs refusal)
+parsed-told : (a : HeaderAnswer) (rate buffer code : ℕ) → Told (ifParsed a rate buffer code)
+unfolding ifParsed rated
+parsed-told Parsed rate buffer code = and-then (frameRate code) _ (rate-told code) (λ f. tt)
+parsed-told (HeaderRefused e) rate buffer code = header-number e
+
+declared-told : (standard : VbvStandard) (s : List ℕ) (f : Found) → Told (declaredAt standard s f)
+unfolding declaredAt declaredBy
+declared-told Mpeg1 s (At o c) = parsed-told _ _ _ _
+declared-told Mpeg2 s (At o c) = parsed-told _ _ _ _
+declared-told standard s Nothing = omega arith
+
+behind-told : (q : Pic) (t : ToldBy) (rest : Answer (List CodedPicture)) → Told rest → Told (behind q t rest)
+unfolding behind
+behind-told q (Delay d i) rest h = and-then rest _ h (λ cs. tt)
+behind-told q (Unread e) rest h = header-number e
+
+headers-told : (standard : VbvStandard) (s : List ℕ) (qs : List Pic) → Told (headers standard s qs)
+unfolding headers
+headers-told standard s [] = tt
+headers-told standard s (q ∷ qs) = behind-told q _ _ (headers-told standard s qs)
+
+removal-told : (p : VbvParams) (n previous d : ℕ) (c : CodedPicture) → Told (removal p n previous d c)
+unfolding removal
+removal-told p n previous d c =
+    pick-elim Told _ (λ e. omega arith) λ e.
+    pick-elim Told _ (λ e. omega arith) λ e.
+    pick-elim Told _ (λ e. omega arith) λ e.
+    pick-elim Told _ (λ e. omega arith) λ e.
+    pick-elim Told _ (λ e. omega arith) λ e.
+    tt
+
+run-told : (p : VbvParams) (n previous d : ℕ) (cs : List CodedPicture) → Told (run p n previous d cs)
+unfolding run
+run-told p n previous d [] = tt
+run-told p n previous d (c ∷ cs) =
+    and-then (removal p n previous d c) _ (removal-told p n previous d c) λ r.
+    and-then (run p (suc n) (c .«end_bits») (d + gain p (periods (c .interval))) cs) _ (run-told p (suc n) (c .«end_bits») (d + gain p (periods (c .interval))) cs) λ rs.
+    tt
+
+accepted-told : (p : VbvParams) (rs : List VbvPictureRecord) → Told (accepted p rs)
+accepted-told p [] = omega arith
+accepted-told p (r ∷ rs) = tt
+
+pictures-told : (places : ℕ) (p : VbvParams) (cs : List CodedPicture) → Told (withPictures places p cs)
+unfolding withPictures
+pictures-told places p [] = omega arith
+pictures-told places p (c ∷ cs) =
+    pick-elim Told _ (λ e. omega arith) λ e.
+    pick-elim Told _ (λ e. omega arith) λ e.
+    pick-elim Told _ (λ e. omega arith) λ e.
+    and-then (run p 0 0 (firstDelivered p (c .«pos_bits») (c .«vbv_delay»)) (c ∷ cs)) (accepted p) (run-told p 0 0 _ (c ∷ cs)) (accepted-told p)
+
+verdict-told : (standard : VbvStandard) (s : List ℕ) (places : ℕ) → Told (verdict standard s places)
+unfolding verdict declared codedPictures
+verdict-told standard s places =
+    pick-elim Told _ (λ e. omega arith) λ e.
+    and-then (declared standard s) _ (declared-told standard s _) λ p.
+    and-then (codedPictures standard s) _ (headers-told standard s (pictures s)) λ cs.
+    pictures-told places p cs
+
+checked-told : (s : List ℕ) (standard : ℕ) (report recs refusal : List ℕ) → Told (checked s standard report recs refusal)
+unfolding checked
+checked-told s standard report recs refusal =
+    pick-elim Told _ (λ e. omega arith) λ e.
+    pick-elim Told _ (λ e. verdict-told Mpeg1 s (length recs / 32)) λ e.
+    pick-elim Told _ (λ e. verdict-told Mpeg2 s (length recs / 32)) λ e.
+    omega arith
+
+pub refusal-number : (s : List ℕ) (standard : ℕ) (report recs refusal : List ℕ) (n k c x : ℕ) → checked s standard report recs refusal ≡ refused n k c x → 1 ≤ n
+refusal-number s standard report recs refusal n k c x e = subst Told e (checked-told s standard report recs refusal)

@@ -1,9 +1,11 @@
 // The check of a stream, its report, records and refusal as bytes.
 ghost use mathlib.Core.Path.{_≡_};
-ghost use mathlib.Core.List.{[]};
+ghost use Rattle.bits.specs.Refusals.{number};
+ghost use Rattle.verify.specs.Answers.{verifiedAnswer};
+ghost use Rattle.verify.specs.Check.{reported};
 ghost use Rattle.words.specs.Words.{wordsBytes, laid};
 ghost use Rattle.layout.specs.Answers.{refusalWords};
-ghost use Rattle.hipokuta.specs.Check.{answered, checked, numberOf, reportAfter, recordsAfter, refusalAfter};
+ghost use Rattle.hipokuta.specs.Check.{checked, reportAfter, recordsAfter, refusalAfter};
 use layout::put_refusal;
 use layout::put_report;
 use verify::VbvRefusal;
@@ -27,9 +29,9 @@ fn refuse(place: &mut [u8], r: VbvRefusal) -> u64
 
 // What the check answered, in its places.
 fn answer(verified: VbvVerified, report: &mut [u8], refusal: &mut [u8]) -> u64
-    ensures { λ n. ⌜ n ≡ numberOf (answered verified []) ⌝ }
-    ensures { λ n. ⌜ now (report .exit) ≡ reportAfter (answered verified []) (now (report .entry)) ⌝ }
-    ensures { λ n. ⌜ now (refusal .exit) ≡ refusalAfter (answered verified []) (now (refusal .entry)) ⌝ }
+    ensures { λ n. ⌜ n ≡ number (verifiedAnswer verified) ⌝ }
+    ensures { λ n. ⌜ now (report .exit) ≡ reportAfter (verifiedAnswer verified) (now (report .entry)) ⌝ }
+    ensures { λ n. ⌜ now (refusal .exit) ≡ refusalAfter (verifiedAnswer verified) (now (refusal .entry)) ⌝ }
 {
     match verified {
         VbvVerified::Refused(error) => refuse(refusal, error.refusal()),
@@ -49,8 +51,8 @@ pub extern "C" fn vbv_check(
     records: &mut [u8],
     refusal: &mut [u8],
 ) -> u64
-    ensures { λ r. ⌜ r ≡ numberOf (checked (now (stream .entry)) standard (now (report .entry)) (now (records .entry)) (now (refusal .entry))) ⌝ }
-    ensures { λ r. ⌜ now (report .exit) ≡ reportAfter (checked (now (stream .entry)) standard (now (report .entry)) (now (records .entry)) (now (refusal .entry))) (now (report .entry)) ⌝ }
+    ensures { λ r. ⌜ r ≡ number (checked (now (stream .entry)) standard (now (report .entry)) (now (records .entry)) (now (refusal .entry))) ⌝ }
+    ensures { λ r. ⌜ now (report .exit) ≡ reportAfter (reported (checked (now (stream .entry)) standard (now (report .entry)) (now (records .entry)) (now (refusal .entry)))) (now (report .entry)) ⌝ }
     ensures { λ r. ⌜ now (records .exit) ≡ recordsAfter (checked (now (stream .entry)) standard (now (report .entry)) (now (records .entry)) (now (refusal .entry))) (now (records .entry)) ⌝ }
     ensures { λ r. ⌜ now (refusal .exit) ≡ refusalAfter (checked (now (stream .entry)) standard (now (report .entry)) (now (records .entry)) (now (refusal .entry))) (now (refusal .entry)) ⌝ }
 {

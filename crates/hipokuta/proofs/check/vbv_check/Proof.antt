@@ -46,7 +46,7 @@ same-length-4 : tie.Need-same-length-4
 same-length-4 c = search needs
 
 returns-2 : tie.Need-returns-2
-returns-2 c = mpeg1 _ _ _ _ _ (search) (c .before .before .before .before .answer .ensures) (omega arith) (search) (search)
+returns-2 c = mpeg1 _ _ _ _ _ (search) _ (c .before .before .before .before .answer .ensures) (omega arith) (search) (search)
 
 same-length-5 : tie.Need-same-length-5
 same-length-5 c = search needs
@@ -58,7 +58,7 @@ same-length-7 : tie.Need-same-length-7
 same-length-7 c = search needs
 
 returns-3 : tie.Need-returns-3
-returns-3 c = mpeg2 _ _ _ _ _ (search) (c .before .before .before .before .answer2 .ensures) (omega arith) (search) (search)
+returns-3 c = mpeg2 _ _ _ _ _ (search) _ (c .before .before .before .before .answer2 .ensures) (omega arith) (search) (search)
 
 same-length-8 : tie.Need-same-length-8
 same-length-8 c = search needs
