@@ -1,6 +1,6 @@
 -- The ways of what is printed.
 -- Assumes nothing.
-use mathlib.Core.Path.{_≡_, sym}
+use mathlib.Core.Path.{_≡_, sym, ap, _∙_}
 use Prim.Native.Nat.{ℕ, _*_, _≤_, _<_}
 use mathlib.Core.List.{List, _++_}
 use native.Mathlib.Omega.{arith}
@@ -9,10 +9,12 @@ use lib.Seq.{length-take-le}
 use borrow.Author.Tests.{le-leb, lt-leb}
 use Rattle.bits.specs.Bits.{pick}
 use Rattle.bits.specs.Answers.{over}
-use Rattle.verify.specs.Answers.{refusalOf}
-use Rattle.verify.specs.Check.{Verdict, verdict, verified, records}
+use Rattle.bits.specs.Refusals.{Answer, value, refused}
+use Rattle.verify.specs.Answers.{refusal, refusalOf, verifiedAnswer}
+use Rattle.verify.specs.Check.{Accepted, verdict, reportOf, reported, records}
 use Rattle.verify.specs.Layout.{recordsBytes}
 use Rattle.verify.specs.declared.VbvStandard.the-variants.{Mpeg2}
+use Rattle.verify.specs.declared.VbvVerified.{VbvVerified}
 use Rattle.verify.specs.declared.VbvVerified.the-variants.{Report, Refused}
 use Rattle.verify.specs.declared.VbvVerifyError.{VbvVerifyError}
 use Rattle.verify.specs.declared.VbvStreamReport.{VbvStreamReport}
@@ -20,7 +22,7 @@ use Rattle.bits.proofs.Over.{over-is}
 use Rattle.verify.proofs.Storing.{length-records}
 use Rattle.verify.proofs.Bounds.{picture-count, records-small}
 use Rattle.io.specs.Counts.{Counts}
-use Rattle.vbvcheck.specs.Text.{ascii, recordLines, refusalText, reportText, answerText, verdictText, printed}
+use Rattle.vbvcheck.specs.Text.{ascii, recordLines, refusalText, reportText, verdictText, printed}
 use Rattle.vbvcheck.specs.Steps.{linesOf}
 use Rattle.vbvcheck.proofs.Lines.{lines-are}
 
@@ -32,23 +34,41 @@ unfolding printed pick
 too-long s h = rw (lt-leb (length s) 65536 h)
 
 -- the records' part is as long as before, so the records fit it
-pub pictures-fit : (v : Verdict) (x : VbvStreamReport) (old new : List ℕ) → verified v ≡ Report x → new ≡ over (recordsBytes (records v)) old
-    → 32 * x .pictures ≤ length new
-pictures-fit v x old new q w =
+pub pictures-fit : (s : List ℕ) (places : ℕ) (r : VbvVerified) (x : VbvStreamReport) (old new : List ℕ) → r ≡ Report x
+    → verifiedAnswer r ≡ reported (verdict Mpeg2 s places) → new ≡ over (recordsBytes (records (verdict Mpeg2 s places))) old → 32 * x .pictures ≤ length new
+pictures-fit s places r x old new q h w =
+    let v = verdict Mpeg2 s places in
     rw (w, over-is (recordsBytes (records v)) old, length-append (recordsBytes (records v)) (drop (length (recordsBytes (records v))) old))
-    (omega (arith, picture-count v x q, length-records (records v)))
+    (omega (arith, picture-count r v x h q, length-records (records v)))
 
-module _ (s : List ℕ) (places : ℕ) (h : length s ≤ 65536) (l : places ≡ 1024) where
-  pub printed-refused : (e : VbvVerifyError) → verified (verdict Mpeg2 s places) ≡ Refused e → refusalText (refusalOf e) ≡ printed s
-  unfolding printed verdictText answerText pick
-  printed-refused e q = rw (le-leb (length s) 65536 h, rw l at (q))
+-- the text of a verdict, by the answer that tells it
+text-refused : (v : Answer Accepted) (e : VbvVerifyError) → refusal e ≡ reported v → refusalText (refusalOf e) ≡ verdictText v
+unfolding verdictText
+text-refused (value a) e h = let z : _≡_ {A = ℕ} 0 1 = cc in absurd (omega arith)
+text-refused (refused n k c x) e h =
+    let a : refusalOf e .number ≡ n = cc in
+    let b : refusalOf e .picture ≡ k = cc in
+    let d : refusalOf e .coded ≡ c = cc in
+    let f : refusalOf e .expected ≡ x = cc in
+    rw (← a, ← b, ← d, ← f)
 
-  pub printed-report : (x : VbvStreamReport) (old new : List ℕ) → verified (verdict Mpeg2 s places) ≡ Report x
+text-reported : (v : Answer Accepted) (x : VbvStreamReport) → value x ≡ reported v
+    → reportText x ++ (ascii "delay expected data_bits occupancy_before\n" ++ recordLines (records v)) ≡ verdictText v
+unfolding verdictText
+text-reported (value a) x h = let e : x ≡ reportOf a = cc in rw e
+text-reported (refused n k c y) x h = let z : _≡_ {A = ℕ} 0 1 = cc in absurd (omega arith)
+
+module _ (s : List ℕ) (places : ℕ) (h : length s ≤ 65536) (l : places ≡ 1024) (r : VbvVerified) where
+  pub printed-refused : (e : VbvVerifyError) → r ≡ Refused e → verifiedAnswer r ≡ reported (verdict Mpeg2 s places) → refusalText (refusalOf e) ≡ printed s
+  unfolding printed pick
+  printed-refused e q t = rw (le-leb (length s) 65536 h, ← l) (text-refused (verdict Mpeg2 s places) e (ap verifiedAnswer (sym q) ∙ t))
+
+  pub printed-report : (x : VbvStreamReport) (old new : List ℕ) → r ≡ Report x → verifiedAnswer r ≡ reported (verdict Mpeg2 s places)
       → new ≡ over (recordsBytes (records (verdict Mpeg2 s places))) old
       → reportText x ++ (ascii "delay expected data_bits occupancy_before\n" ++ linesOf (x .pictures) new) ≡ printed s
-  unfolding printed verdictText answerText pick
-  printed-report x old new q w =
+  unfolding printed pick
+  printed-report x old new q t w =
       let rs = records (verdict Mpeg2 s places) in
       let e : linesOf (x .pictures) new ≡ recordLines rs
-      = rw (picture-count (verdict Mpeg2 s places) x q, w, over-is (recordsBytes rs) old) (lines-are rs (drop (length (recordsBytes rs)) old) (records-small Mpeg2 s places)) in
-      rw (le-leb (length s) 65536 h, e, ← l, q)
+      = rw (picture-count r (verdict Mpeg2 s places) x t q, w, over-is (recordsBytes rs) old) (lines-are rs (drop (length (recordsBytes rs)) old) (records-small Mpeg2 s places)) in
+      rw (le-leb (length s) 65536 h, e, ← l) (text-reported (verdict Mpeg2 s places) x (ap verifiedAnswer (sym q) ∙ t))

@@ -7,11 +7,9 @@ use mathlib.Core.List.{List, [], _∷_, _++_}
 use lib.Dec.{ltb, leb}
 use lib.ListN.{length}
 use Rattle.bits.specs.Bits.{pick}
-use Rattle.verify.specs.Answers.{refusalOf}
-use Rattle.verify.specs.Check.{Verdict, verdict, verified, records}
+use Rattle.bits.specs.Refusals.{Answer, value, refused}
+use Rattle.verify.specs.Check.{Accepted, verdict, reportOf}
 use Rattle.verify.specs.declared.VbvStandard.the-variants.{Mpeg2}
-use Rattle.verify.specs.declared.VbvVerified.{VbvVerified}
-use Rattle.verify.specs.declared.VbvVerified.the-variants.{Report, Refused}
 use Rattle.verify.specs.declared.VbvPictureRecord.{VbvPictureRecord}
 use Rattle.verify.specs.declared.VbvStreamReport.{VbvStreamReport}
 use Rattle.verify.specs.declared.VbvRefusal.{VbvRefusal}
@@ -48,12 +46,9 @@ reportText r =
 unfoldable pub refusalText : VbvRefusal → List ℕ
 refusalText r = ascii "refused picture coded expected\n" ++ line (r .number ∷ r .picture ∷ r .coded ∷ r .expected ∷ [])
 
-unfoldable pub answerText : VbvVerified → List VbvPictureRecord → List ℕ
-answerText (Refused e) rs = refusalText (refusalOf e)
-answerText (Report r) rs = reportText r ++ (ascii "delay expected data_bits occupancy_before\n" ++ recordLines rs)
-
-unfoldable pub verdictText : Verdict → List ℕ
-verdictText v = answerText (verified v) (records v)
+unfoldable pub verdictText : Answer Accepted → List ℕ
+verdictText (value a) = reportText (reportOf a) ++ (ascii "delay expected data_bits occupancy_before\n" ++ recordLines (a .first ∷ a .others))
+verdictText (refused n k c e) = refusalText (record { number = n; picture = k; coded = c; expected = e })
 
 unfoldable pub printed : List ℕ → List ℕ
 printed s = pick (leb (length s) 65536) (verdictText (verdict Mpeg2 s 1024)) (ascii "too long\n")

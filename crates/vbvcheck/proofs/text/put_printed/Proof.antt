@@ -1,4 +1,4 @@
-use mathlib.Core.Path.{sym, _∙_}
+use mathlib.Core.Path.{_∙_}
 use native.Mathlib.Omega.{arith}
 use Rattle.vbvcheck.proofs.Printed.{counts, too-long, pictures-fit, printed-refused, printed-report}
 use borrow.Author.Needs.{needs}
@@ -34,7 +34,7 @@ enum-known-r c = search needs
 put-accepted-requires : tie.Need-put-accepted-requires
 put-accepted-requires c κs =
     let v = c .before .before .before .before .before .before .verify-cbr-stream in
-    let f = pictures-fit _ _ _ _ (sym (v .ensures .0) ∙ c .before .before .before .before .r .given .1) (v .ensures .1) in
+    let f = pictures-fit _ _ _ _ _ _ (c .before .before .before .before .r .given .1) (v .ensures .0) (v .ensures .1) in
     (omega arith, (omega (arith, f), omega (arith, f)))
 
 returns-2 : tie.Need-returns-2
@@ -42,7 +42,7 @@ returns-2 c =
     let p = c .put-refusal in
     let a = c .before .before .before .before .before .before .before .before .before .before .args in
     let v = c .before .before .before .before .before .before .verify-cbr-stream in
-    let q = printed-refused (a .stream .now) _ (omega arith) (omega arith) _ (sym (v .ensures .0) ∙ c .before .before .before .before .error .given .1) in
+    let q = printed-refused (a .stream .now) _ (omega arith) (omega arith) _ _ (c .before .before .before .before .error .given .1) (v .ensures .0) in
     (counts (p .result) (p .last .0) (omega (arith, p .ensures .0)), p .ensures .1 ∙ rw (c .before .refusal .ensures) q)
 
 returns-3 : tie.Need-returns-3
@@ -50,7 +50,7 @@ returns-3 c =
     let p = c .put-accepted in
     let a = c .before .before .before .before .before .before .before .before .before .before .before .args in
     let v = c .before .before .before .before .before .before .before .verify-cbr-stream in
-    let q = printed-report (a .stream .now) _ (omega arith) (omega arith) _ _ _ (sym (v .ensures .0) ∙ c .before .before .before .before .before .r .given .1) (v .ensures .1) in
+    let q = printed-report (a .stream .now) _ (omega arith) (omega arith) _ _ _ _ (c .before .before .before .before .before .r .given .1) (v .ensures .0) (v .ensures .1) in
     (counts (p .result) (p .last .0) (p .ensures .0), p .ensures .1 ∙ q)
 
 pub put-printed-spec : {M : Type 1} → statement M
