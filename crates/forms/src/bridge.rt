@@ -1,9 +1,11 @@
 // The forms by reference, called with what is lent in locals: parameters and results are plain.
 ghost use mathlib.Core.Path.{_≡_};
 ghost use lib.ListN.{replicate};
-ghost use Rattle.verify.specs.Check.{verdict, verified, records as recordsOf};
+ghost use Rattle.verify.specs.Answers.{verifiedAnswer};
+ghost use Rattle.verify.specs.Check.{verdict, reported, records as recordsOf};
 ghost use Rattle.bits.specs.Answers.{over};
-ghost use Rattle.vbv.specs.Lent.{startStep, removeStep};
+ghost use Rattle.vbv.specs.Model.{startModel, removePicture};
+ghost use Rattle.vbv.specs.Lent.{stepAnswer, done, modelAfter};
 use vbv::RemovalInterval;
 use vbv::VbvCbrModel;
 use vbv::lent::VbvStepped;
@@ -12,7 +14,7 @@ use verify::VbvStandard;
 use verify::VbvVerified;
 
 pub(crate) fn started(model: VbvCbrModel, delay: u16, position: u64) -> VbvStepped
-    ensures { λ r. ⌜ r ≡ startStep model delay position ⌝ }
+    ensures { λ r. ⌜ (stepAnswer (r .answer) ≡ done (startModel model delay position)) × (r .model ≡ modelAfter model (startModel model delay position)) ⌝ }
 {
     let mut lent = model;
     let answer = lent.start_in_place(delay, position);
@@ -23,7 +25,7 @@ pub(crate) fn started(model: VbvCbrModel, delay: u16, position: u64) -> VbvStepp
 }
 
 pub(crate) fn removed(model: VbvCbrModel, end: u64, interval: RemovalInterval) -> VbvStepped
-    ensures { λ r. ⌜ r ≡ removeStep model end interval ⌝ }
+    ensures { λ r. ⌜ (stepAnswer (r .answer) ≡ done (removePicture model end interval)) × (r .model ≡ modelAfter model (removePicture model end interval)) ⌝ }
 {
     let mut lent = model;
     let answer = lent.remove_in_place(end, interval);
@@ -48,7 +50,7 @@ pub(crate) fn places(
 
 // What the check answers with those places.
 pub(crate) fn answer(stream: &[u8], standard: VbvStandard, filling: VbvPictureRecord) -> VbvVerified
-    ensures { λ r. ⌜ r ≡ verified (verdict standard (now (stream .entry)) 4) ⌝ }
+    ensures { λ r. ⌜ verifiedAnswer r ≡ reported (verdict standard (now (stream .entry)) 4) ⌝ }
 {
     let mut records = [filling; 4];
     lent::verify_cbr_stream(stream, standard, &mut records)

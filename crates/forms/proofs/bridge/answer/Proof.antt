@@ -48,7 +48,8 @@ use denote.Triple.Table.{entered, cited}
 use denote.Triple.Walked.{says, Stays, stay-none, stay-none-slice, walkOf, AllGo, goes-none, goes-none-slice, Walks, ends-at, walked, walk-meets}
 use denote.Triple.Clauses.{ensured, Lasts, lasts}
 use denote.Exit.{yes}
-use Rattle.verify.specs.Check.{verdict, verified, records}
+use Rattle.verify.specs.Answers.{verifiedAnswer}
+use Rattle.verify.specs.Check.{verdict, reported, records}
 use Rattle.verify.specs.declared.VbvStandard.{VbvStandard}
 use Rattle.verify.specs.declared.VbvVerified.{VbvVerified}
 use Rattle.verify.specs.declared.VbvPictureRecord.{VbvPictureRecord}
@@ -113,8 +114,8 @@ module _ {M : Type 1} (𝓤 : URA M) (H : Heap 𝓤) (A : Atoms 𝓤) (W : Given
   abbrev bv : Val
   bv = only (rvals filling)
 
-  abbrev vd : VbvVerified
-  vd = verified (verdict standard xs 4)
+  abbrev Told : VbvVerified → Type 0
+  Told r = verifiedAnswer r ≡ reported (verdict standard xs 4)
 
   abbrev zs : List VbvPictureRecord
   zs = over (records (verdict standard xs 4)) ws₀
@@ -131,11 +132,11 @@ module _ {M : Type 1} (𝓤 : URA M) (H : Heap 𝓤) (A : Atoms 𝓤) (W : Given
   abbrev Post : Val → SProp 𝓤
   Post = walkOf 𝓤 H A fn′.ended stayed (fn′.clauses 𝓤 H A at-mem run) .post (((κ, tt), (q, tt), tt, x, at), tt)
 
-  exits : Is N.the-row standard (nvals standard) → Is T.the-row filling (rvals filling) → Is E.the-row vd (evals vd) → ent 𝓤 (⋆ 𝓤 H A (‵ (flft κ q) ∷ ‵ Src ∷ [])) (Post (only (evals vd)))
-  exits gn gf gd =
-      qed W (‵ (flft κ q) ∷ ‵ Src ∷ []) ∵ suffices ! _ (ends-at 𝓤 H A fn′.ended stayed (fn′.clauses 𝓤 H A at-mem run) W (((κ, tt), (q, tt), tt, x, at), tt) (only (evals vd)) vd (tt, (tt, (tt, tt))) (tt, (tt, (tt, tt)))) $ says ! refl $
+  exits : (r : VbvVerified) → Told r → Is N.the-row standard (nvals standard) → Is T.the-row filling (rvals filling) → Is E.the-row r (evals r) → ent 𝓤 (⋆ 𝓤 H A (‵ (flft κ q) ∷ ‵ Src ∷ [])) (Post (only (evals r)))
+  exits r e gn gf gd =
+      qed W (‵ (flft κ q) ∷ ‵ Src ∷ []) ∵ suffices ! _ (ends-at 𝓤 H A fn′.ended stayed (fn′.clauses 𝓤 H A at-mem run) W (((κ, tt), (q, tt), tt, x, at), tt) (only (evals r)) r (tt, (tt, (tt, tt))) (tt, (tt, (tt, tt)))) $ says ! e $
       nothing ! $ move ! (1 ∷ 0 ∷ []) $ join ! $ frame ! $ nothing ! $ owned ! T.the-row (Is T.the-row) (LL.makes T.the-type T′.the-plain 𝓤 H A) filling _ gf $ fjoin ! $ owned ! N.the-row (Is N.the-row) (EL.makes N.the-type N′.the-plain 𝓤 H A) standard _ gn $ fjoin ! $ move ! (1 ∷ 0 ∷ []) $ fjoin ! $ frame ! $
-      owned ! E.the-row (Is E.the-row) (EL.makes E.the-type E′.the-plain 𝓤 H A) vd _ gd $ done !
+      owned ! E.the-row (Is E.the-row) (EL.makes E.the-type E′.the-plain 𝓤 H A) r _ gd $ done !
 
   -- the array at the block l, lent for α under the name δ
   abbrev ref : ℕ → GName → RefT (List VbvPictureRecord)
@@ -177,11 +178,11 @@ module _ {M : Type 1} (𝓤 : URA M) (H : Heap 𝓤) (A : Atoms 𝓤) (W : Given
         move ! (18 ∷ []) $ split ! $ move ! (6 ∷ 1 ∷ []) $ join ! $ move ! (1 ∷ 0 ∷ []) $ join ! $ use2 W (raw (Callee 𝓤 H A at-mem run .pre (to l₄ α δ))) (asked l₄ α δ) $
         calls-at ! fm (Callee 𝓤 H A at-mem run) known (to l₄ α δ) (and-then ! (load ! (from ! (stop !)) (look ! 13 refl)) (and-then ! (load ! (from ! (stop !)) (look ! 11 refl)) (and-then ! (load ! (from ! (stop !)) (look ! 4 refl)) (no-more !)))) (λ v.
         use1 W (later (some (λ (r : VbvVerified). ((‵ (flft κ q) ⊛ ‵ (flft (α ∷ []) fullShare) ⊛ ‵ ftrue) ⊛ ‵ (E.the-row .own r (v ∷ []))) ⊛ raw (ensured 𝓤 H A callee.ended (callee.clauses 𝓤 H A at-mem run) (κ, (α ∷ [], tt)) (given l₄ δ) tt r)))) (id⊢ 𝓤 _) $ await ! tt $ pick ! (λ r.
-        split ! $ move ! (1 ∷ []) $ use1 W (some (λ (ws : Lasts callee.ended (κ, (α ∷ [], tt)) (given l₄ δ)). ‵ (lasts callee.ended (κ, (α ∷ [], tt)) (given l₄ δ) ws) ⊛ raw (fact 𝓤 ((r ≡ vd) × (ws .1 .1 .0 ≡ zs))))) (id⊢ 𝓤 _) $ pick ! (λ ws.
-        split ! $ move ! (1 ∷ []) $ heard ! ((r ≡ vd) × (ws .1 .1 .0 ≡ zs)) (λ e. fsplit ! $ drop ! $ fsplit ! $ drop ! $ fsplit ! $ fsplit ! $ rewrite ! 0 (λ (l : List VbvPictureRecord). ‵ (finally T.the-row δ l)) (e .1) refl $
-        move ! (3 ∷ []) $ split ! $ split ! $ move ! (1 ∷ []) $ split ! $ move ! (3 ∷ []) $ rewrite ! 0 (λ (a : VbvVerified). ‵ (E.the-row .own a (v ∷ []))) (e .0) refl $ peeks ! E.the-row (Is E.the-row) (shows 𝓤 H A E.the-row) vd (v ∷ []) (λ is.
-        land ! (from ! (stop !)) (init ! 21 refl (EL.lawful E.the-type E′.the-laws 𝓤 H A W tt .typed vd _ is .0)) $
-        rewrite ! 21 (λ (us : List Val). ‵ (fat fullShare E′.mir l₀ 0 (only us))) (EL.tells E.the-type E′.the-laws vd (v ∷ []) is) refl $ drop ! $
+        split ! $ move ! (1 ∷ []) $ use1 W (some (λ (ws : Lasts callee.ended (κ, (α ∷ [], tt)) (given l₄ δ)). ‵ (lasts callee.ended (κ, (α ∷ [], tt)) (given l₄ δ) ws) ⊛ raw (fact 𝓤 (Told r × (ws .1 .1 .0 ≡ zs))))) (id⊢ 𝓤 _) $ pick ! (λ ws.
+        split ! $ move ! (1 ∷ []) $ heard ! (Told r × (ws .1 .1 .0 ≡ zs)) (λ e. fsplit ! $ drop ! $ fsplit ! $ drop ! $ fsplit ! $ fsplit ! $ rewrite ! 0 (λ (l : List VbvPictureRecord). ‵ (finally T.the-row δ l)) (e .1) refl $
+        move ! (3 ∷ []) $ split ! $ split ! $ move ! (1 ∷ []) $ split ! $ move ! (3 ∷ []) $ peeks ! E.the-row (Is E.the-row) (shows 𝓤 H A E.the-row) r (v ∷ []) (λ is.
+        land ! (from ! (stop !)) (init ! 21 refl (EL.lawful E.the-type E′.the-laws 𝓤 H A W tt .typed r _ is .0)) $
+        rewrite ! 21 (λ (us : List Val). ‵ (fat fullShare E′.mir l₀ 0 (only us))) (EL.tells E.the-type E′.the-laws r (v ∷ []) is) refl $ drop ! $
         -- the lifetime is ended, and the array is back
         lft-end ! tt $ move ! (0 ∷ 8 ∷ 3 ∷ []) $ use3 W (later (‵ (Arr (mem T.the-row) 4 .lies zs l₄ 0))) (slice-back 𝓤 H A W T.the-row (α ∷ []) δ zs 4 l₄ 0) $ await ! tt $
         fsplit ! $ move ! (1 ∷ []) $ use1 W (‵ (row T.the-row fullShare zs l₄ 0)) (whole-out 𝓤 H A W T.the-row zs l₄ 0) $ move ! (1 ∷ 0 ∷ []) $ fjoin ! $ use1 W (‵ (partAt Arr4 fullShare zs l₄ 0)) (array-whole 𝓤 H A W T.the-row fullShare 4 zs l₄ 0) $
@@ -189,7 +190,7 @@ module _ {M : Type 1} (𝓤 : URA M) (H : Heap 𝓤) (A : Atoms 𝓤) (W : Given
         move ! (1 ∷ []) $ peeks ! Arr4 (Is Arr4) (shows 𝓤 H A Arr4) zs (avals zs) (λ gz. move ! (1 ∷ 0 ∷ []) $ use1 W (‵ (fat fullShare (tyArray T′.mir 4) l₄ 0 (only (avals zs)))) (W .laws .raw-at fullShare (tyArray T′.mir 4) l₄ 0 (only (avals zs))) $
         returns ! (look ! 19 refl) $ forget ! 0 refl $ forget ! 8 refl $ forget ! 10 refl $ forget ! 13 refl $ forget ! 15 refl $ forget ! 17 refl $ forget ! 19 refl $
         move ! (19 ∷ 20 ∷ []) $ free1 ! $ move ! (17 ∷ 18 ∷ []) $ free1 ! $ move ! (15 ∷ 16 ∷ []) $ free1 ! $ move ! (13 ∷ 14 ∷ []) $ free1 ! $ move ! (0 ∷ 12 ∷ []) $ free1 ! $ move ! (9 ∷ 10 ∷ []) $ free1 ! $ move ! (7 ∷ 8 ∷ []) $ free1 ! $ free0 ! $
-        keep ! (2 ∷ 5 ∷ []) $ by ! (exits gn gf (subst (Is E.the-row vd) (EL.tells E.the-type E′.the-laws vd (v ∷ []) is) is)))))))))))))))))))
+        keep ! (2 ∷ 5 ∷ []) $ by ! (exits r (e .0) gn gf (subst (Is E.the-row r) (EL.tells E.the-type E′.the-laws r (v ∷ []) is) is)))))))))))))))))))
 
 module _ {M : Type 1} (𝓤 : URA M) (H : Heap 𝓤) (A : Atoms 𝓤) (W : Given 𝓤 H A) (at-mem : Memory → SProp 𝓤) (run : Routine → Fun 𝓤) where
   walks : (C : Calls 𝓤 H) (Λ : Loops 𝓤 H) → FmC 𝓤 H (W .laws) C → Triple 𝓤 (C #callee) (Callee 𝓤 H A at-mem run) → Walks 𝓤 H A fn′.ended stayed (WpFn 𝓤 H C Λ code.function) (fn′.clauses 𝓤 H A at-mem run)

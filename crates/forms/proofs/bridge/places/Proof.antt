@@ -48,7 +48,8 @@ use denote.Triple.Table.{entered, cited}
 use denote.Triple.Walked.{says, Stays, stay-none, stay-none-slice, walkOf, AllGo, goes-none, goes-none-slice, Walks, ends-at, walked, walk-meets}
 use denote.Triple.Clauses.{ensured, Lasts, lasts}
 use denote.Exit.{yes}
-use Rattle.verify.specs.Check.{verdict, verified, records}
+use Rattle.verify.specs.Answers.{verifiedAnswer}
+use Rattle.verify.specs.Check.{verdict, reported, records}
 use Rattle.verify.specs.declared.VbvStandard.{VbvStandard}
 use Rattle.verify.specs.declared.VbvVerified.{VbvVerified}
 use Rattle.verify.specs.declared.VbvPictureRecord.{VbvPictureRecord}
@@ -110,8 +111,8 @@ module _ {M : Type 1} (𝓤 : URA M) (H : Heap 𝓤) (A : Atoms 𝓤) (W : Given
   abbrev bv : Val
   bv = only (rvals filling)
 
-  abbrev vd : VbvVerified
-  vd = verified (verdict standard xs 4)
+  abbrev Told : VbvVerified → Type 0
+  Told r = verifiedAnswer r ≡ reported (verdict standard xs 4)
 
   abbrev zs : List VbvPictureRecord
   zs = over (records (verdict standard xs 4)) ws₀
@@ -174,11 +175,11 @@ module _ {M : Type 1} (𝓤 : URA M) (H : Heap 𝓤) (A : Atoms 𝓤) (W : Given
         move ! (20 ∷ []) $ split ! $ move ! (6 ∷ 1 ∷ []) $ join ! $ move ! (1 ∷ 0 ∷ []) $ join ! $ use2 W (raw (Callee 𝓤 H A at-mem run .pre (to l₄ α δ))) (asked l₄ α δ) $
         calls-at ! fm (Callee 𝓤 H A at-mem run) known (to l₄ α δ) (and-then ! (load ! (from ! (stop !)) (look ! 15 refl)) (and-then ! (load ! (from ! (stop !)) (look ! 13 refl)) (and-then ! (load ! (from ! (stop !)) (look ! 4 refl)) (no-more !)))) (λ v.
         use1 W (later (some (λ (r : VbvVerified). ((‵ (flft κ q) ⊛ ‵ (flft (α ∷ []) fullShare) ⊛ ‵ ftrue) ⊛ ‵ (E.the-row .own r (v ∷ []))) ⊛ raw (ensured 𝓤 H A callee.ended (callee.clauses 𝓤 H A at-mem run) (κ, (α ∷ [], tt)) (given l₄ δ) tt r)))) (id⊢ 𝓤 _) $ await ! tt $ pick ! (λ r.
-        split ! $ move ! (1 ∷ []) $ use1 W (some (λ (ws : Lasts callee.ended (κ, (α ∷ [], tt)) (given l₄ δ)). ‵ (lasts callee.ended (κ, (α ∷ [], tt)) (given l₄ δ) ws) ⊛ raw (fact 𝓤 ((r ≡ vd) × (ws .1 .1 .0 ≡ zs))))) (id⊢ 𝓤 _) $ pick ! (λ ws.
-        split ! $ move ! (1 ∷ []) $ heard ! ((r ≡ vd) × (ws .1 .1 .0 ≡ zs)) (λ e. fsplit ! $ drop ! $ fsplit ! $ drop ! $ fsplit ! $ fsplit ! $ rewrite ! 0 (λ (l : List VbvPictureRecord). ‵ (finally T.the-row δ l)) (e .1) refl $
-        move ! (3 ∷ []) $ split ! $ split ! $ move ! (1 ∷ []) $ split ! $ move ! (3 ∷ []) $ rewrite ! 0 (λ (a : VbvVerified). ‵ (E.the-row .own a (v ∷ []))) (e .0) refl $ peeks ! E.the-row (Is E.the-row) (shows 𝓤 H A E.the-row) vd (v ∷ []) (λ is.
-        land ! (from ! (stop !)) (init ! 14 refl (EL.lawful E.the-type E′.the-laws 𝓤 H A W tt .typed vd _ is .0)) $
-        rewrite ! 14 (λ (us : List Val). ‵ (fat fullShare E′.mir l₅ 0 (only us))) (EL.tells E.the-type E′.the-laws vd (v ∷ []) is) refl $ drop ! $
+        split ! $ move ! (1 ∷ []) $ use1 W (some (λ (ws : Lasts callee.ended (κ, (α ∷ [], tt)) (given l₄ δ)). ‵ (lasts callee.ended (κ, (α ∷ [], tt)) (given l₄ δ) ws) ⊛ raw (fact 𝓤 (Told r × (ws .1 .1 .0 ≡ zs))))) (id⊢ 𝓤 _) $ pick ! (λ ws.
+        split ! $ move ! (1 ∷ []) $ heard ! (Told r × (ws .1 .1 .0 ≡ zs)) (λ e. fsplit ! $ drop ! $ fsplit ! $ drop ! $ fsplit ! $ fsplit ! $ rewrite ! 0 (λ (l : List VbvPictureRecord). ‵ (finally T.the-row δ l)) (e .1) refl $
+        move ! (3 ∷ []) $ split ! $ split ! $ move ! (1 ∷ []) $ split ! $ move ! (3 ∷ []) $ peeks ! E.the-row (Is E.the-row) (shows 𝓤 H A E.the-row) r (v ∷ []) (λ is.
+        land ! (from ! (stop !)) (init ! 14 refl (EL.lawful E.the-type E′.the-laws 𝓤 H A W tt .typed r _ is .0)) $
+        rewrite ! 14 (λ (us : List Val). ‵ (fat fullShare E′.mir l₅ 0 (only us))) (EL.tells E.the-type E′.the-laws r (v ∷ []) is) refl $ drop ! $
         -- the lifetime is ended, and the array is back
         lft-end ! tt $ move ! (0 ∷ 8 ∷ 3 ∷ []) $ use3 W (later (‵ (Arr (mem T.the-row) 4 .lies zs l₄ 0))) (slice-back 𝓤 H A W T.the-row (α ∷ []) δ zs 4 l₄ 0) $ await ! tt $
         fsplit ! $ move ! (1 ∷ []) $ use1 W (‵ (row T.the-row fullShare zs l₄ 0)) (whole-out 𝓤 H A W T.the-row zs l₄ 0) $ move ! (1 ∷ 0 ∷ []) $ fjoin ! $ use1 W (‵ (partAt Arr4 fullShare zs l₄ 0)) (array-whole 𝓤 H A W T.the-row fullShare 4 zs l₄ 0) $

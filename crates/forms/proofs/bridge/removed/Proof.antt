@@ -41,7 +41,8 @@ use denote.Triple.Table.{entered, cited}
 use denote.Triple.Walked.{says, Stays, stay-none, walkOf, AllGo, goes-none, Walks, ends-at, walked, walk-meets}
 use denote.Triple.Clauses.{ensured, Lasts, lasts}
 use denote.Exit.{yes}
-use Rattle.vbv.specs.Lent.{removeStep}
+use Rattle.vbv.specs.Model.{removePicture}
+use Rattle.vbv.specs.Lent.{stepAnswer, done as answered, modelAfter}
 use Rattle.vbv.specs.declared.VbvCbrModel.{VbvCbrModel}
 use Rattle.vbv.specs.declared.lent.VbvStepped.{VbvStepped}
 use Rattle.vbv.specs.declared.lent.VbvStep.{VbvStep}
@@ -82,11 +83,18 @@ module _ {M : Type 1} (𝓤 : URA M) (H : Heap 𝓤) (A : Atoms 𝓤) (W : Given
   abbrev mvals : VbvCbrModel → List Val
   mvals = LL.vals T.the-type T′.the-laws
 
-  abbrev d : VbvStepped
-  d = removeStep m end i
+  -- what the callee says of its answer, the model behind the call, and the result with such an answer
+  abbrev Said : VbvStep → Type 0
+  Said r = stepAnswer r ≡ answered (removePicture m end i)
 
-  abbrev dvals : List Val
-  dvals = LL.vals D.the-type D′.the-laws d
+  abbrev after : VbvCbrModel
+  after = modelAfter m (removePicture m end i)
+
+  abbrev d : VbvStep → VbvStepped
+  d r = record { model = after; answer = r }
+
+  abbrev dvals : VbvStep → List Val
+  dvals r = LL.vals D.the-type D′.the-laws (d r)
 
   abbrev x : VbvCbrModel × (ℕ × (RemovalInterval × Unit {0}))
   x = (m, (end, (i, tt)))
@@ -98,13 +106,13 @@ module _ {M : Type 1} (𝓤 : URA M) (H : Heap 𝓤) (A : Atoms 𝓤) (W : Given
   Post = walkOf 𝓤 H A fn′.ended stayed (fn′.clauses 𝓤 H A at-mem run) .post ((tt, tt, tt, x, at), tt)
 
   -- the result is made of its two fields
-  made : {v : Val} → Is S.the-row (d .answer) (v ∷ []) → Is T.the-row (d .model) (mvals (d .model)) → Is D.the-row d dvals
-  made {v} is wn = LL.owes D.the-type D′.the-laws d (wn, (subst (Is S.the-row (d .answer)) (EL.tells S.the-type S′.the-laws (d .answer) (v ∷ []) is) is, tt))
+  made : (r : VbvStep) {v : Val} → Is S.the-row r (v ∷ []) → Is T.the-row after (mvals after) → Is D.the-row (d r) (dvals r)
+  made r {v} is wn = LL.owes D.the-type D′.the-laws (d r) (wn, (subst (Is S.the-row r) (EL.tells S.the-type S′.the-laws r (v ∷ []) is) is, tt))
 
-  exits : Is T.the-row m (mvals m) → Is u64 end (vint w64 end ∷ []) → Is I.the-row i (ivals i) → Is D.the-row d dvals → ent 𝓤 (emp 𝓤) (Post (only dvals))
-  exits gm g1 g2 gd =
-      qed W [] ∵ suffices ! _ (ends-at 𝓤 H A fn′.ended stayed (fn′.clauses 𝓤 H A at-mem run) W ((tt, tt, tt, x, at), tt) (only dvals) d (tt, (tt, (tt, tt))) (tt, (tt, (tt, tt)))) $ says ! refl $
-      owned ! D.the-row (Is D.the-row) (LL.makes D.the-type D′.the-plain 𝓤 H A) d _ gd $ nothing ! $ owned ! I.the-row (Is I.the-row) (EL.makes I.the-type I′.the-plain 𝓤 H A) i _ g2 $ fjoin ! $ owned ! u64 (Is u64) (uint-makes 𝓤 H A W w64) end _ g1 $ fjoin ! $
+  exits : (r : VbvStep) → Said r → Is T.the-row m (mvals m) → Is u64 end (vint w64 end ∷ []) → Is I.the-row i (ivals i) → Is D.the-row (d r) (dvals r) → ent 𝓤 (emp 𝓤) (Post (only (dvals r)))
+  exits r e gm g1 g2 gd =
+      qed W [] ∵ suffices ! _ (ends-at 𝓤 H A fn′.ended stayed (fn′.clauses 𝓤 H A at-mem run) W ((tt, tt, tt, x, at), tt) (only (dvals r)) (d r) (tt, (tt, (tt, tt))) (tt, (tt, (tt, tt)))) $ says ! (e, refl) $
+      owned ! D.the-row (Is D.the-row) (LL.makes D.the-type D′.the-plain 𝓤 H A) (d r) _ gd $ nothing ! $ owned ! I.the-row (Is I.the-row) (EL.makes I.the-type I′.the-plain 𝓤 H A) i _ g2 $ fjoin ! $ owned ! u64 (Is u64) (uint-makes 𝓤 H A W w64) end _ g1 $ fjoin ! $
       owned ! T.the-row (Is T.the-row) (LL.makes T.the-type T′.the-plain 𝓤 H A) m _ gm $ fjoin ! $ nothing ! $ done !
 
   -- the local at the block l, lent for α under the name δ
@@ -145,22 +153,22 @@ module _ {M : Type 1} (𝓤 : URA M) (H : Heap 𝓤) (A : Atoms 𝓤) (W : Given
         calls-at ! fm (Callee 𝓤 H A at-mem run) known (to l₄ α δ) (and-then ! (load ! (from ! (stop !)) (look ! 4 refl)) (and-then ! (load ! (from ! (stop !)) (look ! 11 refl)) (and-then ! (load ! (from ! (stop !)) (look ! 9 refl)) (no-more !)))) (λ v.
         use1 W (later (some (λ (r : VbvStep). ((‵ (flft (α ∷ []) fullShare) ⊛ ‵ ftrue) ⊛ ‵ (S.the-row .own r (v ∷ []))) ⊛ raw (ensured 𝓤 H A callee.ended (callee.clauses 𝓤 H A at-mem run) (α ∷ [], tt) (given l₄ δ) tt r)))) (id⊢ 𝓤 _) $ await ! tt $ pick ! (λ r.
         -- what the callee says of its result and of the last value
-        split ! $ move ! (1 ∷ []) $ use1 W (some (λ (ws : Lasts callee.ended (α ∷ [], tt) (given l₄ δ)). ‵ (lasts callee.ended (α ∷ [], tt) (given l₄ δ) ws) ⊛ raw (fact 𝓤 ((r ≡ d .answer) × (ws .0 ≡ d .model))))) (id⊢ 𝓤 _) $ pick ! (λ ws.
-        split ! $ move ! (1 ∷ []) $ heard ! ((r ≡ d .answer) × (ws .0 ≡ d .model)) (λ e. fsplit ! $ rewrite ! 0 (λ (k : VbvCbrModel). ‵ (fres δ (T.the-row .coded .code k))) (e .1) refl $
-        move ! (2 ∷ []) $ split ! $ split ! $ move ! (2 ∷ []) $ rewrite ! 0 (λ (a : VbvStep). ‵ (S.the-row .own a (v ∷ []))) (e .0) refl $ peeks ! S.the-row (Is S.the-row) (shows 𝓤 H A S.the-row) (d .answer) (v ∷ []) (λ is.
+        split ! $ move ! (1 ∷ []) $ use1 W (some (λ (ws : Lasts callee.ended (α ∷ [], tt) (given l₄ δ)). ‵ (lasts callee.ended (α ∷ [], tt) (given l₄ δ) ws) ⊛ raw (fact 𝓤 (Said r × (ws .0 ≡ after))))) (id⊢ 𝓤 _) $ pick ! (λ ws.
+        split ! $ move ! (1 ∷ []) $ heard ! (Said r × (ws .0 ≡ after)) (λ e. fsplit ! $ rewrite ! 0 (λ (k : VbvCbrModel). ‵ (fres δ (T.the-row .coded .code k))) (e .1) refl $
+        move ! (2 ∷ []) $ split ! $ split ! $ move ! (2 ∷ []) $ peeks ! S.the-row (Is S.the-row) (shows 𝓤 H A S.the-row) r (v ∷ []) (λ is.
         -- [what the result owns; the token; true; the last value; true; the lender's part; _7; …; _6; …; _5; …; that _4 dies; _3; …; _2; …; _1; …; room for _0; …]
-        land ! (from ! (stop !)) (init ! 10 refl (EL.lawful S.the-type S′.the-laws 𝓤 H A W tt .typed (d .answer) _ is .0)) $
-        rewrite ! 10 (λ (us : List Val). ‵ (fat fullShare S′.mir l₅ 0 (only us))) (EL.tells S.the-type S′.the-laws (d .answer) (v ∷ []) is) refl $ drop ! $
+        land ! (from ! (stop !)) (init ! 10 refl (EL.lawful S.the-type S′.the-laws 𝓤 H A W tt .typed r _ is .0)) $
+        rewrite ! 10 (λ (us : List Val). ‵ (fat fullShare S′.mir l₅ 0 (only us))) (EL.tells S.the-type S′.the-laws r (v ∷ []) is) refl $ drop ! $
         -- the lifetime is ended, and the local is back
-        lft-end ! tt $ move ! (0 ∷ 4 ∷ 2 ∷ []) $ use3 W (later (‵ (mem T.the-row .lies (d .model) l₄ 0))) (ref-back 𝓤 H A W T.the-row (α ∷ []) δ (d .model) l₄ 0) $ await ! tt $
-        fpick ! (λ vs. fsplit ! $ spelt ! T.the-row (Is T.the-row) (shows 𝓤 H A T.the-row) mvals (LL.tells T.the-type T′.the-laws) fullShare (d .model) vs l₄ 0 $
-        move ! (1 ∷ []) $ peeks ! T.the-row (Is T.the-row) (shows 𝓤 H A T.the-row) (d .model) (mvals (d .model)) (λ wn. move ! (1 ∷ 0 ∷ []) $ use1 W (‵ (fat fullShare T′.mir l₄ 0 (only (mvals (d .model))))) (W .laws .raw-at fullShare T′.mir l₄ 0 (only (mvals (d .model)))) $
+        lft-end ! tt $ move ! (0 ∷ 4 ∷ 2 ∷ []) $ use3 W (later (‵ (mem T.the-row .lies after l₄ 0))) (ref-back 𝓤 H A W T.the-row (α ∷ []) δ after l₄ 0) $ await ! tt $
+        fpick ! (λ vs. fsplit ! $ spelt ! T.the-row (Is T.the-row) (shows 𝓤 H A T.the-row) mvals (LL.tells T.the-type T′.the-laws) fullShare after vs l₄ 0 $
+        move ! (1 ∷ []) $ peeks ! T.the-row (Is T.the-row) (shows 𝓤 H A T.the-row) after (mvals after) (λ wn. move ! (1 ∷ 0 ∷ []) $ use1 W (‵ (fat fullShare T′.mir l₄ 0 (only (mvals after)))) (W .laws .raw-at fullShare T′.mir l₄ 0 (only (mvals after))) $
         -- [_4; what it owns; true; true; _7; …; _6; …; _5; …; that _4 dies; _3; …; _2; …; _1; …; room for _0; …]
-        assigns ! (of-opd ! (load ! (from ! (stop !)) (look ! 0 refl))) (from ! (stop !)) (init ! 4 refl (LL.lawful T.the-type T′.the-laws 𝓤 H A W .typed (d .model) _ wn .0)) $
-        assigns ! (agg ! (and-then ! (load ! (from ! (stop !)) (look ! 4 refl)) (and-then ! (load ! (from ! (stop !)) (look ! 8 refl)) (no-more !)))) (from ! (stop !)) (init ! 17 refl (LL.lawful D.the-type D′.the-laws 𝓤 H A W .typed d _ (made is wn) .0)) $
+        assigns ! (of-opd ! (load ! (from ! (stop !)) (look ! 0 refl))) (from ! (stop !)) (init ! 4 refl (LL.lawful T.the-type T′.the-laws 𝓤 H A W .typed after _ wn .0)) $
+        assigns ! (agg ! (and-then ! (load ! (from ! (stop !)) (look ! 4 refl)) (and-then ! (load ! (from ! (stop !)) (look ! 8 refl)) (no-more !)))) (from ! (stop !)) (init ! 17 refl (LL.lawful D.the-type D′.the-laws 𝓤 H A W .typed (d r) _ (made r is wn) .0)) $
         returns ! (look ! 17 refl) $ forget ! 0 refl $ forget ! 4 refl $ forget ! 6 refl $ forget ! 8 refl $ forget ! 11 refl $ forget ! 13 refl $ forget ! 15 refl $ forget ! 17 refl $
         move ! (17 ∷ 18 ∷ []) $ free1 ! $ move ! (15 ∷ 16 ∷ []) $ free1 ! $ move ! (13 ∷ 14 ∷ []) $ free1 ! $ move ! (11 ∷ 12 ∷ []) $ free1 ! $ move ! (0 ∷ 10 ∷ []) $ free1 ! $ move ! (7 ∷ 8 ∷ []) $ free1 ! $ move ! (5 ∷ 6 ∷ []) $ free1 ! $ move ! (3 ∷ 4 ∷ []) $ free1 ! $ free0 ! $
-        keep ! [] $ by ! (exits gm g1 g2 (made is wn)))))))))))))))))))
+        keep ! [] $ by ! (exits r (e .0) gm g1 g2 (made r is wn)))))))))))))))))))
 
 module _ {M : Type 1} (𝓤 : URA M) (H : Heap 𝓤) (A : Atoms 𝓤) (W : Given 𝓤 H A) (at-mem : Memory → SProp 𝓤) (run : Routine → Fun 𝓤) where
   walks : (C : Calls 𝓤 H) (Λ : Loops 𝓤 H) → FmC 𝓤 H (W .laws) C → Triple 𝓤 (C #callee) (Callee 𝓤 H A at-mem run) → Walks 𝓤 H A fn′.ended stayed (WpFn 𝓤 H C Λ code.function) (fn′.clauses 𝓤 H A at-mem run)
