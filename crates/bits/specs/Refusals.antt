@@ -25,3 +25,8 @@ andThen (refused n p c e) next = refused n p c e
 abbrev pub number : {X : Type 0} → Answer X → ℕ
 number (value x) = 0
 number (refused n p c e) = n
+
+-- the value, or another thing beside a refusal
+abbrev pub orElse : {X : Type 0} → X → Answer X → X
+orElse other (value x) = x
+orElse other (refused n p c e) = other

@@ -16,8 +16,8 @@ use Rattle.verify.specs.Sequence.{declared}
 use Rattle.verify.specs.declared.VbvStandard.the-variants.{Mpeg2}
 use Rattle.verify.proofs.Accepting.{Passed, exactRecord, run-none, run-passed, accepted}
 use Rattle.layers.proofs.Stream.{Part, PartsFit, part, stream, coded, coded-none, stream-coded, stream-declared}
-use Rattle.rate_control.specs.Sent.{Sent, end, sentRecord, sentRecords, Passes}
-use Rattle.rate_control.proofs.Removing.{Done, Course, ended, goes, First}
+use Rattle.rate_control.specs.Sent.{Sent, laid, Removals, none, next, recordOf, records, Passes}
+use Rattle.rate_control.proofs.Removing.{Done, Course, First}
 use Rattle.rate_control.proofs.Sending.{codedOf, codedBy, Sending}
 
 -- ---- the run over the pictures
@@ -26,23 +26,23 @@ done-passed : {p : VbvParams} {d previous : ℕ} {x : Sent} → Done p d previou
 unfolding codedOf
 done-passed {p} r = record {
   in-time = r .in-time;
-  delay-exact = r .removed .delay-exact;
-  delay-told = r .removed .delay-told;
-  no-overflow = units-over p _ _ (r .removed .no-overflow);
-  no-underflow = units-beyond p _ _ (r .removed .no-underflow);
+  delay-exact = r .as-placed .delay-exact;
+  delay-told = r .as-placed .delay-told;
+  no-overflow = units-over p _ _ (r .in-buffer .no-overflow);
+  no-underflow = units-beyond p _ _ (r .in-buffer .no-underflow);
 }
 
-done-record : {p : VbvParams} {d previous : ℕ} {x : Sent} → Done p d previous x → exactRecord p previous d (codedOf x) ≡ sentRecord p d previous x
-unfolding codedOf sentRecord end
+done-record : {p : VbvParams} {d previous : ℕ} {x : Sent} → Done p d previous x → exactRecord p previous d (codedOf x) ≡ recordOf p d previous x
+unfolding codedOf recordOf
 done-record {previous = previous} {x = x} r =
-    let e : 8 * (x .before + x .bytes) - previous ≡ 8 * x .bytes = omega (arith, r .begins) in
+    let e : 8 * (x .before + length (x .bytes)) - previous ≡ 8 * length (x .bytes) = omega (arith, r .begins) in
     rw e
 
 course-ran : {p : VbvParams} {d previous : ℕ} {xs : List Sent} (n : ℕ) → Course p d previous xs
-    → run p n previous d (codedBy xs) ≡ value (sentRecords p d previous xs)
-unfolding codedOf codedBy sentRecords
-course-ran {p} {d} {previous} n ended = run-none p n previous d
-course-ran n (goes {xs = xs} r z c) = rw (← done-record r) (run-passed n (codedBy xs) (done-passed r) (course-ran (suc n) c))
+    → run p n previous d (codedBy xs) ≡ value (records p d previous xs)
+unfolding codedOf codedBy records
+course-ran {p} {d} {previous} n none = run-none p n previous d
+course-ran n (next {xs = xs} r c) = rw (← done-record r) (run-passed n (codedBy xs) (done-passed r) (course-ran (suc n) c))
 
 -- ---- the verdict
 
@@ -52,22 +52,22 @@ coded-length [] = refl
 coded-length (x ∷ xs) = ap suc (coded-length xs)
 
 first-told : {p : VbvParams} {d previous : ℕ} {x : Sent} {xs : List Sent} → Course p d previous (x ∷ xs) → x .delay ≤ 65534
-first-told (goes r z c) = r .removed .delay-told
+first-told (next r c) = r .as-placed .delay-told
 
-passes-by : (p : VbvParams) (s : List ℕ) (x : Sent) (xs : List Sent) → paramsFit p ≡ true → 8 * length s ≤ 2 ^ 48 → First p (x ∷ xs)
-    → declared Mpeg2 s ≡ value p → codedPictures Mpeg2 s ≡ value (codedBy (x ∷ xs)) → Passes p s (x ∷ xs)
-unfolding codedBy codedOf sentRecords
-passes-by p s x xs f l c d h places m = accepted Mpeg2 s places l d h (first-told c) f (rw (coded-length xs) m) (course-ran 0 c)
+passes-by : (p : VbvParams) (x : Sent) (xs : List Sent) → paramsFit p ≡ true → 8 * length (laid (x ∷ xs)) ≤ 2 ^ 48 → First p (x ∷ xs)
+    → declared Mpeg2 (laid (x ∷ xs)) ≡ value p → codedPictures Mpeg2 (laid (x ∷ xs)) ≡ value (codedBy (x ∷ xs)) → Passes p (x ∷ xs)
+unfolding codedBy codedOf records
+passes-by p x xs f l c d h places m = accepted Mpeg2 (laid (x ∷ xs)) places l d h (first-told c) f (rw (coded-length xs) m) (course-ran 0 c)
 
-sending-declared : {p : VbvParams} {s : List ℕ} {x : Sent} {xs : List Sent} → Sending p false 0 s (x ∷ xs) → declared Mpeg2 s ≡ value p
+sending-declared : {p : VbvParams} {x : Sent} {xs : List Sent} → Sending p false 0 (x ∷ xs) → declared Mpeg2 (laid (x ∷ xs)) ≡ value p
 unfolding codedBy
-sending-declared {p} {s} {x} {xs} a = ap (declared Mpeg2) (a .handed-is) ∙ go (a .parts) (a .fit) (a .coded-is)
+sending-declared {p} {x} {xs} a = ap (declared Mpeg2) (a .laid-is) ∙ go (a .parts) (a .fit) (a .coded-is)
   where
     go : (ys : List Part) → PartsFit p false ys → coded 0 ys (length (a .follows)) ≡ codedBy (x ∷ xs) → declared Mpeg2 (stream ys (a .follows)) ≡ value p
     go [] f e = let z = sym (coded-none 0 (length (a .follows))) ∙ e in cc
     go (y ∷ ys) (part f fs) e = stream-declared f ys (a .follows)
 
-pub passes : (p : VbvParams) (s : List ℕ) (xs : List Sent) → paramsFit p ≡ true → 8 * length s ≤ 2 ^ 48 → First p xs → Sending p false 0 s xs → Passes p s xs
-passes p s [] f l c a = tt
-passes p s (x ∷ xs) f l c a =
-    passes-by p s x xs f l c (sending-declared a) (ap (codedPictures Mpeg2) (a .handed-is) ∙ stream-coded (a .fit) (a .ends) ∙ ap value (a .coded-is))
+pub passes : (p : VbvParams) (xs : List Sent) → paramsFit p ≡ true → 8 * length (laid xs) ≤ 2 ^ 48 → First p xs → Sending p false 0 xs → Passes p xs
+passes p [] f l c a = tt
+passes p (x ∷ xs) f l c a =
+    passes-by p x xs f l c (sending-declared a) (ap (codedPictures Mpeg2) (a .laid-is) ∙ stream-coded (a .fit) (a .ends) ∙ ap value (a .coded-is))

@@ -1,6 +1,6 @@
 -- Creation: what the ranges say, the targets in 64 bits, the ways through it, and the writer that it makes: nothing placed, nothing pending, all values in range.
 -- Assumes nothing.
-use mathlib.Core.Path.{_≡_, refl, sym, _∙_}
+use mathlib.Core.Path.{_≡_, refl, sym, ap, _∙_}
 use mathlib.Core.Bool.{Bool, true, false, _&&_, true≢false}
 use mathlib.Core.List.{List, [], _∷_}
 use Prim.Native.Nat.{ℕ, _+_, _*_, _/_, _^_, _≤_}
@@ -10,10 +10,9 @@ use lib.Dec.{leb}
 use borrow.Author.Tests.{le-leb}
 use Rattle.bits.specs.Bits.{pick}
 use Rattle.bits.proofs.Reading.{both-true}
-use Rattle.bits.specs.Refusals.{Answer, value, refused}
+use Rattle.bits.specs.Refusals.{Answer, value, refused, andThen, orElse}
 use Rattle.vbv.specs.Answers.{frameRate, modelAnswer, rateAnswer}
-use Rattle.vbv.specs.Steps.{modelOf, rateOf}
-use Rattle.vbv.proofs.Numbers.{model-case, rate-case}
+use Rattle.vbv.proofs.Picks.{was-held}
 use Rattle.vbv.specs.Model.{paramsFit, newModel}
 use Rattle.vbv.specs.declared.FrameRate.{FrameRate}
 use Rattle.vbv.specs.declared.FrameRate.the-variants.{Rate, Refused as NoRate}
@@ -26,14 +25,14 @@ use Rattle.vbv.specs.declared.VbvModel.the-variants.{Model, Refused as NoModel}
 use Rattle.vbv.proofs.Fitting.{params-fit}
 use Rattle.vbv.proofs.Laws.{made}
 use Rattle.rate_control.specs.Targets.{groupPictures, groupBits, groupWeight, target, targets}
-use Rattle.rate_control.specs.Create.{within, configFits, freshWriter, notCreated, withModel, withRate, create}
+use Rattle.rate_control.specs.Answers.{createdAnswer}
+use Rattle.rate_control.specs.Create.{within, configFits, configParams, freshWriter, noWriter, create}
 use Rattle.rate_control.specs.Writer.{every}
-use Rattle.rate_control.specs.Steps.{ConfigFits, Shares}
-use Rattle.rate_control.specs.Demand.{Configured}
+use Rattle.rate_control.specs.Steps.{ConfigFits, Shares, notCreated, Creates, withRate}
 use Rattle.rate_control.specs.declared.CbrConfig.{CbrConfig}
 use Rattle.rate_control.specs.declared.Pending.the-variants.{Nothing}
 use Rattle.rate_control.specs.declared.CbrWriter.{CbrWriter}
-use Rattle.rate_control.specs.declared.CbrCreation.the-variants.{Created, Refused}
+use Rattle.rate_control.specs.declared.CbrCreation.the-variants.{Created}
 use Rattle.rate_control.specs.declared.CbrCreated.{CbrCreated}
 use Rattle.rate_control.proofs.Retries.{Quant}
 use Rattle.rate_control.proofs.Fitting.{within-bounds, is-quantiser, none-fits, fitting-writer}
@@ -135,65 +134,85 @@ unfolding freshWriter
 fresh-told c m t e = rw e
 
 module _ (c : CbrConfig) where
-  module _ (n d : ℕ) (x : VbvModel)
-      (e : modelAnswer x ≡ newModel (record { «bit_rate» = 400 * c .«bit_rate_value»; «buffer_size_bits» = 16384 * c .«vbv_buffer_size_value»; frn = n; frd = d })) where
+  module _ (n d : ℕ) (x : VbvModel) (e : modelAnswer x ≡ newModel (configParams c (n, d))) where
     pub way-made : (m : VbvCbrModel) (w : CbrWriter) → x ≡ Model m → w ≡ freshWriter c m
-        → _≡_ {A = CbrCreated} (record { answer = Created; writer = w }) (withRate c (Rate n d))
-    unfolding withRate withModel
-    way-made m w h g = rw (model-case h e, g)
+        → Creates (record { answer = Created; writer = w }) (withRate c (n, d))
+    way-made m w h g =
+        let a : newModel (configParams c (n, d)) ≡ value m = sym e ∙ ap modelAnswer h in
+        (rw (a, g), rw (a, g))
 
-    pub way-unmade : (error : VbvError) (r : CbrCreated) → x ≡ NoModel error → r ≡ notCreated error → r ≡ withRate c (Rate n d)
-    unfolding withRate withModel
-    way-unmade error r h g = rw (model-case h e, g)
+    pub way-unmade : (error : VbvError) (r : CbrCreated) → x ≡ NoModel error → r ≡ notCreated error → Creates r (withRate c (n, d))
+    unfolding notCreated
+    way-unmade error r h g =
+        let a : newModel (configParams c (n, d)) ≡ modelAnswer (NoModel error) = sym e ∙ ap modelAnswer h in
+        (rw (a, g), rw (a, g))
 
-  pub way-12 : (f : Bool) (r : CbrCreated) → f ≡ configFits c → f ≡ false → r ≡ notCreated Params → r ≡ create c
-  unfolding create pick
-  way-12 f r e h g = rw (← e, h, g)
+  -- the answer, and the writer beside it
+  module _ (f : Bool) (r : CbrCreated) (e : f ≡ configFits c) (h : f ≡ false) (g : r ≡ notCreated Params) where
+    pub way-12 : createdAnswer r ≡ create c
+    unfolding create notCreated pick
+    way-12 = rw (← e, h, g)
+
+    pub left-12 : r .writer ≡ orElse noWriter (create c)
+    unfolding create notCreated pick
+    left-12 = rw (← e, h, g)
 
   module _ (f : Bool) (e : f ≡ configFits c) (h : f ≡ true) (x : FrameRate) (k : rateAnswer x ≡ frameRate (c .«frame_rate_code»)) where
-    pub way-6 : (error : VbvError) (r : CbrCreated) → x ≡ NoRate error → r ≡ notCreated error → r ≡ create c
-    unfolding create withRate pick
-    way-6 error r l g = rw (← e, h, rate-case l k, g)
+    module _ (error : VbvError) (r : CbrCreated) (l : x ≡ NoRate error) (g : r ≡ notCreated error) where
+      rate-refused : frameRate (c .«frame_rate_code») ≡ rateAnswer (NoRate error)
+      rate-refused = sym k ∙ ap rateAnswer l
 
-    pub way-rate : (n d : ℕ) (r : CbrCreated) → x ≡ Rate n d → r ≡ withRate c (Rate n d) → r ≡ create c
-    unfolding create pick
-    way-rate n d r l g = rw (← e, h, rate-case l k, g)
+      pub way-6 : createdAnswer r ≡ create c
+      unfolding create notCreated pick
+      way-6 = rw (← e, h, rate-refused, g)
+
+      pub left-6 : r .writer ≡ orElse noWriter (create c)
+      unfolding create notCreated pick
+      left-6 = rw (← e, h, rate-refused, g)
+
+    module _ (n d : ℕ) (r : CbrCreated) (l : x ≡ Rate n d) (g : Creates r (withRate c (n, d))) where
+      rate-is : frameRate (c .«frame_rate_code») ≡ value (n, d)
+      rate-is = sym k ∙ ap rateAnswer l
+
+      pub way-rate : createdAnswer r ≡ create c
+      unfolding create pick
+      way-rate = rw (← e, h, rate-is) (g .0)
+
+      pub left-rate : r .writer ≡ orElse noWriter (create c)
+      unfolding create pick
+      left-rate = rw (← e, h, rate-is) (g .1)
 
 -- ---- a creation that was accepted
 
 -- what it has found
 pub record Creation (c : CbrConfig) (w : CbrWriter) : Type 0 where
   pub ranges : configFits c ≡ true
-  pub params : VbvParams
-  pub configured-by : Configured c params
+  pub frames : ℕ × ℕ
+  pub frames-are : frameRate (c .«frame_rate_code») ≡ value frames
   pub model : VbvCbrModel
-  pub model-is : newModel params ≡ value model
-  pub writer-is : w ≡ freshWriter c model
+  pub model-is : newModel (configParams c frames) ≡ value model
+  pub writer-is : freshWriter c model ≡ w
 
-not-created : {e : VbvError} → Refused e ≡ Created → ⊥
+not-created : {X : Type 0} {n k i j : ℕ} {x : X} → refused n k i j ≡ value x → ⊥
 not-created h = true≢false cc
 
-with-model : (c : CbrConfig) (p : VbvParams) → configFits c ≡ true → Configured c p → (x : Answer VbvCbrModel) → newModel p ≡ x
-    → withModel c (modelOf x) .answer ≡ Created → Creation c (withModel c (modelOf x) .writer)
-unfolding withModel notCreated modelOf
-with-model c p f r (value m) e h = record { ranges = f; params = p; configured-by = r; model = m; model-is = e; writer-is = refl }
-with-model c p f r (refused n k i j) e h = absurd (not-created h)
+with-model : (c : CbrConfig) (w : CbrWriter) (f : ℕ × ℕ) → configFits c ≡ true → frameRate (c .«frame_rate_code») ≡ value f → (x : Answer VbvCbrModel)
+    → newModel (configParams c f) ≡ x → andThen x (λ m. value (freshWriter c m)) ≡ value w → Creation c w
+with-model c w f r a (value m) e h =
+    let g : freshWriter c m ≡ w = cc in
+    record { ranges = r; frames = f; frames-are = a; model = m; model-is = e; writer-is = g }
+with-model c w f r a (refused n k i j) e h = absurd (not-created h)
 
-with-rate : (c : CbrConfig) → configFits c ≡ true → (x : Answer (ℕ × ℕ)) → frameRate (c .«frame_rate_code») ≡ x → withRate c (rateOf x) .answer ≡ Created
-    → Creation c (withRate c (rateOf x) .writer)
-unfolding withRate notCreated rateOf
-with-rate c f (value x) e h = with-model c _ f (record { rate = refl; buffer = refl; frames = e }) (newModel _) refl h
-with-rate c f (refused n k i j) e h = absurd (not-created h)
+with-rate : (c : CbrConfig) (w : CbrWriter) → configFits c ≡ true → (x : Answer (ℕ × ℕ)) → frameRate (c .«frame_rate_code») ≡ x
+    → andThen x (λ f. withRate c f) ≡ value w → Creation c w
+with-rate c w r (value f) e h = with-model c w f r e (newModel (configParams c f)) refl h
+with-rate c w r (refused n k i j) e h = absurd (not-created h)
 
-pub creation : (c : CbrConfig) → create c .answer ≡ Created → Creation c (create c .writer)
-unfolding create notCreated pick
-creation c h = go (configFits c) refl h
-  where
-    go : (t : Bool) → configFits c ≡ t
-        → pick t (withRate c (rateOf (frameRate (c .«frame_rate_code»)))) (notCreated Params) .answer ≡ Created
-        → Creation c (pick t (withRate c (rateOf (frameRate (c .«frame_rate_code»)))) (notCreated Params) .writer)
-    go true e h = with-rate c e (frameRate (c .«frame_rate_code»)) refl h
-    go false e h = absurd (not-created h)
+pub creation : (c : CbrConfig) (w : CbrWriter) → create c ≡ value w → Creation c w
+unfolding create
+creation c w h =
+    let a = was-held (configFits c) _ _ not-created h in
+    with-rate c w (a .0) (frameRate (c .«frame_rate_code»)) refl (a .1)
 
 -- ---- the writer
 
@@ -207,10 +226,10 @@ pub record Fresh (w : CbrWriter) : Type 0 where
 fresh : {c : CbrConfig} {w : CbrWriter} (x : Creation c w) → Fresh (freshWriter c (x .model))
 unfolding freshWriter every
 fresh {c} x =
-    let a = made (x .params) (x .model) (x .model-is) in
+    let a = made _ (x .model) (x .model-is) in
     let f = config-bounds c (x .ranges) in
     let t : Shares (x .model .params) (c .«b_between») (c .«anchors_per_gop»)
-    = shared-out (x .params) (x .model) _ _ (x .model-is) (omega (arith, x .configured-by .rate, f .0 .rate-high)) (f .0 .between-high) (f .0 .anchors-high) in
+    = shared-out _ (x .model) _ _ (x .model-is) (omega (arith, f .0 .rate-high)) (f .0 .between-high) (f .0 .anchors-high) in
     record {
       inv =
           record {
@@ -236,9 +255,5 @@ fresh {c} x =
       unstuffed = refl;
     }
 
-pub created : (c : CbrConfig) → create c .answer ≡ Created → Fresh (create c .writer)
-created c h = let x = creation c h in rw (x .writer-is) (fresh x)
-
-pub created-configured : (c : CbrConfig) → create c .answer ≡ Created → Configured c (create c .writer .model .params)
-unfolding freshWriter
-created-configured c h = let x = creation c h in rw (x .writer-is, made (x .params) (x .model) (x .model-is) .params-kept) (x .configured-by)
+pub created : (c : CbrConfig) (w : CbrWriter) → create c ≡ value w → Fresh w
+created c w h = let x = creation c w h in rw (← x .writer-is) (fresh x)

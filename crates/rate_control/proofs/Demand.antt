@@ -1,45 +1,44 @@
 -- Demand 3: what holds of every list of calls on a writer that was created.
 -- Assumes nothing.
-use mathlib.Core.Path.{subst}
+use mathlib.Core.Path.{_≡_, subst, ap}
 use mathlib.Core.Bool.{Bool}
 use mathlib.Core.List.{List}
+use Prim.Native.Nat.{ℕ}
 use native.Mathlib.Omega.{arith}
-use Rattle.rate_control.specs.Create.{create}
-use Rattle.rate_control.specs.Calls.{Call, run}
-use Rattle.rate_control.specs.Sent.{sent, handed, AllBytes, Kept}
-use Rattle.rate_control.specs.Demand.{Owed}
+use Rattle.vbv.specs.declared.VbvParams.{VbvParams}
+use Rattle.rate_control.specs.Calls.{Call, run, final}
+use Rattle.rate_control.specs.Sent.{sent, EachRemoval, InBuffer, Placed, LeastStuffing, Passes}
+use Rattle.rate_control.specs.Due.{Known, holding}
+use Rattle.rate_control.specs.Demand.{AllBytes, Owed}
 use Rattle.rate_control.specs.declared.CbrWriter.{CbrWriter}
-use Rattle.rate_control.proofs.Creation.{Fresh, created, created-configured}
-use Rattle.rate_control.proofs.Removing.{fresh-course, received}
-use Rattle.rate_control.proofs.Totals.{patient, total, handed-low}
+use Rattle.rate_control.proofs.Creation.{Fresh, created}
+use Rattle.rate_control.proofs.Removing.{First, fresh-course, each}
+use Rattle.rate_control.proofs.Totals.{total, laid-low}
 use Rattle.rate_control.proofs.Sending.{Sending, sending}
 use Rattle.rate_control.proofs.Accepted.{passes}
-use Rattle.rate_control.proofs.Keeping.{created-whole}
-use Rattle.rate_control.proofs.Each.{each, first, overflow-first, early-later}
-use Rattle.rate_control.proofs.Asking.{created-first, asks}
+use Rattle.rate_control.proofs.Knowing.{state, created-known}
+use Rattle.rate_control.proofs.Answering.{answered, patient}
 
-fresh-kept : (w : CbrWriter) (calls : List Call) → Fresh w → AllBytes calls → Kept (w .model .params) w calls
-fresh-kept w calls f b =
-    let c = fresh-course f calls in
-    let s =
-    subst (λ (z : Bool). Sending (w .model .params) z 0 (handed (run w calls)) (sent 0 (run w calls))) (f .unplaced) (sending 0 w calls (f .inv) b) in
-    record {
-      receiver = received (w .model .params) (sent 0 (run w calls)) c;
-      check = passes (w .model .params) _ (sent 0 (run w calls)) (f .params-fit) (handed-low w calls (f .inv)) c s;
-      retries = patient 0 w calls (f .inv);
-      total = omega (arith, total 0 w calls (f .inv), f .unstuffed);
-    }
+-- the check, of a writer that has placed nothing yet
+fresh-passes : (w : CbrWriter) (calls : List Call) → Fresh w → AllBytes calls → Passes (w .model .params) (sent 0 (run w calls))
+fresh-passes w calls f b =
+    let s = subst (λ (z : Bool). Sending (w .model .params) z 0 (sent 0 (run w calls))) (f .unplaced) (sending 0 w calls (f .inv) b) in
+    passes (w .model .params) (sent 0 (run w calls)) (f .params-fit) (laid-low 0 w calls (f .inv)) (fresh-course f calls) s
 
 pub demand : Owed
-demand c calls h b =
-    let f = created c h in
-    let s = created-first c h in
+demand c f w calls e h b =
+    let g = created c w h in
+    let k = created-known c f w e h in
+    let p : w .model .params ≡ _ = ap (λ (v : CbrWriter). v .model .params) k in
+    let xs = sent 0 (run w calls) in
+    let s = subst (λ (q : VbvParams). First q (sent 0 (run w calls))) p (fresh-course g calls) in
     record {
-      configured = created-configured c h;
-      each = each (f .inv) calls;
-      quantisers = asks _ _ (s .targets-are) (s .told-is) (f .inv) calls;
-      first = first (f .inv) (f .unplaced) 0 calls;
-      overflow = overflow-first (created-whole c h) calls;
-      early = early-later (created-whole c h) (f .unplaced) calls;
-      kept = fresh-kept (create c .writer) calls f b;
+      answers = answered _ _ w _ calls k (g .inv);
+      state = state _ _ w _ calls k (g .inv);
+      receiver = each (λ d previous x r. r .in-buffer) xs s;
+      check = subst (λ (q : VbvParams). Passes q (sent 0 (run w calls))) p (fresh-passes w calls g b);
+      pictures = each (λ d previous x r. r .as-placed) xs s;
+      stuffing = each (λ d previous x r. r .least) xs s;
+      total = omega (arith, total 0 w calls (g .inv), g .unstuffed);
+      retries = patient _ _ w _ calls k (g .inv);
     }

@@ -6,6 +6,7 @@ use Prim.Native.Nat.{ℕ, _+_, _^_, _≤_, _<_}
 use native.Mathlib.Omega.{arith}
 use lib.ListN.{length, length-set}
 use Rattle.bits.specs.Bits.{pick}
+use Rattle.bits.specs.Refusals.{Answer, orElse}
 use Rattle.vbv.specs.Annex.{overflows}
 use Rattle.vbv.specs.Model.{delivered}
 use Rattle.vbv.proofs.Fitting.{model-fits}
@@ -14,14 +15,14 @@ use Rattle.layers.specs.declared.PictureKind.{PictureKind}
 use Rattle.layers.specs.declared.PictureKind.the-variants.{I, P, B}
 use Rattle.layers.proofs.Laws.{layer-long}
 use Rattle.rate_control.specs.Writer.{writerFits, quantiser, index, of, asked, askedOf, coarser, pendingFits}
-use Rattle.rate_control.specs.Offer.{Offer, end, deliveredAt, deliveredNext, withPending, refused, placed, withdraw}
+use Rattle.rate_control.specs.Answers.{Given}
+use Rattle.rate_control.specs.Offer.{Offer, end, deliveredAt, deliveredNext, withPending, withPlaced, leftBy, withdraw}
 use Rattle.rate_control.specs.Calls.{Call, offering, withdrawing, stepOf, after}
-use Rattle.rate_control.specs.Sent.{retriesBy, retriesAfter}
+use Rattle.rate_control.specs.Demand.{retriesBy, retriesAfter}
 use Rattle.rate_control.specs.declared.Pending.{Pending}
 use Rattle.rate_control.specs.declared.Pending.the-variants.{Nothing, Waits}
 use Rattle.rate_control.specs.declared.CbrWriter.{CbrWriter}
-use Rattle.rate_control.specs.declared.CbrOffered.{CbrOffered}
-use Rattle.rate_control.proofs.Chain.{q-of, Placing, not-21, Outcome, stays, closes, retries, places, outcome}
+use Rattle.rate_control.proofs.Chain.{q-of, Placing, Outcome, stays, closes, retries, places, outcome}
 use Rattle.rate_control.proofs.Retries.{Quant, below-31, rest, rest-small, rest-step, coarser-quant, steered-quant}
 use Rattle.rate_control.proofs.Fitting.{every-at, every-set, quantiser-is, is-quantiser, none-fits, waits-fits, WriterFits, writer-fits, fitting-writer}
 use Rattle.rate_control.proofs.Placing.{placed-size, end-is, next-room, params-fitted}
@@ -72,8 +73,8 @@ asked-quant {n} {w} k h = asked-of n (w .pending) (h .waiting) (kind-quant k h)
 
 -- ---- kept by a placing
 
-place-fits : {n : ℕ} {w : CbrWriter} {o : Offer} → Inv n w → Placing w o → WriterFits (placed w o (q-of w o) .writer)
-unfolding placed deliveredNext
+place-fits : {n : ℕ} {w : CbrWriter} {o : Offer} → Inv n w → Placing w o → WriterFits (withPlaced w o)
+unfolding withPlaced deliveredNext
 place-fits {w = w} {o = o} h g =
     let m = w .model in
     let f = writer-fits (g .fitted) in
@@ -95,8 +96,8 @@ place-fits {w = w} {o = o} h g =
       pending = none-fits;
     }
 
-place-inv : {n : ℕ} {w : CbrWriter} {o : Offer} → Inv n w → Placing w o → Inv 0 (placed w o (q-of w o) .writer)
-unfolding placed
+place-inv : {n : ℕ} {w : CbrWriter} {o : Offer} → Inv n w → Placing w o → Inv 0 (withPlaced w o)
+unfolding withPlaced
 place-inv {w = w} {o = o} h g =
     let a = model-after (w .model) (end w o) (deliveredNext w o) in
     record {
@@ -132,9 +133,9 @@ pending-inv {w = w} x h k e =
       room = h .room;
     }
 
-pub outcome-inv : {n : ℕ} {w : CbrWriter} {o : Offer} {r : CbrOffered} → Inv n w → Outcome w o r → Inv (retriesBy n (r .answer)) (r .writer)
-unfolding refused placed retriesBy pick
-outcome-inv h (stays e g) = rw (not-21 g) h
+pub outcome-inv : {n : ℕ} {w : CbrWriter} {o : Offer} {a : Answer Given} → Inv n w → Outcome w o a → Inv (retriesBy n a) (leftBy w o a)
+unfolding pick
+outcome-inv h (stays e) = rw e h
 outcome-inv h (closes g) = pending-inv Nothing h refl none-fits
 outcome-inv {n} {w} {o} h (retries g) =
     let a = asked-quant (o .kind) h in
@@ -143,11 +144,11 @@ outcome-inv {n} {w} {o} h (retries g) =
     pending-inv (Waits (o .kind) (coarser (q-of w o))) h (c, omega (arith, rest-step (a .0) l)) (waits-fits c (o .kind))
 outcome-inv h (places g) = place-inv h g
 
-pub withdraw-is : (w : CbrWriter) → writerFits w ≡ true → withdraw w .writer ≡ withPending w Nothing
+pub withdraw-is : (w : CbrWriter) → writerFits w ≡ true → orElse w (withdraw w) ≡ withPending w Nothing
 unfolding withdraw pick
 withdraw-is w e = rw e
 
 pub call-inv : {n : ℕ} {w : CbrWriter} (c : Call) → Inv n w → Inv (retriesAfter n (stepOf w c)) (after w c)
-unfolding stepOf after retriesAfter
+unfolding stepOf after
 call-inv {w = w} (offering o) h = outcome-inv h (outcome w o)
 call-inv {w = w} withdrawing h = rw (withdraw-is w (h .fits)) (pending-inv Nothing h refl none-fits)

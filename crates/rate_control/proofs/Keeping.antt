@@ -1,48 +1,41 @@
 -- What calls keep of a writer: after a refusal, with nothing pending, and between any calls.
 -- Assumes nothing.
-use mathlib.Core.Path.{_≡_, refl, sym, ap, _∙_}
+use mathlib.Core.Path.{_≡_, refl, ap, _∙_}
 use mathlib.Core.Bool.{true}
 use mathlib.Core.List.{List, [], _∷_}
 use Prim.Native.Nat.{ℕ}
 use lib.ListN.{length}
+use borrow.Author.Tests.{ne-eqb}
 use Rattle.bits.proofs.Flags.{pick-elim}
+use Rattle.bits.specs.Bits.{pick}
+use Rattle.bits.specs.Refusals.{Answer, value, refused, orElse}
+use Rattle.vbv.specs.declared.VbvCbrModel.{VbvCbrModel}
 use Rattle.rate_control.specs.Targets.{targets}
 use Rattle.rate_control.specs.Create.{freshWriter, create}
 use Rattle.rate_control.specs.Writer.{writerFits}
-use Rattle.rate_control.specs.Offer.{Offer, withPending, refused, placed, offer, outOf, outAfter, withdraw}
+use Rattle.rate_control.specs.Answers.{Given}
+use Rattle.rate_control.specs.Offer.{Offer, withPending, withPlaced, offer, leftBy, left, outAfter, withdraw}
 use Rattle.rate_control.specs.Calls.{Call, offering, withdrawing, after, final}
 use Rattle.rate_control.specs.declared.CbrConfig.{CbrConfig}
-use Rattle.rate_control.specs.declared.CbrCreation.the-variants.{Created}
 use Rattle.rate_control.specs.declared.Pending.the-variants.{Nothing}
 use Rattle.rate_control.specs.declared.CbrWriter.{CbrWriter}
-use Rattle.rate_control.specs.declared.CbrError.{CbrError}
-use Rattle.rate_control.specs.declared.CbrError.the-variants.{TooLarge}
-use Rattle.rate_control.specs.declared.CbrAnswer.the-variants.{Refused}
-use Rattle.rate_control.specs.declared.CbrOffered.{CbrOffered}
-use Rattle.rate_control.specs.declared.CbrWithdrawn.{CbrWithdrawn}
-use Rattle.rate_control.proofs.Chain.{Outcome, stays, closes, retries, places, outcome, not-size, Refusal, because, size, refusal}
+use Rattle.rate_control.proofs.Chain.{Outcome, stays, closes, retries, places, outcome}
 use Rattle.rate_control.proofs.Invariant.{Inv, withdraw-is, call-inv}
 use Rattle.rate_control.proofs.Creation.{creation, created}
 
 -- ---- a refusal: nothing changes, but that 21 closes the pending picture, as a withdrawal does
 
-kept : {w v : CbrWriter} {o : Offer} {e : CbrError} → Refusal w o e v → (e ≡ TooLarge → ⊥) → v ≡ w
-kept (because g) n = refl
-kept (size g) n = absurd (n refl)
+module _ (w : CbrWriter) (o : Offer) {n k c e : ℕ} (h : offer w o ≡ refused n k c e) where
+  pub refused-keeps : (n ≡ 21 → ⊥) → left w o ≡ w
+  unfolding pick
+  refused-keeps g = rw (h, ne-eqb n 21 g)
 
-pub refused-keeps : (w : CbrWriter) (o : Offer) (e : CbrError) → offer w o .answer ≡ Refused e → (e ≡ TooLarge → ⊥) → offer w o .writer ≡ w
-refused-keeps w o e h n = kept (refusal w o h) n
+  pub refused-closes : writerFits w ≡ true → n ≡ 21 → left w o ≡ orElse w (withdraw w)
+  unfolding pick
+  refused-closes f g = rw (h, g, withdraw-is w f)
 
-closed : {w v : CbrWriter} {o : Offer} → Refusal w o TooLarge v → v ≡ withPending w Nothing
-closed (because g) = absurd (not-size g)
-closed (size g) = refl
-
-pub refused-closes : (w : CbrWriter) (o : Offer) → writerFits w ≡ true → offer w o .answer ≡ Refused TooLarge → offer w o .writer ≡ withdraw w .writer
-refused-closes w o f h = closed (refusal w o h) ∙ sym (withdraw-is w f)
-
-pub refused-out : (w : CbrWriter) (o : Offer) (e : CbrError) → offer w o .answer ≡ Refused e → outAfter w o ≡ o .out
-unfolding outAfter outOf
-refused-out w o e h = rw h
+  pub refused-out : outAfter w o ≡ o .out
+  refused-out = rw h
 
 -- ---- nothing pending: nothing to close
 
@@ -50,22 +43,22 @@ none-pending : (w : CbrWriter) → w .pending ≡ Nothing → withPending w Noth
 unfolding withPending
 none-pending w h = rw (← h)
 
-pub withdraw-unpending : (w : CbrWriter) → w .pending ≡ Nothing → withdraw w .writer ≡ w
+pub withdraw-unpending : (w : CbrWriter) → w .pending ≡ Nothing → orElse w (withdraw w) ≡ w
 unfolding withdraw
-withdraw-unpending w p = pick-elim (λ (r : CbrWithdrawn). r .writer ≡ w) _ (λ e. refl) (λ e. none-pending w p)
+withdraw-unpending w p = pick-elim (λ (r : Answer CbrWriter). orElse w r ≡ w) _ (λ e. refl) (λ e. none-pending w p)
 
 -- ---- three targets
 
-outcome-targets : {w : CbrWriter} {o : Offer} {r : CbrOffered} → Outcome w o r → r .writer .«target_bits» ≡ w .«target_bits»
-unfolding refused placed withPending
-outcome-targets (stays e g) = refl
+outcome-targets : {w : CbrWriter} {o : Offer} {a : Answer Given} → Outcome w o a → leftBy w o a .«target_bits» ≡ w .«target_bits»
+unfolding withPending withPlaced pick
+outcome-targets (stays e) = rw e
 outcome-targets (closes g) = refl
 outcome-targets (retries g) = refl
 outcome-targets (places g) = refl
 
-withdraw-targets : (w : CbrWriter) → withdraw w .writer .«target_bits» ≡ w .«target_bits»
+withdraw-targets : (w : CbrWriter) → orElse w (withdraw w) .«target_bits» ≡ w .«target_bits»
 unfolding withdraw withPending
-withdraw-targets w = pick-elim (λ (r : CbrWithdrawn). r .writer .«target_bits» ≡ w .«target_bits») _ (λ e. refl) (λ e. refl)
+withdraw-targets w = pick-elim (λ (r : Answer CbrWriter). orElse w r .«target_bits» ≡ w .«target_bits») _ (λ e. refl) (λ e. refl)
 
 pub after-targets : (w : CbrWriter) (c : Call) → after w c .«target_bits» ≡ w .«target_bits»
 unfolding after
@@ -79,12 +72,12 @@ pub record Whole (w : CbrWriter) : Type 0 where
   pub inv : Inv tries w
   pub targets : length (w .«target_bits») ≡ 3
 
-created-targets : (c : CbrConfig) → create c .answer ≡ Created → length (create c .writer .«target_bits») ≡ 3
+fresh-targets : (c : CbrConfig) (m : VbvCbrModel) → length (freshWriter c m .«target_bits») ≡ 3
 unfolding freshWriter targets
-created-targets c h = rw (creation c h .writer-is)
+fresh-targets c m = refl
 
-pub created-whole : (c : CbrConfig) → create c .answer ≡ Created → Whole (create c .writer)
-created-whole c h = record { tries = 0; inv = created c h .inv; targets = created-targets c h }
+pub created-whole : (c : CbrConfig) (w : CbrWriter) → create c ≡ value w → Whole w
+created-whole c w h = record { tries = 0; inv = created c w h .inv; targets = rw (← creation c w h .writer-is) (fresh-targets c _) }
 
 pub after-whole : {w : CbrWriter} (c : Call) → Whole w → Whole (after w c)
 after-whole {w} c h = record { tries = _; inv = call-inv c (h .inv); targets = ap length (after-targets w c) ∙ h .targets }

@@ -17,7 +17,8 @@ pub mod Sending
 pub mod Accepted
 pub mod Figures
 pub mod Lists
-pub mod Each
 pub mod Keeping
-pub mod Asking
+pub mod Lower
+pub mod Knowing
+pub mod Answering
 pub mod Demand

@@ -2,7 +2,8 @@
 -- Assumes nothing.
 use mathlib.Core.Path.{_≡_, refl, ap}
 use mathlib.Core.List.{List, [], _∷_, _++_}
-use Rattle.rate_control.specs.Offer.{Offer, offer, outAfter, withdraw}
+use Rattle.bits.specs.Refusals.{orElse, number}
+use Rattle.rate_control.specs.Offer.{Offer, offer, left, outAfter, withdraw}
 use Rattle.rate_control.specs.Calls.{Call, offering, withdrawing, Step, offered, withdrawn, stepOf, after, run, final}
 use Rattle.rate_control.specs.declared.CbrWriter.{CbrWriter}
 
@@ -32,18 +33,18 @@ unfolding final
 final-append w [] m = refl
 final-append w (c ∷ l) m = final-append (after w c) l m
 
-pub after-offer : (w : CbrWriter) (o : Offer) → after w (offering o) ≡ offer w o .writer
+pub after-offer : (w : CbrWriter) (o : Offer) → after w (offering o) ≡ left w o
 unfolding after
 after-offer w o = refl
 
-pub after-withdrawal : (w : CbrWriter) → after w withdrawing ≡ withdraw w .writer
+pub after-withdrawal : (w : CbrWriter) → after w withdrawing ≡ orElse w (withdraw w)
 unfolding after
 after-withdrawal w = refl
 
-pub step-offer : (w : CbrWriter) (o : Offer) → stepOf w (offering o) ≡ offered w o (offer w o .answer) (outAfter w o)
+pub step-offer : (w : CbrWriter) (o : Offer) → stepOf w (offering o) ≡ offered o (offer w o) (outAfter w o)
 unfolding stepOf
 step-offer w o = refl
 
-pub step-withdrawal : (w : CbrWriter) → stepOf w withdrawing ≡ withdrawn (withdraw w .answer)
+pub step-withdrawal : (w : CbrWriter) → stepOf w withdrawing ≡ withdrawn (number (withdraw w))
 unfolding stepOf
 step-withdrawal w = refl

@@ -1,4 +1,4 @@
--- An offer by its numbers.
+-- The code's answers to an offer are the definition's, by number, and so is the writer that is left.
 -- Assumes nothing.
 use mathlib.Core.Path.{_≡_, refl, ap, _∙_}
 use mathlib.Core.Bool.{Bool, true, false}
@@ -6,9 +6,10 @@ use Prim.Native.Nat.{ℕ}
 use lib.Dec.{eqb}
 use Rattle.bits.specs.Bits.{pick}
 use Rattle.rate_control.specs.Writer.{asked, coarser}
-use Rattle.rate_control.specs.Offer.{Offer, refused, tooLarge, placed, withPending, offer}
+use Rattle.rate_control.specs.Offer.{Offer, withPending, withPlaced, offer, leftBy, left}
+use Rattle.rate_control.specs.Steps.{refused, tooLarge, placed, offered}
 use Rattle.bits.specs.Refusals.{Answer}
-use Rattle.rate_control.specs.Numbers.{Given, offerAnswer, answered, writerBy}
+use Rattle.rate_control.specs.Answers.{Given, offerAnswer}
 use Rattle.rate_control.specs.declared.CbrWriter.{CbrWriter}
 use Rattle.rate_control.specs.declared.CbrOffered.{CbrOffered}
 
@@ -32,8 +33,8 @@ unfolding pick
 pick-false x y = refl
 
 module _ (w : CbrWriter) (o : Offer) where
-  pub answer-is : offerAnswer (offer w o .answer) ≡ answered w o
-  unfolding offer answered refused tooLarge placed
+  pub answer-is : offerAnswer (offered w o .answer) ≡ offer w o
+  unfolding offered offer refused tooLarge placed
   answer-is =
       rw (
         pick-in told,
@@ -49,8 +50,8 @@ module _ (w : CbrWriter) (o : Offer) where
         pick-in told,
       )
 
-  pub writer-is : offer w o .writer ≡ writerBy w o (answered w o)
-  unfolding offer answered refused tooLarge placed
+  pub writer-is : offered w o .writer ≡ left w o
+  unfolding offered offer refused tooLarge placed
   writer-is =
       rw (
         pick-in behind,
@@ -64,21 +65,17 @@ module _ (w : CbrWriter) (o : Offer) where
         pick-in behind,
         pick-in behind,
         pick-in behind,
-        pick-in (writerBy w o),
-        pick-in (writerBy w o),
-        pick-in (writerBy w o),
-        pick-in (writerBy w o),
-        pick-in (writerBy w o),
-        pick-in (writerBy w o),
-        pick-in (writerBy w o),
-        pick-in (writerBy w o),
-        pick-in (writerBy w o),
-        pick-in (writerBy w o),
-        pick-in (writerBy w o),
+        pick-in (leftBy w o),
+        pick-in (leftBy w o),
+        pick-in (leftBy w o),
+        pick-in (leftBy w o),
+        pick-in (leftBy w o),
+        pick-in (leftBy w o),
+        pick-in (leftBy w o),
+        pick-in (leftBy w o),
+        pick-in (leftBy w o),
+        pick-in (leftBy w o),
+        pick-in (leftBy w o),
         pick-true,
         pick-false,
       )
-
--- beside what a call left
-pub numbered : (w : CbrWriter) (o : Offer) {r : CbrOffered} {B : Type 0} → (r ≡ offer w o) × B → (r ≡ offer w o) × (B × (offerAnswer (r .answer) ≡ answered w o))
-numbered w o h = (h .0, (h .1, ap told (h .0) ∙ answer-is w o))

@@ -11,6 +11,7 @@ use borrow.Author.Tests.{leb-true, lt-ltb, le-ltb, ltb-false, not-false}
 use Rattle.bits.proofs.Flags.{or-right, pick-elim}
 use Rattle.bits.specs.Bits.{pick}
 use Rattle.bits.specs.Answers.{over}
+use Rattle.bits.specs.Refusals.{Answer}
 use Rattle.vbv.specs.Steps.{ModelFits}
 use Rattle.vbv.specs.Patch.{patched}
 use Rattle.vbv.specs.declared.RemovalInterval.{RemovalInterval}
@@ -20,9 +21,10 @@ use Rattle.vbv.proofs.Picks.{yes, no, was-no}
 use Rattle.layers.specs.declared.PictureKind.{PictureKind}
 use Rattle.layers.specs.Headers.{headersFit}
 use Rattle.layers.specs.Layer.{layerFits}
+use Rattle.rate_control.specs.Answers.{Given, offerAnswer}
 use Rattle.rate_control.specs.Writer.{writerFits, index, of, clashes, asked}
-use Rattle.rate_control.specs.Offer.{Offer, position, content, end, stuffing, tail, placedBytes, refused, tooLarge, placed, offer, outOf, outAfter}
-use Rattle.rate_control.specs.Steps.{measured, judged, Placeable, placedBy}
+use Rattle.rate_control.specs.Offer.{Offer, position, content, end, stuffing, tail, placedBytes, withPlaced, offer, left, outOf, outAfter}
+use Rattle.rate_control.specs.Steps.{measured, judged, Placeable, placedBy, refused, tooLarge, placed, offered}
 use Rattle.rate_control.specs.declared.CbrWriter.{CbrWriter}
 use Rattle.rate_control.specs.declared.CbrError.{CbrError}
 use Rattle.rate_control.specs.declared.CbrError.the-variants.{Model, Kind, Headers, Layer, Output}
@@ -32,6 +34,7 @@ use Rattle.rate_control.specs.declared.Judged.{Judged}
 use Rattle.rate_control.specs.declared.Judged.the-variants.{Refused, TooLarge, Ready}
 use Rattle.rate_control.proofs.Fitting.{every-get, writer-fits}
 use Rattle.rate_control.proofs.Placing.{placed-size}
+use Rattle.rate_control.proofs.Numbers.{answer-is, writer-is}
 use Rattle.rate_control.proofs.Judging.{through, placement, measuredFor, measured-is}
 
 -- ---- the tests
@@ -88,7 +91,7 @@ module _ (w : CbrWriter) (o : Offer) where
   answered-large = refl
 
   placed-by : placedBy w (o .kind) (length (o .layer)) (o .last) (placement w o) ≡ placed w o (asked w (o .kind))
-  unfolding placement placedBy placed
+  unfolding placement placedBy placed withPlaced
   placed-by = refl
 
   answered-ready : answered w o (Ready (placement w o))
@@ -96,8 +99,8 @@ module _ (w : CbrWriter) (o : Offer) where
   unfolding answered placement
   answered-ready = ap (pick (ltb (length (o .out)) (length (placedBytes w o))) (refused w Output)) placed-by
 
-  offer-is : answered w o (judgedFor w o) ≡ offer w o
-  unfolding judged offer measuredFor
+  offer-is : answered w o (judgedFor w o) ≡ offered w o
+  unfolding judged offered measuredFor
   offer-is =
       let a = answered w o in
       through a _ _ _ _ _ (answered-no _) λ h12.
@@ -168,9 +171,9 @@ module _ (w : CbrWriter) (o : Offer) (j : Judged) (e : j ≡ judgedFor w o) (p :
         total-far = omega (arith, r .end-far, v .stuffed, m .end-high);
       }
 
-  offered : offer w o ≡ pick (ltb (length (o .out)) (p .bytes)) (refused w Output) (placedBy w (o .kind) (length (o .layer)) (o .last) p)
+  ready-is : offered w o ≡ pick (ltb (length (o .out)) (p .bytes)) (refused w Output) (placedBy w (o .kind) (length (o .layer)) (o .last) p)
   unfolding answered
-  offered = sym (offer-is w o) ∙ rw (← e, h)
+  ready-is = sym (offer-is w o) ∙ rw (← e, h)
 
 module _ (w : CbrWriter) (headers : List ℕ) (k : PictureKind) (i : RemovalInterval) (last : Bool) (layer : List ℕ) (j : Judged)
     (e : j ≡ judged w headers k i last layer) (p : Placement) (h : j ≡ Ready p) where
@@ -183,49 +186,48 @@ module _ (w : CbrWriter) (headers : List ℕ) (k : PictureKind) (i : RemovalInte
   pub placeable : Placeable w k (length layer) p
   placeable = placeable-of w any-out j e p h
 
--- ---- the output part
+-- ---- what is promised
 
-out-refused : (w : CbrWriter) (o : Offer) (e : CbrError) → offer w o ≡ refused w e → o .out ≡ outAfter w o
-unfolding outAfter refused outOf
-out-refused w o e h = rw h
+-- the answer by number, the writer that is left, and what the output part holds
+abbrev Promised : CbrWriter → Offer → CbrOffered → List ℕ → Type 0
+Promised w o r x = (offerAnswer (r .answer) ≡ offer w o) × ((r .writer ≡ left w o) × (x ≡ outAfter w o))
 
-out-large : (w : CbrWriter) (o : Offer) (k : PictureKind) (q : ℕ) → offer w o ≡ tooLarge w k q → o .out ≡ outAfter w o
-unfolding outAfter tooLarge outOf
-out-large w o k q h =
-    rw h (pick-elim (λ (r : CbrOffered). o .out ≡ outOf (r .answer) (placedBytes w o) (o .out)) (eqb q 31) (λ e. refl) (λ e. refl))
-
-out-placed : (w : CbrWriter) (o : Offer) (q : ℕ) → offer w o ≡ placed w o q → over (placedBytes w o) (o .out) ≡ outAfter w o
-unfolding outAfter placed outOf
-out-placed w o q h = rw h
+promised : (w : CbrWriter) (o : Offer) (r : CbrOffered) (x : List ℕ) → r ≡ offered w o
+    → x ≡ outOf (offerAnswer (r .answer)) (placedBytes w o) (o .out) → Promised w o r x
+promised w o r x e h =
+    let a : offerAnswer (r .answer) ≡ offer w o = ap (λ (s : CbrOffered). offerAnswer (s .answer)) e ∙ answer-is w o in
+    (a, (ap (λ (s : CbrOffered). s .writer) e ∙ writer-is w o, h ∙ ap (λ (s : Answer Given). outOf s (placedBytes w o) (o .out)) a))
 
 -- ---- the ways
 
 module _ (w : CbrWriter) (o : Offer) (j : Judged) (e : j ≡ judgedFor w o) (r : CbrOffered) where
-  pub offer-refused : (error : CbrError) → j ≡ Refused error → r ≡ refused w error → (r ≡ offer w o) × (o .out ≡ outAfter w o)
-  unfolding answered
+  pub offer-refused : (error : CbrError) → j ≡ Refused error → r ≡ refused w error → Promised w o r (o .out)
+  unfolding answered refused
   offer-refused error h g =
-      let a : offer w o ≡ refused w error = sym (offer-is w o) ∙ rw (← e, h) in
-      (g ∙ sym a, out-refused w o error a)
+      let a : offered w o ≡ refused w error = sym (offer-is w o) ∙ rw (← e, h) in
+      promised w o r (o .out) (g ∙ sym a) (rw g)
 
-  pub offer-large : j ≡ TooLarge → r ≡ tooLarge w (o .kind) (asked w (o .kind)) → (r ≡ offer w o) × (o .out ≡ outAfter w o)
-  unfolding answered
+  pub offer-large : j ≡ TooLarge → r ≡ tooLarge w (o .kind) (asked w (o .kind)) → Promised w o r (o .out)
+  unfolding answered tooLarge
   offer-large h g =
-      let a : offer w o ≡ tooLarge w (o .kind) (asked w (o .kind)) = sym (offer-is w o) ∙ rw (← e, h) in
-      (g ∙ sym a, out-large w o _ _ a)
+      let a : offered w o ≡ tooLarge w (o .kind) (asked w (o .kind)) = sym (offer-is w o) ∙ rw (← e, h) in
+      promised w o r (o .out) (g ∙ sym a)
+      (rw g
+      (pick-elim (λ (s : CbrOffered). o .out ≡ outOf (offerAnswer (s .answer)) (placedBytes w o) (o .out)) (eqb (asked w (o .kind)) 31) (λ f. refl) (λ f. refl)))
 
   module _ (p : Placement) (h : j ≡ Ready p) where
-    pub offer-short : length (o .out) < p .bytes → r ≡ refused w Output → (r ≡ offer w o) × (o .out ≡ outAfter w o)
-    unfolding pick
+    pub offer-short : length (o .out) < p .bytes → r ≡ refused w Output → Promised w o r (o .out)
+    unfolding pick refused
     offer-short l g =
-        let a : offer w o ≡ refused w Output = offered w o j e p h ∙ rw (lt-ltb _ _ l) in
-        (g ∙ sym a, out-refused w o Output a)
+        let a : offered w o ≡ refused w Output = ready-is w o j e p h ∙ rw (lt-ltb _ _ l) in
+        promised w o r (o .out) (g ∙ sym a) (rw g)
 
     pub offer-placed : (x : List ℕ) → p .bytes ≤ length (o .out) → r ≡ placedBy w (o .kind) (length (o .layer)) (o .last) p
         → x ≡ over (o .headers ++ (patched (o .layer) (p .«vbv_delay») ++ (replicate (p .«stuffing_bytes») 0 ++ tail (o .last)))) (o .out)
-        → (r ≡ offer w o) × (x ≡ outAfter w o)
-    unfolding pick placement placedBytes
+        → Promised w o r x
+    unfolding pick placement placedBytes placed
     offer-placed x l g k =
         let s = ready w o j e p h .is in
-        let a : offer w o ≡ placedBy w (o .kind) (length (o .layer)) (o .last) p = offered w o j e p h ∙ rw (le-ltb _ _ l) in
-        let b : offer w o ≡ placed w o (asked w (o .kind)) = a ∙ rw s (placed-by w o) in
-        (g ∙ sym a, k ∙ rw s (out-placed w o _ b))
+        let a : offered w o ≡ placedBy w (o .kind) (length (o .layer)) (o .last) p = ready-is w o j e p h ∙ rw (le-ltb _ _ l) in
+        let b : r ≡ placed w o (asked w (o .kind)) = g ∙ rw s (placed-by w o) in
+        promised w o r x (g ∙ sym a) (rw (b, k, s))

@@ -8,8 +8,10 @@ use Prim.Native.Nat.{ℕ, _+_, _-_, _*_, _/_, _≤_}
 use native.Mathlib.Omega.{arith}
 use native.Mathlib.Nat.{le-of-mul-le-mul-right}
 use lib.ListN.{length, length-append, length-replicate, replicate}
-use borrow.Author.Tests.{ltb-false, le-ltb}
+use borrow.Author.Tests.{ltb-false, ltb-true, le-ltb, not-false}
 use Rattle.bits.specs.Bits.{pick}
+use Rattle.bits.specs.Refusals.{Answer, number}
+use Rattle.bits.proofs.Flags.{pick-elim}
 use Rattle.vbv.specs.Annex.{unit, firstDelivered, overflows, beyond, leastEnd}
 use Rattle.vbv.specs.Model.{paramsFit, delivered}
 use Rattle.vbv.specs.Patch.{patched}
@@ -17,13 +19,12 @@ use Rattle.vbv.specs.declared.VbvParams.{VbvParams}
 use Rattle.vbv.proofs.Fitting.{unit-pos}
 use Rattle.vbv.proofs.Laws.{over-units, units-over, beyond-units, least-end, delay-most, first-delay, fits-params}
 use Rattle.vbv.proofs.After.{patched-size}
+use Rattle.rate_control.specs.Answers.{Given}
 use Rattle.rate_control.specs.Writer.{writerFits}
 use Rattle.rate_control.specs.Offer.{Offer, position, content, end, firstDelay, deliveredAt, deliveredNext, stuffing, delay, tail, placedBytes, offer}
 use Rattle.rate_control.specs.declared.CbrWriter.{CbrWriter}
-use Rattle.rate_control.specs.declared.CbrError.the-variants.{Output}
-use Rattle.rate_control.specs.declared.CbrAnswer.the-variants.{Refused}
 use Rattle.rate_control.proofs.Fitting.{writer-fits}
-use Rattle.rate_control.proofs.Chain.{Placing, no-room, Refusal, because, refusal}
+use Rattle.rate_control.proofs.Chain.{Placing}
 
 module _ (w : CbrWriter) (o : Offer) where
   -- ---- bits delivered
@@ -118,8 +119,20 @@ placed-most w o f a b =
     omega (arith, end-is w o)
 
 -- an output part of the buffer's size is never too short
-pub room-enough : (w : CbrWriter) (o : Offer) → w .model .params .«buffer_size_bits» ≤ 8 * length (o .out) → offer w o .answer ≡ Refused Output → ⊥
-room-enough w o l h = go (refusal w o h)
+pub room-enough : (w : CbrWriter) (o : Offer) → w .model .params .«buffer_size_bits» ≤ 8 * length (o .out) → number (offer w o) ≡ 19 → ⊥
+unfolding offer
+room-enough w o l =
+    pick-elim P _ (λ e h. omega (arith, h)) λ h12.
+    pick-elim P _ (λ e h. omega (arith, h)) λ h17.
+    pick-elim P _ (λ e h. omega (arith, h)) λ h18.
+    pick-elim P _ (λ e h. omega (arith, h)) λ h20.
+    pick-elim P _ (λ e h. omega (arith, h)) λ h14.
+    pick-elim P _ (λ e h. omega (arith, h)) λ h7.
+    pick-elim P _ (λ e h. omega (arith, h)) λ h9.
+    pick-elim P _ (λ e. pick-elim P _ (λ f h. omega (arith, h)) (λ f h. omega (arith, h))) λ size.
+    pick-elim P _ (λ e h. omega (arith, h)) λ h22.
+    pick-elim P _ (λ e h. omega (arith, l, ltb-true (length (o .out)) (length (placedBytes w o)) e, placed-most w o (not-false _ h12) h9 h22)) λ h19.
+    (λ h. omega (arith, h))
   where
-    go : {v : CbrWriter} → Refusal w o Output v → ⊥
-    go (because (no-room f a b g)) = omega (arith, placed-most w o f a b)
+    P : Answer Given → Type 0
+    P a = number a ≡ 19 → ⊥

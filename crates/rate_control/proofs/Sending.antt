@@ -6,6 +6,8 @@ use mathlib.Core.List.{List, [], _∷_, _++_, append-nil}
 use Prim.Native.Nat.{ℕ, _+_}
 use native.Mathlib.Omega.{arith}
 use lib.ListN.{length, length-append}
+use Rattle.bits.specs.Bits.{pick}
+use Rattle.bits.specs.Refusals.{Answer}
 use Rattle.bits.proofs.Over.{over-take}
 use Rattle.headers.specs.RoundTrips.{Bytes}
 use Rattle.vbv.specs.declared.VbvParams.{VbvParams}
@@ -14,11 +16,12 @@ use Rattle.scan.specs.Codes.{sequenceEndCode}
 use Rattle.scan.proofs.Laid.{Tail, tail-none, tail-end}
 use Rattle.verify.specs.declared.CodedPicture.{CodedPicture}
 use Rattle.layers.proofs.Stream.{Part, bytesOf, PartFits, PartsFit, no-parts, part, stream, pictureOf, coded, part-then, stream-none, stream-more, coded-none, coded-last, coded-more}
-use Rattle.rate_control.specs.Offer.{Offer, end, deliveredNext, stuffing, delay, tail, placedBytes, withPending, refused, placed, outOf, outAfter}
+use Rattle.rate_control.specs.Answers.{Given}
+use Rattle.rate_control.specs.Offer.{Offer, end, deliveredNext, stuffing, delay, tail, placedBytes, withPending, withPlaced, leftBy, outOf}
 use Rattle.rate_control.specs.Calls.{Call, offering, withdrawing, stepOf, after, run}
-use Rattle.rate_control.specs.Sent.{Sent, position, end as sentEnd, sentBy, sent, handedBy, handed, AllBytes}
+use Rattle.rate_control.specs.Sent.{positionOf, Sent, position, end as sentEnd, sentBy, sent, laid}
+use Rattle.rate_control.specs.Demand.{AllBytes}
 use Rattle.rate_control.specs.declared.CbrWriter.{CbrWriter}
-use Rattle.rate_control.specs.declared.CbrOffered.{CbrOffered}
 use Rattle.rate_control.proofs.Chain.{Placing, Outcome, stays, closes, retries, places, outcome}
 use Rattle.rate_control.proofs.Placing.{delay-told}
 use Rattle.rate_control.proofs.Invariant.{Inv, outcome-inv, call-inv, withdraw-is}
@@ -28,7 +31,7 @@ use Rattle.rate_control.proofs.Removing.{sentOf, finished-none}
 
 -- a picture as the check is to see it
 unfoldable pub codedOf : Sent → CodedPicture
-codedOf x = record { «pos_bits» = position x; «end_bits» = sentEnd x; «vbv_delay» = x .delay; interval = x .interval }
+codedOf x = record { «pos_bits» = position x; «end_bits» = sentEnd x; «vbv_delay» = x .delay; interval = x .offer .interval }
 
 unfoldable pub codedBy : List Sent → List CodedPicture
 codedBy [] = []
@@ -54,26 +57,15 @@ tail-other o e = rw e
 
 -- ---- all of them
 
--- bytes handed out and pictures sent, n bytes before: parts end to end and what follows them
-pub record Sending (p : VbvParams) (placed : Bool) (n : ℕ) (b : List ℕ) (xs : List Sent) : Type 0 where
+-- pictures sent, n bytes being handed out before: parts end to end and what follows them
+pub record Sending (p : VbvParams) (placed : Bool) (n : ℕ) (xs : List Sent) : Type 0 where
   pub parts : List Part
   pub follows : List ℕ
-  pub handed-is : b ≡ stream parts follows
+  pub laid-is : laid xs ≡ stream parts follows
   pub coded-is : coded n parts (length follows) ≡ codedBy xs
   pub fit : PartsFit p placed parts
   pub ends : Tail follows
   pub bare : parts ≡ [] → follows ≡ []
-
-nothing-parts : (n : ℕ) (xs : List Part) (t : ℕ) → coded n xs t ≡ [] → xs ≡ []
-nothing-parts n [] t h = refl
-nothing-parts n (x ∷ []) t h = let e = sym (coded-last n x t) ∙ h in cc
-nothing-parts n (x ∷ y ∷ xs) t h = let e = sym (coded-more n x y xs t) ∙ h in cc
-
-nothing-handed : {p : VbvParams} {placed : Bool} {n : ℕ} {b : List ℕ} {xs : List Sent} → Sending p placed n b xs → xs ≡ [] → b ≡ []
-unfolding codedBy
-nothing-handed {n = n} s e =
-    let f : s .parts ≡ [] = nothing-parts n (s .parts) (length (s .follows)) (s .coded-is ∙ ap codedBy e) in
-    s .handed-is ∙ rw (f, s .bare f) (stream-none [])
 
 -- the picture of a part before others
 coded-front : (n e : ℕ) (x : Part) (ys : List Part) (t : ℕ) {cs : List CodedPicture} → length (bytesOf x) ≡ e → (ys ≡ [] → t ≡ 0)
@@ -84,42 +76,42 @@ coded-front n e x [] t l z h =
 coded-front n e x (y ∷ ys) t l z h = rw (← h, ← l) (coded-more n x y ys t)
 
 -- a picture before others; none behind the last
-module _ {p : VbvParams} {placed : Bool} (n : ℕ) (w : CbrWriter) (o : Offer) {b : List ℕ} {xs : List Sent} (f : PartFits p placed (partOf w o))
-    (s : Sending p true (n + length (placedBytes w o)) b xs) (z : o .last ≡ true → xs ≡ []) where
-  last-sending : o .last ≡ true → Sending p placed n (placedBytes w o ++ b) (sentOf n w o ∷ xs)
-  unfolding codedBy codedOf sentOf position sentEnd
+module _ {p : VbvParams} {placed : Bool} (n : ℕ) (w : CbrWriter) (o : Offer) {xs : List Sent} (f : PartFits p placed (partOf w o))
+    (s : Sending p true (n + length (placedBytes w o)) xs) (z : o .last ≡ true → xs ≡ []) where
+  last-sending : o .last ≡ true → Sending p placed n (sentOf n w o ∷ xs)
+  unfolding codedBy codedOf sentOf laid positionOf
   last-sending e =
       let t = tail-last o e in
       let c : n + (length (bytesOf (partOf w o)) + length sequenceEndCode) ≡ n + length (placedBytes w o) = omega (arith, placed-length w o, ap length t) in
       record {
         parts = partOf w o ∷ [];
         follows = sequenceEndCode;
-        handed-is = rw (nothing-handed s (z e), append-nil, placed-part w o, t, stream-more, stream-none);
+        laid-is = rw (z e, append-nil, placed-part w o, t, stream-more, stream-none);
         coded-is = rw (z e, coded-last, c);
         fit = part f no-parts;
         ends = tail-end;
         bare = λ h. cc;
       }
 
-  other-sending : o .last ≡ false → Sending p placed n (placedBytes w o ++ b) (sentOf n w o ∷ xs)
-  unfolding codedBy codedOf sentOf position sentEnd
+  other-sending : o .last ≡ false → Sending p placed n (sentOf n w o ∷ xs)
+  unfolding codedBy codedOf sentOf laid positionOf
   other-sending e =
       let t = tail-other o e in
       let c : length (bytesOf (partOf w o)) ≡ length (placedBytes w o) = omega (arith, placed-length w o, ap length t) in
       record {
         parts = partOf w o ∷ s .parts;
         follows = s .follows;
-        handed-is = rw (s .handed-is, placed-part w o, t, append-nil, stream-more);
+        laid-is = rw (s .laid-is, placed-part w o, t, append-nil, stream-more);
         coded-is = coded-front n _ (partOf w o) (s .parts) (length (s .follows)) c (λ h. ap length (s .bare h)) (s .coded-is);
         fit = part f (s .fit);
         ends = s .ends;
         bare = λ h. cc;
       }
 
-  place-sending : Sending p placed n (placedBytes w o ++ b) (sentOf n w o ∷ xs)
+  place-sending : Sending p placed n (sentOf n w o ∷ xs)
   place-sending = go (o .last) refl
     where
-      go : (t : Bool) → o .last ≡ t → Sending p placed n (placedBytes w o ++ b) (sentOf n w o ∷ xs)
+      go : (t : Bool) → o .last ≡ t → Sending p placed n (sentOf n w o ∷ xs)
       go true e = last-sending e
       go false e = other-sending e
 
@@ -132,18 +124,15 @@ place-fit {w} {o} g b = record {
   delay-bits = omega (arith, delay-told w o g);
 }
 
-same-sending : {p q : VbvParams} {a c : Bool} {n : ℕ} {b : List ℕ} {xs : List Sent} → p ≡ q → a ≡ c → Sending p a n b xs → Sending q c n b xs
-same-sending {p} {q} {a} {c} {n} {b} {xs} e f s =
-    subst (λ (z : Bool). Sending q z n b xs) f (subst (λ (z : VbvParams). Sending z a n b xs) e s)
+same-sending : {p q : VbvParams} {a c : Bool} {n : ℕ} {xs : List Sent} → p ≡ q → a ≡ c → Sending p a n xs → Sending q c n xs
+same-sending {p} {q} {a} {c} {n} {xs} e f s =
+    subst (λ (z : Bool). Sending q z n xs) f (subst (λ (z : VbvParams). Sending z a n xs) e s)
 
-outcome-sending : {m : ℕ} {w : CbrWriter} {o : Offer} {r : CbrOffered} (n : ℕ) (l : List Call) → Inv m w → Bytes (o .layer)
-    → Outcome w o r
-    → ((k : ℕ) → Sending (r .writer .model .params) (r .writer .model .started) k (handed (run (r .writer) l)) (sent k (run (r .writer) l)))
-    → Sending (w .model .params) (w .model .started) n
-    (handedBy (r .answer) (outOf (r .answer) (placedBytes w o) (o .out)) (handed (run (r .writer) l)))
-    (sentBy n o (r .answer) (λ j. sent j (run (r .writer) l)))
-unfolding refused withPending placed outOf handedBy sentBy sentOf
-outcome-sending n l h b (stays e g) s = s n
+outcome-sending : {m : ℕ} {w : CbrWriter} {o : Offer} {a : Answer Given} (n : ℕ) (l : List Call) → Inv m w → Bytes (o .layer)
+    → Outcome w o a → ((k : ℕ) → Sending (leftBy w o a .model .params) (leftBy w o a .model .started) k (sent k (run (leftBy w o a) l)))
+    → Sending (w .model .params) (w .model .started) n (sentBy n o a (outOf a (placedBytes w o) (o .out)) (λ j. sent j (run (leftBy w o a) l)))
+unfolding withPending withPlaced sentOf pick
+outcome-sending n l h b (stays e) s = let d = rw e at (s n) in rw e d
 outcome-sending n l h b (closes g) s = s n
 outcome-sending n l h b (retries g) s = s n
 outcome-sending {w = w} {o = o} n l h b (places g) s =
@@ -153,12 +142,12 @@ outcome-sending {w = w} {o = o} n l h b (places g) s =
     (λ e. finished-none _ _ l (outcome-inv h (places g)) e))
 
 pub sending : {m : ℕ} (n : ℕ) (w : CbrWriter) (l : List Call) → Inv m w → AllBytes l
-    → Sending (w .model .params) (w .model .started) n (handed (run w l)) (sent n (run w l))
-unfolding run stepOf after outAfter handed sent codedBy withPending
+    → Sending (w .model .params) (w .model .started) n (sent n (run w l))
+unfolding run stepOf after laid sent codedBy withPending
 sending n w [] h b = record {
   parts = [];
   follows = [];
-  handed-is = sym (stream-none []);
+  laid-is = sym (stream-none []);
   coded-is = coded-none n 0;
   fit = no-parts;
   ends = tail-none;

@@ -15,12 +15,11 @@ use Rattle.vbv.specs.Model.{modelFits}
 use Rattle.vbv.specs.declared.VbvError.the-variants.{Params}
 use Rattle.layers.specs.declared.PictureKind.{PictureKind}
 use Rattle.rate_control.specs.Writer.{every, quantiser, pendingFits, writerFits}
+use Rattle.bits.specs.Refusals.{value, refused, orElse}
 use Rattle.rate_control.specs.Offer.{withPending, withdraw}
 use Rattle.rate_control.specs.declared.Pending.{Pending}
 use Rattle.rate_control.specs.declared.Pending.the-variants.{Nothing, Waits}
 use Rattle.rate_control.specs.declared.CbrWriter.{CbrWriter}
-use Rattle.rate_control.specs.declared.CbrWithdrawal.the-variants.{Withdrawn, Refused}
-use Rattle.rate_control.specs.declared.CbrWithdrawn.{CbrWithdrawn}
 
 -- a test of each of three
 pub every-three : (f : ℕ → Bool) (s : List ℕ) → length s ≡ 3 → (f (getD s 0 0) && (f (getD s 1 0) && f (getD s 2 0))) ≡ every f s
@@ -67,11 +66,18 @@ pending-some p k n r e h = rw (e, h)
 
 -- the ways through a withdrawal
 module _ (w : CbrWriter) (f : Bool) (e : f ≡ writerFits w) where
-  pub way-withdrawn : (x : CbrWriter) → f ≡ true → x ≡ withPending w Nothing
-      → _≡_ {A = CbrWithdrawn} (record { answer = Withdrawn; writer = x }) (withdraw w)
+  pub way-withdrawn : (x : CbrWriter) → f ≡ true → x ≡ withPending w Nothing → value x ≡ withdraw w
   unfolding withdraw pick
   way-withdrawn x h g = rw (← e, h, g)
 
-  pub way-unfit : f ≡ false → _≡_ {A = CbrWithdrawn} (record { answer = Refused Params; writer = w }) (withdraw w)
+  pub left-withdrawn : (x : CbrWriter) → f ≡ true → x ≡ withPending w Nothing → x ≡ orElse w (withdraw w)
+  unfolding withdraw pick
+  left-withdrawn x h g = rw (← e, h, g)
+
+  pub way-unfit : f ≡ false → refused 12 0 0 0 ≡ withdraw w
   unfolding withdraw pick
   way-unfit h = rw (← e, h)
+
+  pub left-unfit : f ≡ false → w ≡ orElse w (withdraw w)
+  unfolding withdraw pick
+  left-unfit h = rw (← e, h)

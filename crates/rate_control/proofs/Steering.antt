@@ -9,8 +9,8 @@ use borrow.Author.Tests.{lt-ltb, le-ltb, ne-eqb}
 use Rattle.bits.specs.Bits.{pick}
 use Rattle.layers.specs.declared.PictureKind.{PictureKind}
 use Rattle.rate_control.specs.Writer.{index, of, clashes, askedOf, asked, coarser, steered}
-use Rattle.rate_control.specs.Offer.{withPending, tooLarge}
-use Rattle.rate_control.specs.Steps.{placedBy}
+use Rattle.rate_control.specs.Offer.{withPending}
+use Rattle.rate_control.specs.Steps.{placedBy, tooLarge}
 use Rattle.rate_control.specs.declared.Pending.{Pending}
 use Rattle.rate_control.specs.declared.Pending.the-variants.{Nothing, Waits}
 use Rattle.rate_control.specs.declared.CbrWriter.{CbrWriter}

@@ -1,15 +1,19 @@
--- The refusals of an offer with paper 01's number, and the number of each answer: 0 where it is none. A 9 names its picture, and no delays, since nothing was coded.
--- Assumes nothing.
+-- What a writer answers: the number of each refusal in paper 01's table with what it carries, and each answer by number and values. A 9 names its picture, and no delays,
+-- since nothing was coded. Assumes nothing.
 use Prim.Native.Nat.{ℕ}
-use Rattle.vbv.specs.Answers.{errorNumber as modelNumber, violationNumber, violationPicture, violationCoded, violationExpected}
+use Rattle.bits.specs.Refusals.{Answer, value, refused}
+use Rattle.vbv.specs.Answers.{errorNumber as modelNumber, violationNumber, violationPicture, violationCoded, violationExpected, refusal}
 use Rattle.verify.specs.Answers.{plain}
 use Rattle.verify.specs.declared.VbvRefusal.{VbvRefusal}
+use Rattle.rate_control.specs.declared.CbrWriter.{CbrWriter}
 use Rattle.rate_control.specs.declared.CbrCreation.{CbrCreation}
 use Rattle.rate_control.specs.declared.CbrCreation.the-variants.{Created, Refused as NotCreated}
+use Rattle.rate_control.specs.declared.CbrCreated.{CbrCreated}
 use Rattle.rate_control.specs.declared.CbrAnswer.{CbrAnswer}
 use Rattle.rate_control.specs.declared.CbrAnswer.the-variants.{Placed, Again, Refused}
 use Rattle.rate_control.specs.declared.CbrWithdrawal.{CbrWithdrawal}
 use Rattle.rate_control.specs.declared.CbrWithdrawal.the-variants.{Withdrawn, Refused as NotWithdrawn}
+use Rattle.rate_control.specs.declared.CbrWithdrawn.{CbrWithdrawn}
 use Rattle.rate_control.specs.declared.CbrError.{CbrError}
 use Rattle.rate_control.specs.declared.CbrError.the-variants.{Model, Violation, Kind, Headers, Layer, TooLarge, Stuffing, Output}
 
@@ -24,15 +28,28 @@ refusalOf Layer = plain 20
 refusalOf TooLarge = plain 21
 refusalOf Stuffing = plain 22
 
-abbrev pub creationNumber : CbrCreation → ℕ
-creationNumber Created = 0
-creationNumber (NotCreated e) = modelNumber e
+-- an offer that is not refused: placed with a quantiser, a delay, so many bytes and zero bytes among them; or asked for again with a quantiser
+pub data Given : Type 0 where
+  placed : ℕ → ℕ → ℕ → ℕ → Given
+  again : ℕ → Given
 
-abbrev pub answerNumber : CbrAnswer → ℕ
-answerNumber (Placed q d n z) = 0
-answerNumber (Again q) = 0
-answerNumber (Refused e) = refusalOf e .number
+-- each answer by its number and values
+abbrev pub offerAnswer : CbrAnswer → Answer Given
+offerAnswer (Placed q d n z) = value (placed q d n z)
+offerAnswer (Again q) = value (again q)
+offerAnswer (Refused e) = refused (refusalOf e .number) (refusalOf e .picture) (refusalOf e .coded) (refusalOf e .expected)
 
-abbrev pub withdrawalNumber : CbrWithdrawal → ℕ
-withdrawalNumber Withdrawn = 0
-withdrawalNumber (NotWithdrawn e) = modelNumber e
+-- a creation's and a withdrawal's writer stands beside the answer
+abbrev pub creationAnswer : CbrCreation → CbrWriter → Answer CbrWriter
+creationAnswer Created w = value w
+creationAnswer (NotCreated e) w = refusal e
+
+abbrev pub createdAnswer : CbrCreated → Answer CbrWriter
+createdAnswer r = creationAnswer (r .answer) (r .writer)
+
+abbrev pub withdrawalAnswer : CbrWithdrawal → CbrWriter → Answer CbrWriter
+withdrawalAnswer Withdrawn w = value w
+withdrawalAnswer (NotWithdrawn e) w = refusal e
+
+abbrev pub withdrawnAnswer : CbrWithdrawn → Answer CbrWriter
+withdrawnAnswer r = withdrawalAnswer (r .answer) (r .writer)

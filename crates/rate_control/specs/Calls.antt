@@ -2,27 +2,27 @@
 -- Assumes nothing.
 use Prim.Native.Nat.{ℕ}
 use mathlib.Core.List.{List, [], _∷_}
-use Rattle.rate_control.specs.Offer.{Offer, offer, outAfter, withdraw}
+use Rattle.bits.specs.Refusals.{Answer, orElse, number}
+use Rattle.rate_control.specs.Answers.{Given}
+use Rattle.rate_control.specs.Offer.{Offer, offer, left, outAfter, withdraw}
 use Rattle.rate_control.specs.declared.CbrWriter.{CbrWriter}
-use Rattle.rate_control.specs.declared.CbrAnswer.{CbrAnswer}
-use Rattle.rate_control.specs.declared.CbrWithdrawal.{CbrWithdrawal}
 
 pub data Call : Type 0 where
   offering : Offer → Call
   withdrawing : Call
 
--- a call that was made: the writer that an offer found, its answer and what its output part then holds; a withdrawal's answer
+-- a call that was made: an offer, its answer and what its output part then holds; a withdrawal's number, 0 where it is not refused
 pub data Step : Type 0 where
-  offered : CbrWriter → Offer → CbrAnswer → List ℕ → Step
-  withdrawn : CbrWithdrawal → Step
+  offered : Offer → Answer Given → List ℕ → Step
+  withdrawn : ℕ → Step
 
 unfoldable pub stepOf : CbrWriter → Call → Step
-stepOf w (offering o) = offered w o (offer w o .answer) (outAfter w o)
-stepOf w withdrawing = withdrawn (withdraw w .answer)
+stepOf w (offering o) = offered o (offer w o) (outAfter w o)
+stepOf w withdrawing = withdrawn (number (withdraw w))
 
 unfoldable pub after : CbrWriter → Call → CbrWriter
-after w (offering o) = offer w o .writer
-after w withdrawing = withdraw w .writer
+after w (offering o) = left w o
+after w withdrawing = orElse w (withdraw w)
 
 unfoldable pub run : CbrWriter → List Call → List Step
 run w [] = []

@@ -2,25 +2,17 @@
 -- Assumes nothing.
 use Prim.Native.Nat.{ℕ, _*_}
 use mathlib.Core.List.{[], _∷_}
-use mathlib.Core.Bool.{Bool, false, _&&_}
+use mathlib.Core.Bool.{Bool, false, not, _&&_}
 use lib.Dec.{leb}
-use Rattle.bits.specs.Bits.{pick}
+use Rattle.bits.specs.Refusals.{Answer, value, refuse, andThen}
 use Rattle.vbv.specs.Answers.{frameRate}
 use Rattle.vbv.specs.Model.{newModel}
-use Rattle.vbv.specs.Steps.{modelOf, rateOf}
-use Rattle.vbv.specs.declared.FrameRate.{FrameRate}
-use Rattle.vbv.specs.declared.FrameRate.the-variants.{Rate, Refused as NoRate}
+use Rattle.vbv.specs.declared.VbvParams.{VbvParams}
 use Rattle.vbv.specs.declared.VbvCbrModel.{VbvCbrModel}
-use Rattle.vbv.specs.declared.VbvError.{VbvError}
-use Rattle.vbv.specs.declared.VbvError.the-variants.{Params}
-use Rattle.vbv.specs.declared.VbvModel.{VbvModel}
-use Rattle.vbv.specs.declared.VbvModel.the-variants.{Model, Refused as NoModel}
 use Rattle.rate_control.specs.Targets.{targets}
 use Rattle.rate_control.specs.declared.CbrConfig.{CbrConfig}
 use Rattle.rate_control.specs.declared.Pending.the-variants.{Nothing}
 use Rattle.rate_control.specs.declared.CbrWriter.{CbrWriter}
-use Rattle.rate_control.specs.declared.CbrCreation.the-variants.{Created, Refused}
-use Rattle.rate_control.specs.declared.CbrCreated.{CbrCreated}
 
 -- from low to high
 unfoldable pub within : ℕ → ℕ → ℕ → Bool
@@ -33,6 +25,11 @@ configFits c =
     && (within 1 31 (c .«initial_quantiser_scale_code»)
     && (within 0 15 (c .«b_between») && within 1 255 (c .«anchors_per_gop»))))
 
+-- R in units of 400 bits a second, B in units of 16 × 1024 bits
+abbrev pub configParams : CbrConfig → ℕ × ℕ → VbvParams
+configParams c f =
+    record { «bit_rate» = 400 * c .«bit_rate_value»; «buffer_size_bits» = 16384 * c .«vbv_buffer_size_value»; frn = f .0; frd = f .1 }
+
 -- nothing placed, nothing pending, every kind at the given quantiser
 unfoldable pub freshWriter : CbrConfig → VbvCbrModel → CbrWriter
 freshWriter c m = record {
@@ -44,6 +41,13 @@ freshWriter c m = record {
   finished = false;
 }
 
+unfoldable pub create : CbrConfig → Answer CbrWriter
+create c =
+    refuse 12 (not (configFits c))
+    (andThen (frameRate (c .«frame_rate_code»)) (λ f.
+    andThen (newModel (configParams c f)) (λ m.
+    value (freshWriter c m))))
+
 -- beside a refusal stands a writer of no use: all zeros, so that every call refuses it
 unfoldable pub noWriter : CbrWriter
 noWriter = record {
@@ -54,19 +58,3 @@ noWriter = record {
   «stuffing_bytes» = 0;
   finished = false;
 }
-
-unfoldable pub notCreated : VbvError → CbrCreated
-notCreated e = record { answer = Refused e; writer = noWriter }
-
-unfoldable pub withModel : CbrConfig → VbvModel → CbrCreated
-withModel c (Model m) = record { answer = Created; writer = freshWriter c m }
-withModel c (NoModel e) = notCreated e
-
--- R in units of 400 bits a second, B in units of 16 × 1024 bits
-unfoldable pub withRate : CbrConfig → FrameRate → CbrCreated
-withRate c (Rate n d) =
-    withModel c (modelOf (newModel (record { «bit_rate» = 400 * c .«bit_rate_value»; «buffer_size_bits» = 16384 * c .«vbv_buffer_size_value»; frn = n; frd = d })))
-withRate c (NoRate e) = notCreated e
-
-unfoldable pub create : CbrConfig → CbrCreated
-create c = pick (configFits c) (withRate c (rateOf (frameRate (c .«frame_rate_code»)))) (notCreated Params)

@@ -1,87 +1,78 @@
--- Demand 3 (paper 00) as one statement: of every creation that is accepted, and every list of offers and withdrawals on the writer that it returned.
--- The answers and output parts of `run` are the code's, by the promises of `create`, `offer` and `withdraw`.
--- Assumes nothing.
-use Prim.Native.Nat.{ℕ, _*_, _<_}
+-- Demand 3 (paper 00) as one statement: of every creation that is accepted, and every list of offers and withdrawals on the writer that it returned. Its sentences stand above the
+-- fields, in the order's order. The answers and output parts of `run` are the code's, by the promises of `create`, `offer` and `withdraw`. Assumes nothing.
+use Prim.Native.Nat.{ℕ, suc, _≤_}
 use mathlib.Core.Path.{_≡_}
-use mathlib.Core.List.{List, [], _∷_, _++_}
-use lib.ListN.{take, drop, replicate}
+use mathlib.Core.List.{List, [], _∷_}
+use lib.Dec.{eqb}
+use Rattle.bits.specs.Bits.{pick}
+use Rattle.bits.specs.Refusals.{Answer, value, refused, number}
+use Rattle.headers.specs.RoundTrips.{Bytes}
 use Rattle.vbv.specs.Answers.{frameRate}
-use Rattle.vbv.specs.Patch.{patched}
-use Rattle.bits.specs.Refusals.{value}
 use Rattle.vbv.specs.declared.VbvParams.{VbvParams}
-use Rattle.vbv.specs.declared.VbvError.the-variants.{Early}
-use Rattle.vbv.specs.declared.VbvViolation.{VbvViolation}
-use Rattle.rate_control.specs.Writer.{asked, coarser}
-use Rattle.rate_control.specs.Create.{create}
-use Rattle.rate_control.specs.Offer.{Offer, offer, withdraw, tail, firstDelay}
-use Rattle.rate_control.specs.Calls.{Call, Step, offered, withdrawn, run, final}
+use Rattle.rate_control.specs.Answers.{Given, placed, again}
+use Rattle.rate_control.specs.Create.{create, configParams}
+use Rattle.rate_control.specs.Calls.{Call, offering, withdrawing, Step, offered, withdrawn, run, final}
 use Rattle.rate_control.specs.Targets.{targets}
-use Rattle.rate_control.specs.Told.{atFirst, Asks}
-use Rattle.rate_control.specs.Sent.{Sent, sent, AllBytes, Kept}
+use Rattle.rate_control.specs.Sent.{Sent, sent, zerosOf, EachRemoval, InBuffer, Placed, LeastStuffing, Passes}
+use Rattle.rate_control.specs.Due.{Known, atFirst, askedFor, toldBy, known, holding, Answered}
 use Rattle.rate_control.specs.declared.CbrConfig.{CbrConfig}
 use Rattle.rate_control.specs.declared.CbrWriter.{CbrWriter}
-use Rattle.rate_control.specs.declared.CbrCreation.the-variants.{Created}
-use Rattle.rate_control.specs.declared.CbrError.the-variants.{Model, Violation, TooLarge}
-use Rattle.rate_control.specs.declared.CbrAnswer.{CbrAnswer}
-use Rattle.rate_control.specs.declared.CbrAnswer.the-variants.{Placed, Again, Refused}
-use Rattle.rate_control.specs.declared.CbrWithdrawal.{CbrWithdrawal}
-use Rattle.rate_control.specs.declared.CbrWithdrawal.the-variants.{Withdrawn}
 
--- what an output part holds after n bytes were placed, z zeros among them: headers, the layer with its delay patched, zeros, and after the last picture the
--- sequence's end; the rest of the part keeps its bytes
-pub record PlacedIn (o : Offer) (delay n z : ℕ) (out : List ℕ) : Type 0 where
-  pub bytes : take n out ≡ o .headers ++ (patched (o .layer) delay ++ (replicate z 0 ++ tail (o .last)))
-  pub rest : drop n out ≡ drop n (o .out)
+-- ---- retries
 
--- no byte is written where none is placed
-abbrev pub PartHolds : Offer → CbrAnswer → List ℕ → Type 0
-PartHolds o (Placed q d n z) out = PlacedIn o d n z out
-PartHolds o (Again q) out = out ≡ o .out
-PartHolds o (Refused e) out = out ≡ o .out
+-- after an answer: a picture's retries count from creation, or from the latest placing, withdrawal or 21
+abbrev pub retriesBy : ℕ → Answer Given → ℕ
+retriesBy n (value (placed q d k z)) = 0
+retriesBy n (value (again q)) = suc n
+retriesBy n (refused k p c e) = pick (eqb k 21) 0 n
 
--- placed with the quantiser that was asked for, or sent back with a coarser one
-abbrev pub QuantiserTold : CbrWriter → Offer → CbrAnswer → Type 0
-QuantiserTold w o (Placed q d n z) = q ≡ asked w (o .kind)
-QuantiserTold w o (Again q) = (asked w (o .kind) < 31) × (q ≡ coarser (asked w (o .kind)))
-QuantiserTold w o (Refused e) = Unit {0}
+abbrev pub retriesAfter : ℕ → Step → ℕ
+retriesAfter n (offered o a out) = retriesBy n a
+retriesAfter n (withdrawn k) = 0
 
--- a refusal leaves the writer as it was, but that 21 closes the pending picture, as a withdrawal does
-abbrev pub WriterKept : CbrWriter → Offer → CbrAnswer → Type 0
-WriterKept w o (Placed q d n z) = Unit {0}
-WriterKept w o (Again q) = Unit {0}
-WriterKept w o (Refused e) = ((e ≡ TooLarge → ⊥) → offer w o .writer ≡ w) × (e ≡ TooLarge → offer w o .writer ≡ withdraw w .writer)
+-- 21 only at quantiser 31
+abbrev pub AtCoarsest : Known → Step → Type 0
+AtCoarsest x (offered o a out) = number a ≡ 21 → askedFor x o ≡ 31
+AtCoarsest x (withdrawn k) = Unit {0}
 
-pub data Each : List Step → Type 0 where
-  none : Each []
-  offer-then : {w : CbrWriter} {o : Offer} {a : CbrAnswer} {out : List ℕ} {l : List Step} → PartHolds o a out → QuantiserTold w o a → WriterKept w o a → Each l
-      → Each (offered w o a out ∷ l)
-  withdrawal-then : {a : CbrWithdrawal} {l : List Step} → a ≡ Withdrawn → Each l → Each (withdrawn a ∷ l)
+-- never more than eleven retries of a picture
+pub data Patient (p : VbvParams) (t : List ℕ) : Known → ℕ → List Step → Type 0 where
+  done : {x : Known} {n : ℕ} → n ≤ 11 → Patient p t x n []
+  then : {x : Known} {n : ℕ} {s : Step} {l : List Step} → n ≤ 11 → AtCoarsest x s → Patient p t (toldBy p t x s) (retriesAfter n s) l → Patient p t x n (s ∷ l)
 
--- the first picture's delay
-abbrev pub FirstDelay : VbvParams → List Sent → Type 0
-FirstDelay p [] = Unit {0}
-FirstDelay p (x ∷ xs) = x .delay ≡ firstDelay p
+-- ---- the demand
 
--- the parameters that a created writer sends by: R in units of 400 bits a second, B in units of 16 × 1024 bits, the frame rate of the code
-abbrev pub writerParams : CbrConfig → VbvParams
-writerParams c = create c .writer .model .params
+-- of the steps of a list of calls on a writer of the parameters p and the targets t, created with c, and the writer that is left
+pub record Demand (c : CbrConfig) (p : VbvParams) (t : List ℕ) (steps : List Step) (left : CbrWriter) : Type 0 where
+  -- 'each answer .. is the one that document 01 defines: an offer is placed, sent back coarser or refused'; and what each output part then holds
+  pub answers : Answered p t (atFirst c) steps
+  -- 'from creation and the calls alone' (paper 01): what the writer holds is what they and their answers told
+  pub state : left ≡ holding p t (known p t (atFirst c) steps)
+  -- 'The bytes handed out by the list neither overflow nor underflow the receiver's buffer.'
+  pub receiver : EachRemoval p (InBuffer p) (sent 0 steps)
+  -- 'Laid end to end, once a picture is placed, they pass the MPEG-2 check, given a record place per picture, with one record for each placed picture, in order. In each record the
+  -- coded delay equals the expected one, and the data bits are 8 × the bytes placed for that picture:
+  pub check : Passes p (sent 0 steps)
+  -- headers, layer, stuffing and end code.'
+  pub pictures : EachRemoval p (Placed p) (sent 0 steps)
+  -- 'Stuffing after each picture but the last is the least number of zero bytes that keeps the next removal from overflow.'
+  pub stuffing : EachRemoval p (LeastStuffing p) (sent 0 steps)
+  -- 'The stuffing total equals the zero bytes appended' (paper 01)
+  pub total : left .«stuffing_bytes» ≡ zerosOf (sent 0 steps)
+  -- 'Too large is said only at quantiser 31, after at most eleven retries of that picture.'
+  pub retries : Patient p t (atFirst c) 0 steps
 
-pub record Configured (c : CbrConfig) (p : VbvParams) : Type 0 where
-  pub rate : p .«bit_rate» ≡ 400 * c .«bit_rate_value»
-  pub buffer : p .«buffer_size_bits» ≡ 16384 * c .«vbv_buffer_size_value»
-  pub frames : frameRate (c .«frame_rate_code») ≡ value (p .frn, p .frd)
+-- every offered layer is of bytes: in the code it is, by its type
+abbrev pub AllBytes : List Call → Type 0
+AllBytes [] = Unit {0}
+AllBytes (offering o ∷ calls) = Bytes (o .layer) × AllBytes calls
+AllBytes (withdrawing ∷ calls) = AllBytes calls
 
-pub record Demand (c : CbrConfig) (calls : List Call) : Type 0 where
-  pub configured : Configured c (writerParams c)
-  pub each : Each (run (create c .writer) calls)
-  pub quantisers : Asks (targets (writerParams c) (c .«b_between») (c .«anchors_per_gop»)) (atFirst c) (run (create c .writer) calls)
-  pub first : FirstDelay (writerParams c) (sent 0 (run (create c .writer) calls))
-  -- an offer after these calls is refused with 9 only where none of them placed a picture, and with 7 only where one did
-  pub overflow : (o : Offer) (v : VbvViolation) → offer (final (create c .writer) calls) o .answer ≡ Refused (Violation v)
-      → sent 0 (run (create c .writer) calls) ≡ []
-  pub early : (o : Offer) → offer (final (create c .writer) calls) o .answer ≡ Refused (Model Early) → sent 0 (run (create c .writer) calls) ≡ [] → ⊥
-  pub kept : Kept (writerParams c) (create c .writer) calls
+-- the demand of calls on the writer w, created with c, the frame rate of its code being f
+abbrev pub DemandOf : CbrConfig → ℕ × ℕ → CbrWriter → List Call → Type 0
+DemandOf c f w calls = Demand c (configParams c f) (targets (configParams c f) (c .«b_between») (c .«anchors_per_gop»)) (run w calls) (final w calls)
 
 -- what is owed
 abbrev pub Owed : Type 0
-Owed = (c : CbrConfig) (calls : List Call) → create c .answer ≡ Created → AllBytes calls → Demand c calls
+Owed = (c : CbrConfig) (f : ℕ × ℕ) (w : CbrWriter) (calls : List Call) → frameRate (c .«frame_rate_code») ≡ value f → create c ≡ value w → AllBytes calls
+    → DemandOf c f w calls

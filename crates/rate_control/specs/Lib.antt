@@ -3,10 +3,9 @@ pub mod Create
 pub mod Answers
 pub mod Writer
 pub mod Offer
-pub mod Numbers
 pub mod Steps
 pub mod Calls
 pub mod Sent
-pub mod Told
+pub mod Due
 pub mod Figures
 pub mod Demand

@@ -7,28 +7,21 @@ use lib.Dec.{ltb, eqb}
 use lib.ListN.{length, replicate, set}
 use Rattle.bits.specs.Bits.{pick}
 use Rattle.bits.specs.Answers.{over}
+use Rattle.bits.specs.Refusals.{Answer, value, refused, refuse, violate}
 use Rattle.vbv.specs.Annex.{firstDelivered, gain, overflows, beyond, expectedDelay, leastEnd}
 use Rattle.vbv.specs.Model.{delivered, periods, afterRemoval}
 use Rattle.vbv.specs.Patch.{patched}
 use Rattle.vbv.specs.declared.RemovalInterval.{RemovalInterval}
 use Rattle.vbv.specs.declared.VbvParams.{VbvParams}
-use Rattle.vbv.specs.declared.VbvError.the-variants.{Early, Params, Range}
-use Rattle.vbv.specs.declared.VbvViolation.the-variants.{Overflow}
 use Rattle.scan.specs.Codes.{sequenceEndCode}
 use Rattle.layers.specs.declared.PictureKind.{PictureKind}
 use Rattle.layers.specs.Headers.{headersFit}
 use Rattle.layers.specs.Layer.{layerFits}
+use Rattle.rate_control.specs.Answers.{Given, placed, again}
 use Rattle.rate_control.specs.Writer.{writerFits, index, of, clashes, asked, coarser, steered}
 use Rattle.rate_control.specs.declared.Pending.{Pending}
 use Rattle.rate_control.specs.declared.Pending.the-variants.{Nothing, Waits}
 use Rattle.rate_control.specs.declared.CbrWriter.{CbrWriter}
-use Rattle.rate_control.specs.declared.CbrError.{CbrError}
-use Rattle.rate_control.specs.declared.CbrError.the-variants.{Model, Violation, Kind, Headers, Layer, TooLarge, Stuffing, Output}
-use Rattle.rate_control.specs.declared.CbrAnswer.{CbrAnswer}
-use Rattle.rate_control.specs.declared.CbrAnswer.the-variants.{Placed, Again, Refused}
-use Rattle.rate_control.specs.declared.CbrOffered.{CbrOffered}
-use Rattle.rate_control.specs.declared.CbrWithdrawal.the-variants.{Withdrawn, Refused as NotWithdrawn}
-use Rattle.rate_control.specs.declared.CbrWithdrawn.{CbrWithdrawn}
 
 -- headers, kind, interval up to the next removal, last flag, one layer and an output part
 pub record Offer : Type 0 where
@@ -89,6 +82,24 @@ placedBytes w o = o .headers ++ (patched (o .layer) (delay w o) ++ (replicate (s
 
 -- ---- the answers
 
+-- too large: asked for again with a coarser quantiser, or 21 at 31
+abbrev pub tooLarge : ℕ → Answer Given
+tooLarge q = refuse 21 (eqb q 31) (value (again (coarser q)))
+
+unfoldable pub offer : CbrWriter → Offer → Answer Given
+offer w o =
+    refuse 12 (not (writerFits w))
+    (refuse 17 (w .finished || clashes (w .pending) (o .kind))
+    (refuse 18 (not (headersFit (w .model .params) (w .model .started) (o .headers)))
+    (refuse 20 (not (layerFits (o .kind) (o .interval) (o .layer)))
+    (refuse 14 (ltb (2 ^ 48) (position w o) || ltb (2 ^ 48) (end w o))
+    (refuse 7 (beyond (w .model .params) (position w o) (deliveredAt w o))
+    (violate 9 (w .model .removed) 0 0 (overflows (w .model .params) (w .model .«prev_end_bits») (deliveredAt w o))
+    (pick (beyond (w .model .params) (content w o) (deliveredAt w o)) (tooLarge (asked w (o .kind)))
+    (refuse 22 (beyond (w .model .params) (end w o) (deliveredAt w o))
+    (refuse 19 (ltb (length (o .out)) (length (placedBytes w o)))
+    (value (placed (asked w (o .kind)) (delay w o) (length (placedBytes w o)) (stuffing w o))))))))))))
+
 unfoldable pub withPending : CbrWriter → Pending → CbrWriter
 withPending w x = record {
   model = w .model;
@@ -99,59 +110,35 @@ withPending w x = record {
   finished = w .finished;
 }
 
--- nothing changes
-unfoldable pub refused : CbrWriter → CbrError → CbrOffered
-refused w e = record { answer = Refused e; writer = w }
-
--- too large with the quantiser q: a coarser one, or at 31 a refusal that closes the pending picture
-unfoldable pub tooLarge : CbrWriter → PictureKind → ℕ → CbrOffered
-tooLarge w k q =
-    pick (eqb q 31)
-    (record { answer = Refused TooLarge; writer = withPending w Nothing })
-    (record { answer = Again (coarser q); writer = withPending w (Waits k (coarser q)) })
-
--- placed with the quantiser q
-unfoldable pub placed : CbrWriter → Offer → ℕ → CbrOffered
-placed w o q = record {
-  answer = Placed q (delay w o) (length (placedBytes w o)) (stuffing w o);
-  writer =
-      record {
-        model = afterRemoval (w .model) (end w o) (deliveredNext w o);
-        «target_bits» = w .«target_bits»;
-        q = set (w .q) (index (o .kind)) (steered q (of (o .kind) (w .«target_bits»)) (8 * length (o .layer)));
-        pending = Nothing;
-        «stuffing_bytes» = w .«stuffing_bytes» + stuffing w o;
-        finished = o .last;
-      };
+-- the writer that a placing leaves: the next removal's bits are delivered, the kind's quantiser is steered, nothing is pending
+unfoldable pub withPlaced : CbrWriter → Offer → CbrWriter
+withPlaced w o = record {
+  model = afterRemoval (w .model) (end w o) (deliveredNext w o);
+  «target_bits» = w .«target_bits»;
+  q = set (w .q) (index (o .kind)) (steered (asked w (o .kind)) (of (o .kind) (w .«target_bits»)) (8 * length (o .layer)));
+  pending = Nothing;
+  «stuffing_bytes» = w .«stuffing_bytes» + stuffing w o;
+  finished = o .last;
 }
 
-unfoldable pub offer : CbrWriter → Offer → CbrOffered
-offer w o =
-    pick (not (writerFits w)) (refused w (Model Params))
-    (pick (w .finished || clashes (w .pending) (o .kind)) (refused w Kind)
-    (pick (not (headersFit (w .model .params) (w .model .started) (o .headers))) (refused w Headers)
-    (pick (not (layerFits (o .kind) (o .interval) (o .layer))) (refused w Layer)
-    (pick (ltb (2 ^ 48) (position w o) || ltb (2 ^ 48) (end w o)) (refused w (Model Range))
-    (pick (beyond (w .model .params) (position w o) (deliveredAt w o)) (refused w (Model Early))
-    (pick (overflows (w .model .params) (w .model .«prev_end_bits») (deliveredAt w o)) (refused w (Violation (Overflow (w .model .removed) 0 0)))
-    (pick (beyond (w .model .params) (content w o) (deliveredAt w o)) (tooLarge w (o .kind) (asked w (o .kind)))
-    (pick (beyond (w .model .params) (end w o) (deliveredAt w o)) (refused w Stuffing)
-    (pick (ltb (length (o .out)) (length (placedBytes w o))) (refused w Output)
-    (placed w o (asked w (o .kind))))))))))))
+-- the writer that an answer leaves: a refusal changes nothing, 21 excepted, which closes the pending picture
+abbrev pub leftBy : CbrWriter → Offer → Answer Given → CbrWriter
+leftBy w o (value (placed q d n z)) = withPlaced w o
+leftBy w o (value (again q)) = withPending w (Waits (o .kind) q)
+leftBy w o (refused n p c e) = pick (eqb n 21) (withPending w Nothing) w
+
+abbrev pub left : CbrWriter → Offer → CbrWriter
+left w o = leftBy w o (offer w o)
 
 -- what the output part then holds: the bytes placed over its first ones; as it was, where none are placed
-unfoldable pub outOf : CbrAnswer → List ℕ → List ℕ → List ℕ
-outOf (Placed q d n z) bytes out = over bytes out
-outOf (Again q) bytes out = out
-outOf (Refused e) bytes out = out
+abbrev pub outOf : Answer Given → List ℕ → List ℕ → List ℕ
+outOf (value (placed q d n z)) bytes out = over bytes out
+outOf (value (again q)) bytes out = out
+outOf (refused n p c e) bytes out = out
 
-unfoldable pub outAfter : CbrWriter → Offer → List ℕ
-unfolding offer outOf
-outAfter w o = outOf (offer w o .answer) (placedBytes w o) (o .out)
+abbrev pub outAfter : CbrWriter → Offer → List ℕ
+outAfter w o = outOf (offer w o) (placedBytes w o) (o .out)
 
--- closes a pending picture, if there is one
-unfoldable pub withdraw : CbrWriter → CbrWithdrawn
-withdraw w =
-    pick (not (writerFits w))
-    (record { answer = NotWithdrawn Params; writer = w })
-    (record { answer = Withdrawn; writer = withPending w Nothing })
+-- a withdrawal closes a pending picture, if there is one
+unfoldable pub withdraw : CbrWriter → Answer CbrWriter
+withdraw w = refuse 12 (not (writerFits w)) (value (withPending w Nothing))

@@ -1,177 +1,124 @@
--- Demand 3 (paper 00): what holds of every list of offers and withdrawals on a fresh writer. Pictures, positions and bits delivered are taken from the calls and their
--- answers alone, by Annex C's own formula and not by the writer's state.
--- Assumes nothing.
-use Prim.Native.Nat.{ℕ, suc, _+_, _*_, _≤_}
+-- The pictures that a list of calls placed, as bytes, and what the receiver and the check make of them. All is taken from the calls and their answers, by Annex C's own formula
+-- and not by the writer's state. Assumes nothing.
+use Prim.Native.Nat.{ℕ, _+_, _*_, _≤_}
 use mathlib.Core.Path.{_≡_}
 use mathlib.Core.List.{List, [], _∷_, _++_}
-use mathlib.Core.Bool.{Bool, true, false}
+use mathlib.Core.Bool.{true, false}
 use mathlib.Core.Logic.{_↔_}
-use lib.Dec.{eqb}
-use lib.ListN.{length, take}
-use Rattle.bits.specs.Bits.{pick}
-use Rattle.headers.specs.RoundTrips.{Bytes}
+use lib.ListN.{length, take, replicate}
+use Rattle.bits.specs.Refusals.{Answer, value, refused}
 use Rattle.vbv.specs.Annex.{unit, firstDelivered, gain, expectedDelay, occupancy}
 use Rattle.vbv.specs.Model.{periods}
-use Rattle.vbv.specs.declared.RemovalInterval.{RemovalInterval}
+use Rattle.vbv.specs.Patch.{patched}
 use Rattle.vbv.specs.declared.VbvParams.{VbvParams}
-use Rattle.verify.specs.Check.{verdict}
-use Rattle.bits.specs.Refusals.{value}
+use Rattle.verify.specs.Check.{accepted, verdict}
 use Rattle.verify.specs.declared.VbvStandard.the-variants.{Mpeg2}
 use Rattle.verify.specs.declared.VbvPictureRecord.{VbvPictureRecord}
-use Rattle.rate_control.specs.Answers.{refusalOf}
-use Rattle.rate_control.specs.Writer.{asked}
+use Rattle.rate_control.specs.Answers.{Given, placed, again}
 use Rattle.rate_control.specs.Offer.{Offer, tail}
-use Rattle.rate_control.specs.Calls.{Call, offering, withdrawing, Step, offered, withdrawn, run, final}
-use Rattle.rate_control.specs.declared.CbrWriter.{CbrWriter}
-use Rattle.rate_control.specs.declared.CbrError.the-variants.{TooLarge}
-use Rattle.rate_control.specs.declared.CbrAnswer.{CbrAnswer}
-use Rattle.rate_control.specs.declared.CbrAnswer.the-variants.{Placed, Again, Refused}
+use Rattle.rate_control.specs.Calls.{Step, offered, withdrawn}
+
+-- ---- where an offered picture lies, n bytes being handed out before it, in bits
+
+-- the end of its start code
+unfoldable pub positionOf : ℕ → Offer → ℕ
+positionOf n o = 8 * (n + length (o .headers) + 4)
+
+-- the end of headers, layer and, for the last picture, the sequence's end code
+unfoldable pub contentOf : ℕ → Offer → ℕ
+contentOf n o = 8 * (n + length (o .headers) + length (o .layer) + length (tail (o .last)))
+
+-- d units being delivered at its removal: after z zero bytes and no fewer the next removal does not overflow; none after the last picture
+pub record Stuffs (p : VbvParams) (n d : ℕ) (o : Offer) (z : ℕ) : Type 0 where
+  pub least : o .last ≡ false
+      → (k : ℕ) → (z ≤ k) ↔ (d + gain p (periods (o .interval)) ≤ (contentOf n o + 8 * k + p .«buffer_size_bits») * unit p)
+  pub none : o .last ≡ true → z ≡ 0
 
 -- ---- what was handed out
 
--- what the placed offers placed, in order
-unfoldable pub handedBy : CbrAnswer → List ℕ → List ℕ → List ℕ
-handedBy (Placed q d n z) out rest = take n out ++ rest
-handedBy (Again q) out rest = rest
-handedBy (Refused e) out rest = rest
-
-unfoldable pub handed : List Step → List ℕ
-handed [] = []
-handed (offered w o a out ∷ l) = handedBy a out (handed l)
-handed (withdrawn a ∷ l) = handed l
-
--- a placed picture: bytes handed out before it, its headers' and layer's bytes, all bytes placed and the zeros among them
+-- a placed picture: how many bytes were handed out before it, its offer, the delay and the zero bytes that were told, and the bytes placed
 pub record Sent : Type 0 where
   pub before : ℕ
-  pub headers : ℕ
-  pub layer : ℕ
-  pub bytes : ℕ
-  pub stuffing : ℕ
+  pub offer : Offer
   pub delay : ℕ
-  pub interval : RemovalInterval
-  pub last : Bool
+  pub zeros : ℕ
+  pub bytes : List ℕ
 
--- in bits: where its start code ends, where it ends without its zeros, and where it ends
-unfoldable pub position : Sent → ℕ
-position x = 8 * (x .before + x .headers + 4)
+abbrev pub position : Sent → ℕ
+position x = positionOf (x .before) (x .offer)
 
-unfoldable pub content : Sent → ℕ
-content x = 8 * (x .before + x .headers + x .layer + length (tail (x .last)))
+abbrev pub end : Sent → ℕ
+end x = 8 * (x .before + length (x .bytes))
 
-unfoldable pub end : Sent → ℕ
-end x = 8 * (x .before + x .bytes)
-
-unfoldable pub sentBy : ℕ → Offer → CbrAnswer → (ℕ → List Sent) → List Sent
-sentBy n o (Placed q d bytes z) rest =
-    record {
-      before = n;
-      headers = length (o .headers);
-      layer = length (o .layer);
-      bytes = bytes;
-      stuffing = z;
-      delay = d;
-      interval = o .interval;
-      last = o .last;
-    } ∷ rest (n + bytes)
-sentBy n o (Again q) rest = rest n
-sentBy n o (Refused e) rest = rest n
+abbrev pub sentBy : ℕ → Offer → Answer Given → List ℕ → (ℕ → List Sent) → List Sent
+sentBy n o (value (placed q d k z)) out rest = record { before = n; offer = o; delay = d; zeros = z; bytes = take k out } ∷ rest (n + length (take k out))
+sentBy n o (value (again q)) out rest = rest n
+sentBy n o (refused k p c e) out rest = rest n
 
 -- the pictures that the calls placed, n bytes being handed out before
 unfoldable pub sent : ℕ → List Step → List Sent
 sent n [] = []
-sent n (offered w o a out ∷ l) = sentBy n o a (λ k. sent k l)
-sent n (withdrawn a ∷ l) = sent n l
+sent n (offered o a out ∷ l) = sentBy n o a out (λ k. sent k l)
+sent n (withdrawn k ∷ l) = sent n l
 
--- ---- the receiver's buffer
+-- laid end to end
+unfoldable pub laid : List Sent → List ℕ
+laid [] = []
+laid (x ∷ xs) = x .bytes ++ laid xs
 
--- a removal with d units delivered, all before `previous` removed
-pub record Removed (p : VbvParams) (d previous : ℕ) (x : Sent) : Type 0 where
-  pub no-overflow : d ≤ (previous + p .«buffer_size_bits») * unit p
-  pub no-underflow : end x * unit p ≤ d
-  pub delay-exact : x .delay ≡ expectedDelay p (position x) d
-  pub delay-told : x .delay ≤ 65534
-  pub all-bytes : x .bytes ≡ x .headers + x .layer + x .stuffing + length (tail (x .last))
-  -- after so many zero bytes and no fewer the next removal does not overflow
-  pub least : x .last ≡ false
-      → (k : ℕ) → (x .stuffing ≤ k) ↔ (d + gain p (periods (x .interval)) ≤ (content x + 8 * k + p .«buffer_size_bits») * unit p)
-  pub unstuffed : x .last ≡ true → x .stuffing ≡ 0
+-- the zero bytes among them
+unfoldable pub zerosOf : List Sent → ℕ
+zerosOf [] = 0
+zerosOf (x ∷ xs) = x .zeros + zerosOf xs
 
--- one removal after another; none after the last picture
-pub data Removals (p : VbvParams) : ℕ → ℕ → List Sent → Type 0 where
-  none : {d previous : ℕ} → Removals p d previous []
-  next : {d previous : ℕ} {x : Sent} {xs : List Sent} → Removed p d previous x → (x .last ≡ true → xs ≡ [])
-      → Removals p (d + gain p (periods (x .interval))) (end x) xs → Removals p d previous (x ∷ xs)
+-- ---- one removal after another
+
+-- what holds of each picture as it is removed, with d units delivered and all before `previous` removed
+pub data Removals (p : VbvParams) (Holds : ℕ → ℕ → Sent → Type 0) : ℕ → ℕ → List Sent → Type 0 where
+  none : {d previous : ℕ} → Removals p Holds d previous []
+  next : {d previous : ℕ} {x : Sent} {xs : List Sent} → Holds d previous x
+      → Removals p Holds (d + gain p (periods (x .offer .interval))) (end x) xs → Removals p Holds d previous (x ∷ xs)
 
 -- C.3.1: the first picture's position and delay say what is delivered at its removal
-abbrev pub Received : VbvParams → List Sent → Type 0
-Received p [] = Unit {0}
-Received p (x ∷ xs) = Removals p (firstDelivered p (position x) (x .delay)) 0 (x ∷ xs)
+abbrev pub EachRemoval : VbvParams → (ℕ → ℕ → Sent → Type 0) → List Sent → Type 0
+EachRemoval p Holds [] = Unit {0}
+EachRemoval p Holds (x ∷ xs) = Removals p Holds (firstDelivered p (position x) (x .delay)) 0 (x ∷ xs)
+
+-- C.5, C.6: what is in the buffer is no more than it holds, and all of the picture is there
+pub record InBuffer (p : VbvParams) (d previous : ℕ) (x : Sent) : Type 0 where
+  pub no-overflow : d ≤ (previous + p .«buffer_size_bits») * unit p
+  pub no-underflow : end x * unit p ≤ d
+
+-- its bytes are headers, layer with the delay patched, zeros and end code; the delay is the expected one, and no 0xFFFF
+pub record Placed (p : VbvParams) (d previous : ℕ) (x : Sent) : Type 0 where
+  pub bytes-are : x .bytes
+      ≡ x .offer .headers ++ (patched (x .offer .layer) (x .delay) ++ (replicate (x .zeros) 0 ++ tail (x .offer .last)))
+  pub delay-exact : x .delay ≡ expectedDelay p (position x) d
+  pub delay-told : x .delay ≤ 65534
+
+-- its zeros are the least
+abbrev pub LeastStuffing : VbvParams → ℕ → ℕ → Sent → Type 0
+LeastStuffing p d previous x = Stuffs p (x .before) d (x .offer) (x .zeros)
 
 -- ---- the check
 
--- one record a picture, in order: coded equal to expected, data bits 8 × the bytes placed
-unfoldable pub sentRecord : VbvParams → ℕ → ℕ → Sent → VbvPictureRecord
-sentRecord p d previous x = record {
+-- coded equal to expected, data bits 8 × the bytes placed
+unfoldable pub recordOf : VbvParams → ℕ → ℕ → Sent → VbvPictureRecord
+recordOf p d previous x = record {
   «vbv_delay» = x .delay;
   «expected_delay» = x .delay;
-  «data_bits» = 8 * x .bytes;
+  «data_bits» = 8 * length (x .bytes);
   «occupancy_before_bits» = occupancy p previous d;
 }
 
-unfoldable pub sentRecords : VbvParams → ℕ → ℕ → List Sent → List VbvPictureRecord
-sentRecords p d previous [] = []
-sentRecords p d previous (x ∷ xs) = sentRecord p d previous x ∷ sentRecords p (d + gain p (periods (x .interval))) (end x) xs
+-- one record a picture, in order
+unfoldable pub records : VbvParams → ℕ → ℕ → List Sent → List VbvPictureRecord
+records p d previous [] = []
+records p d previous (x ∷ xs) = recordOf p d previous x ∷ records p (d + gain p (periods (x .offer .interval))) (end x) xs
 
--- once a picture is placed the MPEG-2 check accepts the bytes, given a record place a picture
-abbrev pub Passes : VbvParams → List ℕ → List Sent → Type 0
-Passes p s [] = Unit {0}
-Passes p s (x ∷ xs) =
+-- once a picture is placed the MPEG-2 check accepts the bytes with these records, given a place for each
+abbrev pub Passes : VbvParams → List Sent → Type 0
+Passes p [] = Unit {0}
+Passes p (x ∷ xs) =
     (places : ℕ) → length (x ∷ xs) ≤ places
-    → verdict Mpeg2 s places
-    ≡ value (record {
-      params = p;
-      first = sentRecord p (firstDelivered p (position x) (x .delay)) 0 x;
-      others = sentRecords p (firstDelivered p (position x) (x .delay) + gain p (periods (x .interval))) (end x) xs;
-    })
-
--- ---- retries
-
--- after an answer: a picture's retries count from creation, or from the latest placing, withdrawal or 21
-unfoldable pub retriesBy : ℕ → CbrAnswer → ℕ
-retriesBy n (Placed q d bytes z) = 0
-retriesBy n (Again q) = suc n
-retriesBy n (Refused e) = pick (eqb (refusalOf e .number) 21) 0 n
-
-unfoldable pub retriesAfter : ℕ → Step → ℕ
-retriesAfter n (offered w o a out) = retriesBy n a
-retriesAfter n (withdrawn a) = 0
-
--- 21 only at quantiser 31
-abbrev pub AtCoarsest : Step → Type 0
-AtCoarsest (offered w o a out) = a ≡ Refused TooLarge → asked w (o .kind) ≡ 31
-AtCoarsest (withdrawn a) = Unit {0}
-
--- never more than eleven retries of a picture
-pub data Patient : ℕ → List Step → Type 0 where
-  done : {n : ℕ} → n ≤ 11 → Patient n []
-  then : {n : ℕ} {s : Step} {l : List Step} → n ≤ 11 → AtCoarsest s → Patient (retriesAfter n s) l → Patient n (s ∷ l)
-
--- ---- the stuffing total
-
-unfoldable pub zerosOf : List Sent → ℕ
-zerosOf [] = 0
-zerosOf (x ∷ xs) = x .stuffing + zerosOf xs
-
--- ---- all of it, of the calls on the writer w of the parameters p
-
--- every offered layer is of bytes: in the code it is, by its type
-abbrev pub AllBytes : List Call → Type 0
-AllBytes [] = Unit {0}
-AllBytes (offering o ∷ calls) = Bytes (o .layer) × AllBytes calls
-AllBytes (withdrawing ∷ calls) = AllBytes calls
-
-pub record Kept (p : VbvParams) (w : CbrWriter) (calls : List Call) : Type 0 where
-  pub receiver : Received p (sent 0 (run w calls))
-  pub check : Passes p (handed (run w calls)) (sent 0 (run w calls))
-  pub retries : Patient 0 (run w calls)
-  pub total : final w calls .«stuffing_bytes» ≡ zerosOf (sent 0 (run w calls))
+    → verdict Mpeg2 (laid (x ∷ xs)) places ≡ accepted p (records p (firstDelivered p (position x) (x .delay)) 0 (x ∷ xs))

@@ -1,13 +1,17 @@
 -- The writer as the code goes: the promises of the private functions. proofs/Judging and proofs/Offering say that they come to specs/Offer.
 -- Assumes nothing.
 use Prim.Native.Nat.{ℕ, _+_, _-_, _*_, _/_, _^_, _≤_, max}
+use mathlib.Core.Path.{_≡_}
 use mathlib.Core.Bool.{Bool, not, _||_}
 use mathlib.Core.List.{List}
-use lib.Dec.{ltb}
+use lib.Dec.{ltb, eqb}
 use lib.ListN.{length, set}
 use Rattle.bits.specs.Bits.{pick}
-use Rattle.vbv.specs.Model.{startModel, delayForPicture, removePicture, maxEndBits, minEndBits}
+use Rattle.bits.specs.Refusals.{Answer, value, andThen, orElse}
+use Rattle.vbv.specs.Annex.{overflows, beyond}
+use Rattle.vbv.specs.Model.{newModel, startModel, delayForPicture, removePicture, maxEndBits, minEndBits}
 use Rattle.vbv.specs.Steps.{modelOf, delayOf, bitsOf, removalOf}
+use Rattle.vbv.specs.declared.VbvError.{VbvError}
 use Rattle.vbv.specs.declared.RemovalInterval.{RemovalInterval}
 use Rattle.vbv.specs.declared.VbvParams.{VbvParams}
 use Rattle.vbv.specs.declared.VbvCbrModel.{VbvCbrModel}
@@ -25,13 +29,18 @@ use Rattle.vbv.specs.declared.VbvBits.the-variants as bt
 use Rattle.layers.specs.declared.PictureKind.{PictureKind}
 use Rattle.layers.specs.Headers.{headersFit}
 use Rattle.layers.specs.Layer.{layerFits}
-use Rattle.rate_control.specs.Writer.{writerFits, index, of, clashes, asked, steered}
-use Rattle.rate_control.specs.Offer.{firstDelay, tail}
+use Rattle.rate_control.specs.Answers.{createdAnswer}
+use Rattle.rate_control.specs.Create.{configParams, freshWriter, noWriter}
+use Rattle.rate_control.specs.Writer.{writerFits, index, of, clashes, asked, coarser, steered}
+use Rattle.rate_control.specs.Offer.{Offer, position, content, end, deliveredAt, stuffing, delay, placedBytes, firstDelay, tail, withPending, withPlaced}
 use Rattle.rate_control.specs.declared.CbrConfig.{CbrConfig}
-use Rattle.rate_control.specs.declared.Pending.the-variants.{Nothing}
+use Rattle.rate_control.specs.declared.CbrCreation.the-variants.{Refused as NotCreated}
+use Rattle.rate_control.specs.declared.CbrCreated.{CbrCreated}
+use Rattle.rate_control.specs.declared.Pending.the-variants.{Nothing, Waits}
 use Rattle.rate_control.specs.declared.CbrWriter.{CbrWriter}
-use Rattle.rate_control.specs.declared.CbrError.the-variants.{Model, Violation, Kind, Headers, Layer, Stuffing}
-use Rattle.rate_control.specs.declared.CbrAnswer.the-variants.{Placed}
+use Rattle.rate_control.specs.declared.CbrError.{CbrError}
+use Rattle.rate_control.specs.declared.CbrError.the-variants.{Model, Violation, Kind, Headers, Layer, TooLarge as Largest, Stuffing, Output}
+use Rattle.rate_control.specs.declared.CbrAnswer.the-variants.{Placed, Again, Refused as NotPlaced}
 use Rattle.rate_control.specs.declared.CbrOffered.{CbrOffered}
 use Rattle.rate_control.specs.declared.Extent.{Extent}
 use Rattle.rate_control.specs.declared.Placement.{Placement}
@@ -54,6 +63,18 @@ pub record Shares (p : VbvParams) (between anchors : ℕ) : Type 0 where
   pub frd-high : p .frd ≤ 32032
   pub between-high : between ≤ 15
   pub anchors-high : anchors ≤ 255
+
+-- a writer of no use beside a refusal
+unfoldable pub notCreated : VbvError → CbrCreated
+notCreated e = record { answer = NotCreated e; writer = noWriter }
+
+-- an answer by number, and the writer beside it
+abbrev pub Creates : CbrCreated → Answer CbrWriter → Type 0
+Creates r a = (createdAnswer r ≡ a) × (r .writer ≡ orElse noWriter a)
+
+-- once the frame rate is known
+abbrev pub withRate : CbrConfig → ℕ × ℕ → Answer CbrWriter
+withRate c f = andThen (newModel (configParams c f)) (λ m. value (freshWriter c m))
 
 -- ---- the tests of an offer, by what the model answers
 
@@ -158,3 +179,35 @@ placedBy w k layer last p = record {
         finished = last;
       };
 }
+
+-- nothing changes
+unfoldable pub refused : CbrWriter → CbrError → CbrOffered
+refused w e = record { answer = NotPlaced e; writer = w }
+
+-- too large with the quantiser q: a coarser one, or at 31 a refusal that closes the pending picture
+unfoldable pub tooLarge : CbrWriter → PictureKind → ℕ → CbrOffered
+tooLarge w k q =
+    pick (eqb q 31)
+    (record { answer = NotPlaced Largest; writer = withPending w Nothing })
+    (record { answer = Again (coarser q); writer = withPending w (Waits k (coarser q)) })
+
+unfoldable pub placed : CbrWriter → Offer → ℕ → CbrOffered
+placed w o q = record {
+  answer = Placed q (delay w o) (length (placedBytes w o)) (stuffing w o);
+  writer = withPlaced w o;
+}
+
+-- `offer` of specs/Offer.antt with the code's answers
+unfoldable pub offered : CbrWriter → Offer → CbrOffered
+offered w o =
+    pick (not (writerFits w)) (refused w (Model Params))
+    (pick (w .finished || clashes (w .pending) (o .kind)) (refused w Kind)
+    (pick (not (headersFit (w .model .params) (w .model .started) (o .headers))) (refused w Headers)
+    (pick (not (layerFits (o .kind) (o .interval) (o .layer))) (refused w Layer)
+    (pick (ltb (2 ^ 48) (position w o) || ltb (2 ^ 48) (end w o)) (refused w (Model Range))
+    (pick (beyond (w .model .params) (position w o) (deliveredAt w o)) (refused w (Model Early))
+    (pick (overflows (w .model .params) (w .model .«prev_end_bits») (deliveredAt w o)) (refused w (Violation (Overflow (w .model .removed) 0 0)))
+    (pick (beyond (w .model .params) (content w o) (deliveredAt w o)) (tooLarge w (o .kind) (asked w (o .kind)))
+    (pick (beyond (w .model .params) (end w o) (deliveredAt w o)) (refused w Stuffing)
+    (pick (ltb (length (o .out)) (length (placedBytes w o))) (refused w Output)
+    (placed w o (asked w (o .kind))))))))))))

@@ -1,8 +1,7 @@
 // The writer after an offer.
 ghost use mathlib.Core.Path.{_≡_};
 ghost use Rattle.rate_control.specs.Writer.{asked as askedOf};
-ghost use Rattle.rate_control.specs.Offer.{refused as refusedOf, tooLarge};
-ghost use Rattle.rate_control.specs.Steps.{Placeable, placedBy};
+ghost use Rattle.rate_control.specs.Steps.{Placeable, placedBy, refused as refusedOf, tooLarge};
 use crate::CbrAnswer;
 use crate::CbrError;
 use crate::CbrOffered;

@@ -1,8 +1,9 @@
 // Creation of a writer, and the bits that a picture of each kind is meant to have.
 ghost use mathlib.Core.Path.{_≡_};
-ghost use Rattle.vbv.specs.declared.FrameRate.the-variants.{Rate};
-ghost use Rattle.rate_control.specs.Create.{within as withinOf, configFits, freshWriter, noWriter, notCreated, withRate, create as createOf};
-ghost use Rattle.rate_control.specs.Steps.{ConfigFits, Shares};
+ghost use Rattle.bits.specs.Refusals.{orElse};
+ghost use Rattle.rate_control.specs.Answers.{createdAnswer};
+ghost use Rattle.rate_control.specs.Create.{within as withinOf, configFits, freshWriter, noWriter, create as createOf};
+ghost use Rattle.rate_control.specs.Steps.{ConfigFits, Shares, notCreated, Creates, withRate};
 ghost use Rattle.rate_control.specs.Targets.{targets};
 use crate::CbrConfig;
 use crate::CbrCreated;
@@ -108,7 +109,7 @@ impl CbrConfig {
 
     fn with_rate(self, frn: u64, frd: u64) -> CbrCreated
         requires { ⌜ ConfigFits self ⌝ }
-        ensures { λ r. ⌜ r ≡ withRate self (Rate frn frd) ⌝ }
+        ensures { λ r. ⌜ Creates r (withRate self (frn, frd)) ⌝ }
     {
         let rate = self.bit_rate_value as u64;
         let size = self.vbv_buffer_size_value as u64;
@@ -131,7 +132,8 @@ impl CbrConfig {
 impl CbrWriter {
     // Refused in this order: 12 for a range, 6 for the rate code, 12 for the ratio.
     pub fn create(config: CbrConfig) -> CbrCreated
-        ensures { λ r. ⌜ r ≡ createOf config ⌝ }
+        ensures { λ r. ⌜ createdAnswer r ≡ createOf config ⌝ }
+        ensures { λ r. ⌜ r .writer ≡ orElse noWriter (createOf config) ⌝ }
     {
         if config.fits() {
             match vbv::frame_rate_value(config.frame_rate_code) {

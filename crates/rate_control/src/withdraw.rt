@@ -1,5 +1,7 @@
 // Withdrawals.
 ghost use mathlib.Core.Path.{_≡_};
+ghost use Rattle.bits.specs.Refusals.{orElse};
+ghost use Rattle.rate_control.specs.Answers.{withdrawnAnswer};
 ghost use Rattle.rate_control.specs.Offer.{withPending, withdraw as withdrawOf};
 use crate::CbrWithdrawal;
 use crate::CbrWithdrawn;
@@ -26,7 +28,8 @@ impl CbrWriter {
 
     // Closes a pending picture, if there is one.
     pub fn withdraw(self) -> CbrWithdrawn
-        ensures { λ r. ⌜ r ≡ withdrawOf self ⌝ }
+        ensures { λ r. ⌜ withdrawnAnswer r ≡ withdrawOf self ⌝ }
+        ensures { λ r. ⌜ r .writer ≡ orElse self (withdrawOf self) ⌝ }
     {
         if self.fits() {
             CbrWithdrawn {

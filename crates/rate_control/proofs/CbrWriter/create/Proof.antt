@@ -1,5 +1,5 @@
 use Rattle.vbv.proofs.Fitting.{told-by}
-use Rattle.rate_control.proofs.Creation.{config-fits, way-12, way-6, way-rate}
+use Rattle.rate_control.proofs.Creation.{config-fits, way-12, left-12, way-6, left-6, way-rate, left-rate}
 use borrow.Author.Needs.{needs}
 use Rattle.rate_control.proofs.CbrWriter.create.Statement.{statement}
 use Rattle.rate_control.proofs.CbrWriter.create.Tie as tie
@@ -26,13 +26,13 @@ not-created-requires-2 : tie.Need-not-created-requires-2
 not-created-requires-2 c κs = search needs
 
 returns : tie.Need-returns
-returns c = search (needs, way-rate)
+returns c = search (needs, way-rate, left-rate)
 
 returns-2 : tie.Need-returns-2
-returns-2 c = search (needs, way-6)
+returns-2 c = search (needs, way-6, left-6)
 
 returns-3 : tie.Need-returns-3
-returns-3 c = search (needs, way-12)
+returns-3 c = search (needs, way-12, left-12)
 
 pub create-spec : {M : Type 1} → statement M
 create-spec =

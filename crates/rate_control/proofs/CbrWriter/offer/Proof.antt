@@ -1,4 +1,3 @@
-use Rattle.rate_control.proofs.Numbers.{numbered}
 use native.Mathlib.Omega.{arith}
 use Rattle.rate_control.proofs.Offering.{bytes-are, placeable, offer-refused, offer-large, offer-short, offer-placed}
 use borrow.Author.Needs.{needs}
@@ -29,7 +28,7 @@ refused-requires-2 c κs = search needs
 returns : tie.Need-returns
 returns c =
     let p = c .before .before .before in
-    numbered _ _ (offer-short _ _ _ (p .before .before .judged .ensures) _ _ (p .placement .given .1) (omega arith) (c .refused2 .ensures))
+    offer-short _ _ _ (p .before .before .judged .ensures) _ _ (p .placement .given .1) (omega arith) (c .refused2 .ensures)
 
 put-placed-requires : tie.Need-put-placed-requires
 put-placed-requires c κs =
@@ -42,10 +41,10 @@ placed-requires c κs = search (needs, placeable)
 returns-2 : tie.Need-returns-2
 returns-2 c =
     let p = c .before .before in
-    numbered _ _ (offer-refused _ _ _ (p .before .before .judged .ensures) _ _ (p .error .given .1) (c .refused .ensures))
+    offer-refused _ _ _ (p .before .before .judged .ensures) _ _ (p .error .given .1) (c .refused .ensures)
 
 returns-3 : tie.Need-returns-3
-returns-3 c = numbered _ _ (offer-large _ _ _ (c .before .before .before .judged .ensures) _ (c .before .enum-told .given .1) (c .too-large .ensures))
+returns-3 c = offer-large _ _ _ (c .before .before .before .judged .ensures) _ (c .before .enum-told .given .1) (c .too-large .ensures)
 
 same-length : tie.Need-same-length
 same-length c = search needs
@@ -54,7 +53,7 @@ returns-4 : tie.Need-returns-4
 returns-4 c =
     let o = c .before .before .before in
     let p = o .before .before .before .before in
-    numbered _ _ (offer-placed _ _ _ (p .before .before .judged .ensures) _ _ (p .placement .given .1) _ (omega arith) (c .placed .ensures) (o .put-placed .ensures))
+    offer-placed _ _ _ (p .before .before .judged .ensures) _ _ (p .placement .given .1) _ (omega arith) (c .placed .ensures) (o .put-placed .ensures)
 
 pub offer-spec : {M : Type 1} → statement M
 offer-spec =

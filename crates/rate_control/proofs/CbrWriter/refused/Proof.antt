@@ -1,4 +1,4 @@
-use Rattle.rate_control.specs.Offer.{refused}
+use Rattle.rate_control.specs.Steps.{refused}
 use borrow.Author.Needs.{needs}
 use Rattle.rate_control.proofs.CbrWriter.refused.Statement.{statement}
 use Rattle.rate_control.proofs.CbrWriter.refused.Tie as tie

@@ -1,4 +1,4 @@
-use Rattle.rate_control.specs.Create.{notCreated}
+use Rattle.rate_control.specs.Steps.{notCreated}
 use borrow.Author.Needs.{needs}
 use Rattle.rate_control.proofs.create.not_created.Statement.{statement}
 use Rattle.rate_control.proofs.create.not_created.Tie as tie

@@ -1,0 +1,222 @@
+-- Every answer is the one that is due.
+-- Assumes nothing.
+use mathlib.Core.Path.{_≡_, refl, sym, ap, subst, _∙_}
+use mathlib.Core.Bool.{Bool, true, false, not, _||_, true≢false}
+use mathlib.Core.List.{List, [], _∷_}
+use Prim.Native.Nat.{ℕ, zero, suc, _+_, _*_, _^_, _≤_, _<_}
+use native.Mathlib.Omega.{arith}
+use lib.Dec.{ltb, eqb}
+use lib.ListN.{length}
+use borrow.Author.Tests.{ltb-false, ltb-true, eqb-true, eqb-false, not-true, not-false}
+use Rattle.bits.specs.Bits.{pick}
+use Rattle.bits.specs.Refusals.{Answer, value, refused, number}
+use Rattle.bits.proofs.Flags.{or-left, or-right, pick-elim}
+use Rattle.bits.proofs.Over.{over-take, over-drop}
+use Rattle.vbv.specs.Annex.{unit, overflows, beyond}
+use Rattle.vbv.specs.declared.VbvParams.{VbvParams}
+use Rattle.vbv.proofs.Laws.{over-units, beyond-units, first-in-time, fits-params}
+use Rattle.layers.specs.declared.PictureKind.{PictureKind}
+use Rattle.layers.specs.declared.PictureKind.the-variants.{I, P, B}
+use Rattle.rate_control.specs.Answers.{Given, placed, again}
+use Rattle.rate_control.specs.Writer.{writerFits, index, clashes, asked, coarser}
+use Rattle.rate_control.specs.Offer.{Offer, position, content, end, deliveredAt, deliveredNext, stuffing, delay, firstDelay, tooLarge, placedBytes, offer, left, outOf, outAfter, withdraw}
+use Rattle.rate_control.specs.Calls.{Call, offering, withdrawing, stepOf, after, run}
+use Rattle.rate_control.specs.Sent.{positionOf, contentOf, Stuffs}
+use Rattle.rate_control.specs.Due.{Known, anyPlaced, deliveredFor, askedFor, toldBy, holding, OutOfTurn, last-placed, other-kind, Fitting, Near, Timely, Whole, sizeOf, delayFor, Due, out-of-turn, bad-headers, bad-layer, far-position, far-end, early, overflow, too-large, largest, no-edge, no-room, room, PartHolds, Answered, none, offer-then, withdrawal-then}
+use Rattle.rate_control.specs.Demand.{retriesAfter, AtCoarsest, Patient, done, then}
+use Rattle.rate_control.specs.declared.Pending.{Pending}
+use Rattle.rate_control.specs.declared.Pending.the-variants.{Nothing, Waits}
+use Rattle.rate_control.specs.declared.CbrWriter.{CbrWriter}
+use Rattle.rate_control.proofs.Lower.{over-full, beyond-there, delivered-of}
+use Rattle.rate_control.proofs.Chain.{Placing, Outcome, stays, closes, retries, places, outcome}
+use Rattle.rate_control.proofs.Fitting.{writer-fits}
+use Rattle.rate_control.proofs.Placing.{delivered-later, delivered-first, placed-size, stuffing-last, stuffing-least, first-told}
+use Rattle.rate_control.proofs.Retries.{below-31}
+use Rattle.rate_control.proofs.Invariant.{Inv, asked-quant, pending-few, call-inv, withdraw-is}
+use Rattle.rate_control.proofs.Removing.{position-same, content-same}
+use Rattle.rate_control.proofs.Knowing.{any-placed, delivered-known, offer-told, withdrawal-told}
+
+or-other : (a b : Bool) → (a || b) ≡ true → a ≡ false → b ≡ true
+or-other true b h e = absurd (true≢false e)
+or-other false b h e = h
+
+index-same : (j k : PictureKind) → index j ≡ index k → j ≡ k
+index-same I I e = refl
+index-same I P e = absurd (omega (arith, e))
+index-same I B e = absurd (omega (arith, e))
+index-same P I e = absurd (omega (arith, e))
+index-same P P e = refl
+index-same P B e = absurd (omega (arith, e))
+index-same B I e = absurd (omega (arith, e))
+index-same B P e = absurd (omega (arith, e))
+index-same B B e = refl
+
+-- ---- the turn
+
+module _ (x : Known) (o : Offer) where
+  clash-is : (y : Pending) → x .pending ≡ y → clashes y (o .kind) ≡ true → OutOfTurn x o
+  unfolding clashes
+  clash-is Nothing h e = absurd (true≢false (sym e))
+  clash-is (Waits j q) h e = other-kind h (λ g. eqb-false _ _ (not-true _ e) (ap index g))
+
+  no-clash : {k : PictureKind} {q : ℕ} → clashes (x .pending) (o .kind) ≡ false → x .pending ≡ Waits k q → k ≡ o .kind
+  unfolding clashes
+  no-clash {k} e h = let g = rw h at (e) in index-same k (o .kind) (eqb-true _ _ (not-false _ g))
+
+  turn : (b : Bool) → x .finished ≡ b → (x .finished || clashes (x .pending) (o .kind)) ≡ true → OutOfTurn x o
+  turn true e h = last-placed e
+  turn false e h = clash-is (x .pending) refl (or-other (x .finished) _ h e)
+
+  in-turn-is : (x .finished || clashes (x .pending) (o .kind)) ≡ false → OutOfTurn x o → ⊥
+  in-turn-is h (last-placed e) = true≢false (sym e ∙ or-left _ _ h)
+  in-turn-is h (other-kind e n) = n (no-clash (or-right (x .finished) _ h) e)
+
+-- ---- an offer's answer
+
+module _ (p : VbvParams) (t : List ℕ) (x : Known) (o : Offer) {n : ℕ} (h : Inv n (holding p t x)) where
+  abbrev held : CbrWriter
+  held = holding p t x
+
+  abbrev D : Answer Given → Type 0
+  D a = Due p x o a
+
+  at-position : position held o ≡ positionOf (x .bytes) o
+  at-position = sym (position-same (x .bytes) held o refl)
+
+  at-content : content held o ≡ contentOf (x .bytes) o
+  at-content = sym (content-same (x .bytes) held o refl)
+
+  at-end : end held o ≡ contentOf (x .bytes) o + 8 * stuffing held o
+  unfolding end
+  at-end = rw at-content
+
+  stuffs : Stuffs p (x .bytes) (deliveredFor p x o) o (stuffing held o)
+  unfolding deliveredNext
+  stuffs = record {
+    least = λ e j. rw (← delivered-known p t x o, ← at-content) (stuffing-least held o (fits-params (held .model) (writer-fits (h .fits) .model-fits)) e j);
+    none = stuffing-last held o;
+  }
+
+  late : beyond p (position held o) (deliveredAt held o) ≡ true → 1 ≤ x .pictures
+  late e = go (x .pictures) refl
+    where
+      go : (k : ℕ) → x .pictures ≡ k → 1 ≤ x .pictures
+      go zero g =
+          let s : held .model .started ≡ false = rw g in
+          absurd (true≢false (sym e ∙ rw (delivered-first held o s) (first-in-time p (position held o) (firstDelay p))))
+      go (suc k) g = omega (arith, g)
+
+  at-first : x .finished ≡ false → overflows p (8 * x .bytes) (deliveredAt held o) ≡ true → x .pictures ≡ 0
+  at-first f e = go (x .pictures) refl
+    where
+      go : (k : ℕ) → x .pictures ≡ k → x .pictures ≡ 0
+      go zero g = g
+      go (suc k) g =
+          let s : held .model .started ≡ true = rw g (any-placed k) in
+          absurd (true≢false (sym e ∙ rw (delivered-later held o s) (h .room s f)))
+
+  delay-known : Placing held o → delay held o ≡ delayFor p x o
+  unfolding delay pick
+  delay-known g = go (held .model .started) refl
+    where
+      go : (b : Bool) → held .model .started ≡ b → delay held o ≡ delayFor p x o
+      go true e = rw (delivered-later held o e, delivered-of, e, at-position)
+      go false e = first-told held o g e ∙ rw e
+
+  size-due : Timely p x o (stuffing held o) → deliveredFor p x o < contentOf (x .bytes) o * unit p → D (tooLarge (asked held (o .kind)))
+  unfolding asked
+  size-due g l =
+      pick-elim D _ (λ e. largest g l (eqb-true _ _ e)) (λ e. too-large g l (below-31 (asked-quant (o .kind) h .0) (eqb-false _ _ e)))
+
+  pub due : D (offer held o)
+  unfolding offer asked
+  due =
+      pick-elim D _ (λ e. absurd (true≢false (sym (h .fits) ∙ not-true _ e))) λ h12.
+      pick-elim D _ (λ e. out-of-turn (turn x o _ refl e)) λ h17.
+      pick-elim D _ (λ e. bad-headers (in-turn-is x o h17) (not-true _ e)) λ h18.
+      pick-elim D _ (λ e. bad-layer (in-turn-is x o h17) (not-false _ h18) (not-true _ e)) λ h20.
+      let g : Fitting p x o = record { in-turn = in-turn-is x o h17; headers-fit = not-false _ h18; layer-fits = not-false _ h20 } in
+      pick-elim D _ (λ e. far g _ refl e) λ h14.
+      let near : Near p x o (stuffing held o) =
+      record {
+        fitting = g;
+        stuffs = stuffs;
+        position-near = rw (← at-position) (ltb-false (2 ^ 48) (position held o) (or-left _ _ h14));
+        end-near = rw (← at-end) (ltb-false (2 ^ 48) (end held o) (or-right (ltb (2 ^ 48) (position held o)) _ h14));
+      } in
+      pick-elim D _ (λ e. early near (rw (← delivered-known p t x o, ← at-position) (beyond-there p _ _ e)) (late e)) λ h7.
+      let in-time : positionOf (x .bytes) o * unit p ≤ deliveredFor p x o = rw (← delivered-known p t x o, ← at-position) (beyond-units p _ _ h7) in
+      pick-elim D _ (λ e. overflowing near in-time (or-left _ _ h17) e) λ h9.
+      let timely : Timely p x o (stuffing held o) = record { near = near; in-time = in-time; no-overflow = rw (← delivered-known p t x o) (over-units p _ _ h9) } in
+      pick-elim D _ (λ e. size-due timely (rw (← delivered-known p t x o, ← at-content) (beyond-there p _ _ e))) λ size.
+      pick-elim D _
+      (λ e. no-edge timely (rw (← delivered-known p t x o, ← at-content) (beyond-units p _ _ size)) (rw (← delivered-known p t x o, ← at-end) (beyond-there p _ _ e)))
+      λ h22.
+      let whole : Whole p x o (stuffing held o) = record { timely = timely; end-there = rw (← delivered-known p t x o, ← at-end) (beyond-units p _ _ h22) } in
+      pick-elim D _ (λ e. no-room whole (rw (← placed-size held o) (ltb-true _ _ e))) λ h19.
+      let k : Placing held o =
+      record {
+        fitted = h .fits;
+        unfinished = or-left _ _ h17;
+        same-kind = or-right (held .finished) _ h17;
+        headers-fit = not-false _ h18;
+        layer-fits = not-false _ h20;
+        position-far = ltb-false (2 ^ 48) (position held o) (or-left _ _ h14);
+        end-far = ltb-false (2 ^ 48) (end held o) (or-right (ltb (2 ^ 48) (position held o)) _ h14);
+        in-time = h7;
+        no-overflow = h9;
+        no-underflow = h22;
+        room = ltb-false _ _ h19;
+      } in
+      rw (delay-known k, placed-size held o) (room whole (rw (← placed-size held o) (ltb-false _ _ h19)))
+    where
+      far : Fitting p x o → (b : Bool) → ltb (2 ^ 48) (position held o) ≡ b → (ltb (2 ^ 48) (position held o) || ltb (2 ^ 48) (end held o)) ≡ true → D (refused 14 0 0 0)
+      far g true e f = far-position g (rw (← at-position) (ltb-true _ _ e))
+      far g false e f = far-end g stuffs (rw (← at-end) (ltb-true (2 ^ 48) (end held o) (or-other (ltb (2 ^ 48) (position held o)) _ f e)))
+
+      overflowing : Near p x o (stuffing held o) → positionOf (x .bytes) o * unit p ≤ deliveredFor p x o → x .finished ≡ false
+          → overflows p (8 * x .bytes) (deliveredAt held o) ≡ true → D (refused 9 (x .pictures) 0 0)
+      overflowing near in-time f e =
+          let z = at-first f e in
+          subst (λ (k : ℕ). D (refused 9 k 0 0)) (sym z) (overflow near in-time (rw (← delivered-known p t x o) (over-full p _ _ e)) z)
+
+-- ---- what its output part holds
+
+outcome-holds : (w : CbrWriter) (o : Offer) {a : Answer Given} → Outcome w o a → PartHolds o a (outOf a (placedBytes w o) (o .out))
+unfolding placedBytes
+outcome-holds w o (stays e) = refl
+outcome-holds w o (closes x) = refl
+outcome-holds w o (retries x) = refl
+outcome-holds w o (places x) = record { bytes = over-take (placedBytes w o) (o .out); rest = over-drop (placedBytes w o) (o .out) }
+
+-- ---- all calls
+
+withdraw-told : (w : CbrWriter) → writerFits w ≡ true → number (withdraw w) ≡ 0
+unfolding withdraw pick
+withdraw-told w e = rw e
+
+module _ (p : VbvParams) (t : List ℕ) where
+  pub answered : {n : ℕ} (w : CbrWriter) (x : Known) (l : List Call) → w ≡ holding p t x → Inv n w → Answered p t x (run w l)
+  unfolding run stepOf after
+  answered w x [] e h = none
+  answered {n} w x (offering o ∷ l) e h =
+      offer-then {x = x} {o = o} {a = offer w o} {l = run (left w o) l} (rw e (due p t x o (subst (λ (v : CbrWriter). Inv n v) e h))) (outcome-holds w o (outcome w o))
+      (answered _ _ l (offer-told p t w x o e) (call-inv (offering o) h))
+  answered w x (withdrawing ∷ l) e h =
+      rw (withdraw-told w (h .fits)) (withdrawal-then (answered _ _ l (withdrawal-told p t w x (h .fits) e) (call-inv withdrawing h)))
+
+  coarsest : (x : Known) (o : Offer) {a : Answer Given} → Outcome (holding p t x) o a → number a ≡ 21 → askedFor x o ≡ 31
+  unfolding asked
+  coarsest x o (stays {n} e) h = absurd (eqb-false n 21 e h)
+  coarsest x o (closes g) h = g
+  coarsest x o (retries g) h = absurd (omega (arith, h))
+  coarsest x o (places g) h = absurd (omega (arith, h))
+
+  pub patient : {n : ℕ} (w : CbrWriter) (x : Known) (l : List Call) → w ≡ holding p t x → Inv n w → Patient p t x n (run w l)
+  unfolding run stepOf after
+  patient w x [] e h = done (pending-few _ (w .pending) (h .waiting))
+  patient w x (offering o ∷ l) e h =
+      then (pending-few _ (w .pending) (h .waiting)) (coarsest x o (subst (λ (v : CbrWriter). Outcome v o (offer w o)) e (outcome w o)))
+      (patient _ _ l (offer-told p t w x o e) (call-inv (offering o) h))
+  patient w x (withdrawing ∷ l) e h =
+      then (pending-few _ (w .pending) (h .waiting)) tt (patient _ _ l (withdrawal-told p t w x (h .fits) e) (call-inv withdrawing h))

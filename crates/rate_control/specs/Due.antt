@@ -1,0 +1,195 @@
+-- Which answer an offer is due (paper 01, 'A placed picture'), by conditions in ≤ and <, from what creation, the calls and their answers told before: neither from the writer's
+-- state nor from the definition `offer`. Assumes nothing.
+use Prim.Native.Nat.{ℕ, suc, _+_, _*_, _/_, _%_, _^_, _≤_, _<_}
+use mathlib.Core.Path.{_≡_}
+use mathlib.Core.List.{List, [], _∷_, _++_}
+use mathlib.Core.Bool.{Bool, true, false}
+use lib.Dec.{eqb, ltb}
+use lib.ListN.{length, take, drop, replicate, set}
+use Rattle.bits.specs.Bits.{pick}
+use Rattle.bits.specs.Refusals.{Answer, value, refused}
+use Rattle.vbv.specs.Annex.{unit, firstDelivered, gain, expectedDelay}
+use Rattle.vbv.specs.Model.{periods}
+use Rattle.vbv.specs.Patch.{patched}
+use Rattle.vbv.specs.declared.VbvParams.{VbvParams}
+use Rattle.layers.specs.Headers.{headersFit}
+use Rattle.layers.specs.Layer.{layerFits}
+use Rattle.layers.specs.declared.PictureKind.{PictureKind}
+use Rattle.rate_control.specs.Answers.{Given, placed, again}
+use Rattle.rate_control.specs.Targets.{targets}
+use Rattle.rate_control.specs.Writer.{index, of, askedOf, coarser, steered}
+use Rattle.rate_control.specs.Offer.{Offer, firstDelay, tail}
+use Rattle.rate_control.specs.Calls.{Step, offered, withdrawn}
+use Rattle.rate_control.specs.Sent.{positionOf, contentOf, Stuffs}
+use Rattle.rate_control.specs.declared.Pending.{Pending}
+use Rattle.rate_control.specs.declared.Pending.the-variants.{Nothing, Waits}
+use Rattle.rate_control.specs.declared.CbrConfig.{CbrConfig}
+use Rattle.rate_control.specs.declared.CbrWriter.{CbrWriter}
+
+-- ---- what is known between two calls
+
+-- bytes handed out, the zeros among them, pictures placed, units delivered at the next removal, the quantisers of I, P and B, the picture to be offered again, and
+-- whether the last picture is placed
+pub record Known : Type 0 where
+  pub bytes : ℕ
+  pub zeros : ℕ
+  pub pictures : ℕ
+  pub delivered : ℕ
+  pub q : List ℕ
+  pub pending : Pending
+  pub finished : Bool
+
+-- after creation
+abbrev pub atFirst : CbrConfig → Known
+atFirst c = record {
+  bytes = 0;
+  zeros = 0;
+  pictures = 0;
+  delivered = 0;
+  q = c .«initial_quantiser_scale_code» ∷ c .«initial_quantiser_scale_code» ∷ c .«initial_quantiser_scale_code» ∷ [];
+  pending = Nothing;
+  finished = false;
+}
+
+abbrev pub anyPlaced : Known → Bool
+anyPlaced x = ltb 0 (x .pictures)
+
+-- units delivered at this picture's removal: until a picture is placed, from the offer's own headers and the first delay
+abbrev pub deliveredFor : VbvParams → Known → Offer → ℕ
+deliveredFor p x o = pick (anyPlaced x) (x .delivered) (firstDelivered p (positionOf (x .bytes) o) (firstDelay p))
+
+-- the quantiser that its layer was to be encoded with
+abbrev pub askedFor : Known → Offer → ℕ
+askedFor x o = askedOf (x .pending) (of (o .kind) (x .q))
+
+abbrev pub pendingNow : Known → Pending → Known
+pendingNow x y = record {
+  bytes = x .bytes;
+  zeros = x .zeros;
+  pictures = x .pictures;
+  delivered = x .delivered;
+  q = x .q;
+  pending = y;
+  finished = x .finished;
+}
+
+-- after an offer's answer, the targets being t: of a refusal only 21 changes anything
+abbrev pub told : VbvParams → List ℕ → Known → Offer → Answer Given → Known
+told p t x o (value (placed q d n z)) = record {
+  bytes = x .bytes + n;
+  zeros = x .zeros + z;
+  pictures = suc (x .pictures);
+  delivered = deliveredFor p x o + gain p (periods (o .interval));
+  q = set (x .q) (index (o .kind)) (steered q (of (o .kind) t) (8 * length (o .layer)));
+  pending = Nothing;
+  finished = o .last;
+}
+told p t x o (value (again q)) = pendingNow x (Waits (o .kind) q)
+told p t x o (refused n k c e) = pick (eqb n 21) (pendingNow x Nothing) x
+
+-- after a call
+abbrev pub toldBy : VbvParams → List ℕ → Known → Step → Known
+toldBy p t x (offered o a out) = told p t x o a
+toldBy p t x (withdrawn n) = pendingNow x Nothing
+
+abbrev pub known : VbvParams → List ℕ → Known → List Step → Known
+known p t x [] = x
+known p t x (s ∷ l) = known p t (toldBy p t x s) l
+
+-- the writer that holds this and nothing else
+abbrev pub holding : VbvParams → List ℕ → Known → CbrWriter
+holding p t x = record {
+  model =
+      record {
+        params = p;
+        whole = x .delivered / unit p;
+        rest = x .delivered % unit p;
+        «prev_end_bits» = 8 * x .bytes;
+        removed = x .pictures;
+        started = anyPlaced x;
+      };
+  «target_bits» = t;
+  q = x .q;
+  pending = x .pending;
+  «stuffing_bytes» = x .zeros;
+  finished = x .finished;
+}
+
+-- ---- the tests, in paper 01's order
+
+-- 17: the last picture is placed, or another kind is pending
+pub data OutOfTurn (x : Known) (o : Offer) : Type 0 where
+  last-placed : x .finished ≡ true → OutOfTurn x o
+  other-kind : {k : PictureKind} {q : ℕ} → x .pending ≡ Waits k q → (k ≡ o .kind → ⊥) → OutOfTurn x o
+
+-- 17, 18 and 20 passed
+pub record Fitting (p : VbvParams) (x : Known) (o : Offer) : Type 0 where
+  pub in-turn : OutOfTurn x o → ⊥
+  pub headers-fit : headersFit p (anyPlaced x) (o .headers) ≡ true
+  pub layer-fits : layerFits (o .kind) (o .interval) (o .layer) ≡ true
+
+-- 14 too, with z zero bytes
+pub record Near (p : VbvParams) (x : Known) (o : Offer) (z : ℕ) : Type 0 where
+  pub fitting : Fitting p x o
+  pub stuffs : Stuffs p (x .bytes) (deliveredFor p x o) o z
+  pub position-near : positionOf (x .bytes) o ≤ 2 ^ 48
+  pub end-near : contentOf (x .bytes) o + 8 * z ≤ 2 ^ 48
+
+-- 7 and 9 too
+pub record Timely (p : VbvParams) (x : Known) (o : Offer) (z : ℕ) : Type 0 where
+  pub near : Near p x o z
+  pub in-time : positionOf (x .bytes) o * unit p ≤ deliveredFor p x o
+  pub no-overflow : deliveredFor p x o ≤ (8 * x .bytes + p .«buffer_size_bits») * unit p
+
+-- size and 22 too
+pub record Whole (p : VbvParams) (x : Known) (o : Offer) (z : ℕ) : Type 0 where
+  pub timely : Timely p x o z
+  pub end-there : (contentOf (x .bytes) o + 8 * z) * unit p ≤ deliveredFor p x o
+
+-- the bytes to place, and the delay: the first one, then what Annex C expects
+abbrev pub sizeOf : Offer → ℕ → ℕ
+sizeOf o z = length (o .headers) + length (o .layer) + z + length (tail (o .last))
+
+abbrev pub delayFor : VbvParams → Known → Offer → ℕ
+delayFor p x o = pick (anyPlaced x) (expectedDelay p (positionOf (x .bytes) o) (x .delivered)) (firstDelay p)
+
+-- ---- the answer
+
+pub data Due (p : VbvParams) (x : Known) (o : Offer) : Answer Given → Type 0 where
+  out-of-turn : OutOfTurn x o → Due p x o (refused 17 0 0 0)
+  bad-headers : (OutOfTurn x o → ⊥) → headersFit p (anyPlaced x) (o .headers) ≡ false → Due p x o (refused 18 0 0 0)
+  bad-layer : (OutOfTurn x o → ⊥) → headersFit p (anyPlaced x) (o .headers) ≡ true
+      → layerFits (o .kind) (o .interval) (o .layer) ≡ false → Due p x o (refused 20 0 0 0)
+  far-position : Fitting p x o → 2 ^ 48 < positionOf (x .bytes) o → Due p x o (refused 14 0 0 0)
+  far-end : {z : ℕ} → Fitting p x o → Stuffs p (x .bytes) (deliveredFor p x o) o z → 2 ^ 48 < contentOf (x .bytes) o + 8 * z
+      → Due p x o (refused 14 0 0 0)
+  -- 7 only once a picture is placed, 9 only before
+  early : {z : ℕ} → Near p x o z → deliveredFor p x o < positionOf (x .bytes) o * unit p → 1 ≤ x .pictures → Due p x o (refused 7 0 0 0)
+  overflow : {z : ℕ} → Near p x o z → positionOf (x .bytes) o * unit p ≤ deliveredFor p x o
+      → (8 * x .bytes + p .«buffer_size_bits») * unit p < deliveredFor p x o → x .pictures ≡ 0 → Due p x o (refused 9 0 0 0)
+  too-large : {z : ℕ} → Timely p x o z → deliveredFor p x o < contentOf (x .bytes) o * unit p → askedFor x o < 31
+      → Due p x o (value (again (coarser (askedFor x o))))
+  largest : {z : ℕ} → Timely p x o z → deliveredFor p x o < contentOf (x .bytes) o * unit p → askedFor x o ≡ 31 → Due p x o (refused 21 0 0 0)
+  no-edge : {z : ℕ} → Timely p x o z → contentOf (x .bytes) o * unit p ≤ deliveredFor p x o
+      → deliveredFor p x o < (contentOf (x .bytes) o + 8 * z) * unit p → Due p x o (refused 22 0 0 0)
+  no-room : {z : ℕ} → Whole p x o z → length (o .out) < sizeOf o z → Due p x o (refused 19 0 0 0)
+  room : {z : ℕ} → Whole p x o z → sizeOf o z ≤ length (o .out)
+      → Due p x o (value (placed (askedFor x o) (delayFor p x o) (sizeOf o z) z))
+
+-- what its output part then holds: headers, the layer with its delay patched, zeros, and after the last picture the sequence's end; the rest of the part keeps its bytes
+pub record PlacedIn (o : Offer) (delay n z : ℕ) (out : List ℕ) : Type 0 where
+  pub bytes : take n out ≡ o .headers ++ (patched (o .layer) delay ++ (replicate z 0 ++ tail (o .last)))
+  pub rest : drop n out ≡ drop n (o .out)
+
+-- no byte is written where none is placed
+abbrev pub PartHolds : Offer → Answer Given → List ℕ → Type 0
+PartHolds o (value (placed q d n z)) out = PlacedIn o d n z out
+PartHolds o (value (again q)) out = out ≡ o .out
+PartHolds o (refused n k c e) out = out ≡ o .out
+
+-- of all calls: every offer's answer is the one that is due, and no withdrawal is refused
+pub data Answered (p : VbvParams) (t : List ℕ) : Known → List Step → Type 0 where
+  none : {x : Known} → Answered p t x []
+  offer-then : {x : Known} {o : Offer} {a : Answer Given} {out : List ℕ} {l : List Step} → Due p x o a → PartHolds o a out
+      → Answered p t (toldBy p t x (offered o a out)) l → Answered p t x (offered o a out ∷ l)
+  withdrawal-then : {x : Known} {l : List Step} → Answered p t (toldBy p t x (withdrawn 0)) l → Answered p t x (withdrawn 0 ∷ l)
