@@ -16,7 +16,7 @@ use Rattle.verify.specs.Sequence.{declared}
 use Rattle.verify.specs.declared.VbvStandard.the-variants.{Mpeg2}
 use Rattle.verify.proofs.Accepting.{Passed, exactRecord, run-none, run-passed, accepted}
 use Rattle.layers.proofs.Stream.{Part, PartsFit, part, stream, coded, coded-none, stream-coded, stream-declared}
-use Rattle.rate_control.specs.Sent.{Sent, laid, Removals, none, next, recordOf, records, Passes}
+use Rattle.rate_control.specs.Sent.{Sent, laid, Removals, none, next, sentRecord, sentRecords, Passes}
 use Rattle.rate_control.proofs.Removing.{Done, Course, First}
 use Rattle.rate_control.proofs.Sending.{codedOf, codedBy, Sending}
 
@@ -32,15 +32,15 @@ done-passed {p} r = record {
   no-underflow = units-beyond p _ _ (r .in-buffer .no-underflow);
 }
 
-done-record : {p : VbvParams} {d previous : ℕ} {x : Sent} → Done p d previous x → exactRecord p previous d (codedOf x) ≡ recordOf p d previous x
-unfolding codedOf recordOf
+done-record : {p : VbvParams} {d previous : ℕ} {x : Sent} → Done p d previous x → exactRecord p previous d (codedOf x) ≡ sentRecord p d previous x
+unfolding codedOf sentRecord
 done-record {previous = previous} {x = x} r =
     let e : 8 * (x .before + length (x .bytes)) - previous ≡ 8 * length (x .bytes) = omega (arith, r .begins) in
     rw e
 
 course-ran : {p : VbvParams} {d previous : ℕ} {xs : List Sent} (n : ℕ) → Course p d previous xs
-    → run p n previous d (codedBy xs) ≡ value (records p d previous xs)
-unfolding codedOf codedBy records
+    → run p n previous d (codedBy xs) ≡ value (sentRecords p d previous xs)
+unfolding codedOf codedBy sentRecords
 course-ran {p} {d} {previous} n none = run-none p n previous d
 course-ran n (next {xs = xs} r c) = rw (← done-record r) (run-passed n (codedBy xs) (done-passed r) (course-ran (suc n) c))
 
@@ -56,7 +56,7 @@ first-told (next r c) = r .as-placed .delay-told
 
 passes-by : (p : VbvParams) (x : Sent) (xs : List Sent) → paramsFit p ≡ true → 8 * length (laid (x ∷ xs)) ≤ 2 ^ 48 → First p (x ∷ xs)
     → declared Mpeg2 (laid (x ∷ xs)) ≡ value p → codedPictures Mpeg2 (laid (x ∷ xs)) ≡ value (codedBy (x ∷ xs)) → Passes p (x ∷ xs)
-unfolding codedBy codedOf records
+unfolding codedBy codedOf sentRecords
 passes-by p x xs f l c d h places m = accepted Mpeg2 (laid (x ∷ xs)) places l d h (first-told c) f (rw (coded-length xs) m) (course-ran 0 c)
 
 sending-declared : {p : VbvParams} {x : Sent} {xs : List Sent} → Sending p false 0 (x ∷ xs) → declared Mpeg2 (laid (x ∷ xs)) ≡ value p

@@ -22,7 +22,7 @@ use Rattle.rate_control.specs.Writer.{writerFits, index, clashes, asked,
 use Rattle.rate_control.specs.Offer.{Offer, position, content, end, deliveredAt, deliveredNext, stuffing, delay, firstDelay, tooLarge, placedBytes, offer, left, outOf, outAfter, withdraw}
 use Rattle.rate_control.specs.Calls.{Call, offering, withdrawing, stepOf, after, run}
 use Rattle.rate_control.specs.Sent.{positionOf, contentOf, Stuffs}
-use Rattle.rate_control.specs.Due.{Known, anyPlaced, deliveredFor, askedFor, toldBy, holding, OutOfTurn, last-placed, other-kind, Fitting, Near, Timely, Whole, sizeOf, delayFor, Due, out-of-turn, bad-headers, bad-layer, far-position, far-end, early, overflow, too-large, largest, no-edge, no-room, room, PartHolds, Answered, none, offer-then, withdrawal-then}
+use Rattle.rate_control.specs.Due.{Known, anyPlaced, deliveredFor, askedFor, toldBy, holding, OutOfTurn, last-placed, other-kind, Fitting, InRange, OnTime, AllThere, sizeOf, delayFor, Due, out-of-turn, bad-headers, bad-layer, far-position, far-end, early, overflow, too-large, largest, no-edge, no-room, room, PartHolds, Answered, none, offer-then, withdrawal-then}
 use Rattle.rate_control.specs.Demand.{retriesAfter, AtCoarsest, Patient, done, then}
 use Rattle.rate_control.specs.declared.Pending.{Pending}
 use Rattle.rate_control.specs.declared.Pending.the-variants.{Nothing, Waits}
@@ -123,7 +123,7 @@ module _ (p : VbvParams) (t : List ℕ) (x : Known) (o : Offer) {n : ℕ} (h : I
       go true e = rw (delivered-later held o e, delivered-of, e, at-position)
       go false e = first-told held o g e ∙ rw e
 
-  size-due : Timely p x o (stuffing held o) → deliveredFor p x o < contentOf (x .bytes) o * unit p → D (tooLarge (asked held (o .kind)))
+  size-due : OnTime p x o (stuffing held o) → deliveredFor p x o < contentOf (x .bytes) o * unit p → D (tooLarge (asked held (o .kind)))
   unfolding asked
   size-due g l =
       pick-elim D _ (λ e. largest g l (eqb-true _ _ e)) (λ e. too-large g l (below-31 (asked-quant (o .kind) h .0) (eqb-false _ _ e)))
@@ -137,7 +137,7 @@ module _ (p : VbvParams) (t : List ℕ) (x : Known) (o : Offer) {n : ℕ} (h : I
       pick-elim D _ (λ e. bad-layer (in-turn-is x o h17) (not-false _ h18) (not-true _ e)) λ h20.
       let g : Fitting p x o = record { in-turn = in-turn-is x o h17; headers-fit = not-false _ h18; layer-fits = not-false _ h20 } in
       pick-elim D _ (λ e. far g _ refl e) λ h14.
-      let near : Near p x o (stuffing held o) =
+      let near : InRange p x o (stuffing held o) =
       record {
         fitting = g;
         stuffs = stuffs;
@@ -147,12 +147,12 @@ module _ (p : VbvParams) (t : List ℕ) (x : Known) (o : Offer) {n : ℕ} (h : I
       pick-elim D _ (λ e. early near (rw (← delivered-known p t x o, ← at-position) (beyond-there p _ _ e)) (late e)) λ h7.
       let in-time : positionOf (x .bytes) o * unit p ≤ deliveredFor p x o = rw (← delivered-known p t x o, ← at-position) (beyond-units p _ _ h7) in
       pick-elim D _ (λ e. overflowing near in-time (or-left _ _ h17) e) λ h9.
-      let timely : Timely p x o (stuffing held o) = record { near = near; in-time = in-time; no-overflow = rw (← delivered-known p t x o) (over-units p _ _ h9) } in
+      let timely : OnTime p x o (stuffing held o) = record { in-range = near; in-time = in-time; no-overflow = rw (← delivered-known p t x o) (over-units p _ _ h9) } in
       pick-elim D _ (λ e. size-due timely (rw (← delivered-known p t x o, ← at-content) (beyond-there p _ _ e))) λ size.
       pick-elim D _
       (λ e. no-edge timely (rw (← delivered-known p t x o, ← at-content) (beyond-units p _ _ size)) (rw (← delivered-known p t x o, ← at-end) (beyond-there p _ _ e)))
       λ h22.
-      let whole : Whole p x o (stuffing held o) = record { timely = timely; end-there = rw (← delivered-known p t x o, ← at-end) (beyond-units p _ _ h22) } in
+      let whole : AllThere p x o (stuffing held o) = record { on-time = timely; end-there = rw (← delivered-known p t x o, ← at-end) (beyond-units p _ _ h22) } in
       pick-elim D _ (λ e. no-room whole (rw (← placed-size held o) (ltb-true _ _ e))) λ h19.
       let k : Placing held o =
       record {
@@ -174,7 +174,7 @@ module _ (p : VbvParams) (t : List ℕ) (x : Known) (o : Offer) {n : ℕ} (h : I
       far g true e f = far-position g (rw (← at-position) (ltb-true _ _ e))
       far g false e f = far-end g stuffs (rw (← at-end) (ltb-true (2 ^ 48) (end held o) (or-other (ltb (2 ^ 48) (position held o)) _ f e)))
 
-      overflowing : Near p x o (stuffing held o) → positionOf (x .bytes) o * unit p ≤ deliveredFor p x o → x .finished ≡ false
+      overflowing : InRange p x o (stuffing held o) → positionOf (x .bytes) o * unit p ≤ deliveredFor p x o → x .finished ≡ false
           → overflows p (8 * x .bytes) (deliveredAt held o) ≡ true → D (refused 9 (x .pictures) 0 0)
       overflowing near in-time f e =
           let z = at-first f e in

@@ -9,7 +9,7 @@ use Rattle.vbv.specs.declared.VbvParams.{VbvParams}
 use Rattle.rate_control.specs.Calls.{Call, run, final}
 use Rattle.rate_control.specs.Sent.{sent, EachRemoval, InBuffer, Placed, LeastStuffing, Passes}
 use Rattle.rate_control.specs.Due.{Known, holding}
-use Rattle.rate_control.specs.Demand.{AllBytes, Owed}
+use Rattle.rate_control.specs.Demand.{AllBytes, OwedOfCalls, Owed}
 use Rattle.rate_control.specs.declared.CbrWriter.{CbrWriter}
 use Rattle.rate_control.proofs.Creation.{Fresh, created}
 use Rattle.rate_control.proofs.Removing.{First, fresh-course, each}
@@ -17,6 +17,7 @@ use Rattle.rate_control.proofs.Totals.{total, laid-low}
 use Rattle.rate_control.proofs.Sending.{Sending, sending}
 use Rattle.rate_control.proofs.Accepted.{passes}
 use Rattle.rate_control.proofs.Knowing.{state, created-known}
+use Rattle.rate_control.proofs.Creating.{creation-due}
 use Rattle.rate_control.proofs.Answering.{answered, patient}
 
 -- the check, of a writer that has placed nothing yet
@@ -25,7 +26,7 @@ fresh-passes w calls f b =
     let s = subst (λ (z : Bool). Sending (w .model .params) z 0 (sent 0 (run w calls))) (f .unplaced) (sending 0 w calls (f .inv) b) in
     passes (w .model .params) (sent 0 (run w calls)) (f .params-fit) (laid-low 0 w calls (f .inv)) (fresh-course f calls) s
 
-pub demand : Owed
+pub demand : OwedOfCalls
 demand c f w calls e h b =
     let g = created c w h in
     let k = created-known c f w e h in
@@ -42,3 +43,6 @@ demand c f w calls e h b =
       total = omega (arith, total 0 w calls (g .inv), g .unstuffed);
       retries = patient _ _ w _ calls k (g .inv);
     }
+
+pub owed : Owed
+owed = record { creation = creation-due; calls = demand }

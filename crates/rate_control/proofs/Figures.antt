@@ -3,13 +3,17 @@ use mathlib.Core.Path.{refl}
 use Rattle.bits.specs.Bits.{pick}
 use Rattle.vbv.proofs.Figures.{figures as model-figures}
 use Rattle.rate_control.specs.Targets.{groupPictures, groupBits, groupWeight, target, targets}
-use Rattle.rate_control.specs.Writer.{coarser, steered}
+use Rattle.rate_control.specs.Writer.{of, coarser, steered}
 use Rattle.rate_control.specs.Offer.{firstDelay}
-use Rattle.rate_control.specs.Figures.{retried, Figures, Steering}
+use Rattle.rate_control.specs.Figures.{retried, Figures, Shares, Steering}
 
 pub figures : Figures
 unfolding groupPictures groupBits groupWeight target targets coarser firstDelay retried
 figures = record { model = model-figures; first-delay = refl; targets-of-three = refl; retries-from-1 = refl }
+
+pub shares : Shares
+unfolding groupPictures groupBits groupWeight target targets of
+shares = record { of-i = refl; of-p = refl; of-b = refl; floored = refl }
 
 pub steering : Steering
 unfolding steered pick

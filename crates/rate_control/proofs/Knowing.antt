@@ -17,12 +17,11 @@ use Rattle.vbv.specs.Model.{periods}
 use Rattle.vbv.specs.declared.VbvParams.{VbvParams}
 use Rattle.vbv.specs.declared.VbvCbrModel.{VbvCbrModel}
 use Rattle.rate_control.specs.Answers.{Given}
-use Rattle.rate_control.specs.Targets.{targets}
 use Rattle.rate_control.specs.Writer.{writerFits, asked}
 use Rattle.rate_control.specs.Create.{configParams, freshWriter, create}
 use Rattle.rate_control.specs.Offer.{Offer, end, deliveredAt, deliveredNext, stuffing, placedBytes, withPending, withPlaced, offer, leftBy, left, withdraw}
 use Rattle.rate_control.specs.Calls.{Call, offering, withdrawing, stepOf, after, run, final}
-use Rattle.rate_control.specs.Due.{Known, atFirst, deliveredFor, pendingNow, told, known, holding}
+use Rattle.rate_control.specs.Due.{Known, atFirst, deliveredFor, pendingNow, told, known, holding, paramsOf, targetsOf}
 use Rattle.rate_control.specs.declared.Pending.the-variants.{Nothing}
 use Rattle.rate_control.specs.declared.CbrConfig.{CbrConfig}
 use Rattle.rate_control.specs.declared.CbrWriter.{CbrWriter}
@@ -81,14 +80,14 @@ module _ (p : VbvParams) (t : List ℕ) where
 
 -- ---- a writer that was created
 
-fresh-known : (c : CbrConfig) (f : ℕ × ℕ)
-    → freshWriter c (modelAt (configParams c f) 0 0 0 false)
-    ≡ holding (configParams c f) (targets (configParams c f) (c .«b_between») (c .«anchors_per_gop»)) (atFirst c)
+pub fresh-known : (c : CbrConfig) (f : ℕ × ℕ)
+    → freshWriter c (modelAt (paramsOf c f) 0 0 0 false)
+    ≡ holding (paramsOf c f) (targetsOf c f) (atFirst c)
 unfolding freshWriter
 fresh-known c f = refl
 
 pub created-known : (c : CbrConfig) (f : ℕ × ℕ) (w : CbrWriter) → frameRate (c .«frame_rate_code») ≡ value f → create c ≡ value w
-    → w ≡ holding (configParams c f) (targets (configParams c f) (c .«b_between») (c .«anchors_per_gop»)) (atFirst c)
+    → w ≡ holding (paramsOf c f) (targetsOf c f) (atFirst c)
 created-known c f w e h =
     let x = creation c w h in
     let same : value (x .frames) ≡ value f = sym (x .frames-are) ∙ e in

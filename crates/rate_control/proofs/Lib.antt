@@ -21,4 +21,5 @@ pub mod Keeping
 pub mod Lower
 pub mod Knowing
 pub mod Answering
+pub mod Creating
 pub mod Demand

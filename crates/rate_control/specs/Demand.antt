@@ -1,5 +1,6 @@
--- Demand 3 (paper 00) as one statement: of every creation that is accepted, and every list of offers and withdrawals on the writer that it returned. Its sentences stand above the
--- fields, in the order's order. The answers and output parts of `run` are the code's, by the promises of `create`, `offer` and `withdraw`. Assumes nothing.
+-- Demand 3 (paper 00) as one statement: of every creation, and of every list of offers and withdrawals on the writer that an accepted one returned. The order's sentences stand above the
+-- fields, in its order. Of the code it holds by the promises of `CbrWriter::create`, `offer` and `withdraw`, which fix the answer, the writer that is left and the output part.
+-- Read Answers, the record Offer, Calls, Sent, Due, then this. Assumes nothing.
 use Prim.Native.Nat.{ℕ, suc, _≤_}
 use mathlib.Core.Path.{_≡_}
 use mathlib.Core.List.{List, [], _∷_}
@@ -10,11 +11,10 @@ use Rattle.headers.specs.RoundTrips.{Bytes}
 use Rattle.vbv.specs.Answers.{frameRate}
 use Rattle.vbv.specs.declared.VbvParams.{VbvParams}
 use Rattle.rate_control.specs.Answers.{Given, placed, again}
-use Rattle.rate_control.specs.Create.{create, configParams}
+use Rattle.rate_control.specs.Create.{create}
 use Rattle.rate_control.specs.Calls.{Call, offering, withdrawing, Step, offered, withdrawn, run, final}
-use Rattle.rate_control.specs.Targets.{targets}
-use Rattle.rate_control.specs.Sent.{Sent, sent, zerosOf, EachRemoval, InBuffer, Placed, LeastStuffing, Passes}
-use Rattle.rate_control.specs.Due.{Known, atFirst, askedFor, toldBy, known, holding, Answered}
+use Rattle.rate_control.specs.Sent.{sent, zerosOf, EachRemoval, InBuffer, Placed, LeastStuffing, Passes}
+use Rattle.rate_control.specs.Due.{Known, atFirst, askedFor, toldBy, known, holding, Answered, paramsOf, targetsOf, CreationDue}
 use Rattle.rate_control.specs.declared.CbrConfig.{CbrConfig}
 use Rattle.rate_control.specs.declared.CbrWriter.{CbrWriter}
 
@@ -22,9 +22,9 @@ use Rattle.rate_control.specs.declared.CbrWriter.{CbrWriter}
 
 -- after an answer: a picture's retries count from creation, or from the latest placing, withdrawal or 21
 abbrev pub retriesBy : ℕ → Answer Given → ℕ
-retriesBy n (value (placed q d k z)) = 0
+retriesBy n (value (placed q delay bytes zeros)) = 0
 retriesBy n (value (again q)) = suc n
-retriesBy n (refused k p c e) = pick (eqb k 21) 0 n
+retriesBy n (refused k picture coded expected) = pick (eqb k 21) 0 n
 
 abbrev pub retriesAfter : ℕ → Step → ℕ
 retriesAfter n (offered o a out) = retriesBy n a
@@ -48,12 +48,12 @@ pub record Demand (c : CbrConfig) (p : VbvParams) (t : List ℕ) (steps : List S
   pub answers : Answered p t (atFirst c) steps
   -- 'from creation and the calls alone' (paper 01): what the writer holds is what they and their answers told
   pub state : left ≡ holding p t (known p t (atFirst c) steps)
-  -- 'The bytes handed out by the list neither overflow nor underflow the receiver's buffer.'
+  -- 'The bytes handed out by the list neither overflow nor underflow the receiver's buffer.' (The delays and intervals that this counts by are those in the bytes: `pictures`, `check`.)
   pub receiver : EachRemoval p (InBuffer p) (sent 0 steps)
   -- 'Laid end to end, once a picture is placed, they pass the MPEG-2 check, given a record place per picture, with one record for each placed picture, in order. In each record the
-  -- coded delay equals the expected one, and the data bits are 8 × the bytes placed for that picture:
+  -- coded delay equals the expected one, and the data bits are 8 × the bytes placed for that picture'
   pub check : Passes p (sent 0 steps)
-  -- headers, layer, stuffing and end code.'
+  -- 'headers, layer, stuffing and end code', with the delay that was told
   pub pictures : EachRemoval p (Placed p) (sent 0 steps)
   -- 'Stuffing after each picture but the last is the least number of zero bytes that keeps the next removal from overflow.'
   pub stuffing : EachRemoval p (LeastStuffing p) (sent 0 steps)
@@ -62,17 +62,23 @@ pub record Demand (c : CbrConfig) (p : VbvParams) (t : List ℕ) (steps : List S
   -- 'Too large is said only at quantiser 31, after at most eleven retries of that picture.'
   pub retries : Patient p t (atFirst c) 0 steps
 
--- every offered layer is of bytes: in the code it is, by its type
+-- of the calls on the writer w, created with c, the frame rate of its code being f
+abbrev pub DemandOf : CbrConfig → ℕ × ℕ → CbrWriter → List Call → Type 0
+DemandOf c f w calls = Demand c (paramsOf c f) (targetsOf c f) (run w calls) (final w calls)
+
+-- every offered layer is of bytes: in the code it is, by its type. (Only a layer's bits are put together anew, by the patched delay.)
 abbrev pub AllBytes : List Call → Type 0
 AllBytes [] = Unit {0}
 AllBytes (offering o ∷ calls) = Bytes (o .layer) × AllBytes calls
 AllBytes (withdrawing ∷ calls) = AllBytes calls
 
--- the demand of calls on the writer w, created with c, the frame rate of its code being f
-abbrev pub DemandOf : CbrConfig → ℕ × ℕ → CbrWriter → List Call → Type 0
-DemandOf c f w calls = Demand c (configParams c f) (targets (configParams c f) (c .«b_between») (c .«anchors_per_gop»)) (run w calls) (final w calls)
-
 -- what is owed
-abbrev pub Owed : Type 0
-Owed = (c : CbrConfig) (f : ℕ × ℕ) (w : CbrWriter) (calls : List Call) → frameRate (c .«frame_rate_code») ≡ value f → create c ≡ value w → AllBytes calls
+abbrev pub OwedOfCalls : Type 0
+OwedOfCalls =
+    (c : CbrConfig) (f : ℕ × ℕ) (w : CbrWriter) (calls : List Call) → frameRate (c .«frame_rate_code») ≡ value f → create c ≡ value w → AllBytes calls
     → DemandOf c f w calls
+
+pub record Owed : Type 0 where
+  -- 'each answer, creation's .. too, is the one that document 01 defines'
+  pub creation : (c : CbrConfig) → CreationDue c (create c)
+  pub calls : OwedOfCalls

@@ -1,5 +1,6 @@
--- Which answer an offer is due (paper 01, 'A placed picture'), by conditions in ≤ and <, from what creation, the calls and their answers told before: neither from the writer's
--- state nor from the definition `offer`. Assumes nothing.
+-- Which answer creation and each offer are due (paper 01, 'A placed picture'), by conditions in ≤ and <, from creation, the calls and their answers: not from the writer's state,
+-- nor from the tests, positions, stuffing or bytes of `offer`. The fit tests, `firstDelay`, `tail`, `patched`, `coarser`, `steered`, `askedOf`, `of`, `index`, `frameRate`, `targets` and
+-- Annex C are the ones that `create` and `offer` compute with: they are to be read against the papers themselves. Assumes nothing.
 use Prim.Native.Nat.{ℕ, suc, _+_, _*_, _/_, _%_, _^_, _≤_, _<_}
 use mathlib.Core.Path.{_≡_}
 use mathlib.Core.List.{List, [], _∷_, _++_}
@@ -9,6 +10,7 @@ use lib.ListN.{length, take, drop, replicate, set}
 use Rattle.bits.specs.Bits.{pick}
 use Rattle.bits.specs.Refusals.{Answer, value, refused}
 use Rattle.vbv.specs.Annex.{unit, firstDelivered, gain, expectedDelay}
+use Rattle.vbv.specs.Answers.{frameRate}
 use Rattle.vbv.specs.Model.{periods}
 use Rattle.vbv.specs.Patch.{patched}
 use Rattle.vbv.specs.declared.VbvParams.{VbvParams}
@@ -28,8 +30,8 @@ use Rattle.rate_control.specs.declared.CbrWriter.{CbrWriter}
 
 -- ---- what is known between two calls
 
--- bytes handed out, the zeros among them, pictures placed, units delivered at the next removal, the quantisers of I, P and B, the picture to be offered again, and
--- whether the last picture is placed
+-- bytes handed out, the zeros among them, pictures placed, units delivered at the next removal (unread until a picture is placed), the quantisers of I, P and B, the picture to be
+-- offered again, and whether the last picture is placed
 pub record Known : Type 0 where
   pub bytes : ℕ
   pub zeros : ℕ
@@ -75,9 +77,9 @@ pendingNow x y = record {
 
 -- after an offer's answer, the targets being t: of a refusal only 21 changes anything
 abbrev pub told : VbvParams → List ℕ → Known → Offer → Answer Given → Known
-told p t x o (value (placed q d n z)) = record {
-  bytes = x .bytes + n;
-  zeros = x .zeros + z;
+told p t x o (value (placed q delay bytes zeros)) = record {
+  bytes = x .bytes + bytes;
+  zeros = x .zeros + zeros;
   pictures = suc (x .pictures);
   delivered = deliveredFor p x o + gain p (periods (o .interval));
   q = set (x .q) (index (o .kind)) (steered q (of (o .kind) t) (8 * length (o .layer)));
@@ -85,7 +87,7 @@ told p t x o (value (placed q d n z)) = record {
   finished = o .last;
 }
 told p t x o (value (again q)) = pendingNow x (Waits (o .kind) q)
-told p t x o (refused n k c e) = pick (eqb n 21) (pendingNow x Nothing) x
+told p t x o (refused n picture coded expected) = pick (eqb n 21) (pendingNow x Nothing) x
 
 -- after a call
 abbrev pub toldBy : VbvParams → List ℕ → Known → Step → Known
@@ -122,28 +124,28 @@ pub data OutOfTurn (x : Known) (o : Offer) : Type 0 where
   last-placed : x .finished ≡ true → OutOfTurn x o
   other-kind : {k : PictureKind} {q : ℕ} → x .pending ≡ Waits k q → (k ≡ o .kind → ⊥) → OutOfTurn x o
 
--- 17, 18 and 20 passed
+-- passed: 17, 18, 20
 pub record Fitting (p : VbvParams) (x : Known) (o : Offer) : Type 0 where
   pub in-turn : OutOfTurn x o → ⊥
   pub headers-fit : headersFit p (anyPlaced x) (o .headers) ≡ true
   pub layer-fits : layerFits (o .kind) (o .interval) (o .layer) ≡ true
 
--- 14 too, with z zero bytes
-pub record Near (p : VbvParams) (x : Known) (o : Offer) (z : ℕ) : Type 0 where
+-- passed: 17, 18, 20, 14; z is the zero bytes due
+pub record InRange (p : VbvParams) (x : Known) (o : Offer) (z : ℕ) : Type 0 where
   pub fitting : Fitting p x o
   pub stuffs : Stuffs p (x .bytes) (deliveredFor p x o) o z
   pub position-near : positionOf (x .bytes) o ≤ 2 ^ 48
   pub end-near : contentOf (x .bytes) o + 8 * z ≤ 2 ^ 48
 
--- 7 and 9 too
-pub record Timely (p : VbvParams) (x : Known) (o : Offer) (z : ℕ) : Type 0 where
-  pub near : Near p x o z
+-- passed: 17, 18, 20, 14, 7, 9
+pub record OnTime (p : VbvParams) (x : Known) (o : Offer) (z : ℕ) : Type 0 where
+  pub in-range : InRange p x o z
   pub in-time : positionOf (x .bytes) o * unit p ≤ deliveredFor p x o
   pub no-overflow : deliveredFor p x o ≤ (8 * x .bytes + p .«buffer_size_bits») * unit p
 
--- size and 22 too
-pub record Whole (p : VbvParams) (x : Known) (o : Offer) (z : ℕ) : Type 0 where
-  pub timely : Timely p x o z
+-- passed: 17, 18, 20, 14, 7, 9, size, 22
+pub record AllThere (p : VbvParams) (x : Known) (o : Offer) (z : ℕ) : Type 0 where
+  pub on-time : OnTime p x o z
   pub end-there : (contentOf (x .bytes) o + 8 * z) * unit p ≤ deliveredFor p x o
 
 -- the bytes to place, and the delay: the first one, then what Annex C expects
@@ -153,7 +155,7 @@ sizeOf o z = length (o .headers) + length (o .layer) + z + length (tail (o .last
 abbrev pub delayFor : VbvParams → Known → Offer → ℕ
 delayFor p x o = pick (anyPlaced x) (expectedDelay p (positionOf (x .bytes) o) (x .delivered)) (firstDelay p)
 
--- ---- the answer
+-- ---- an offer's answer
 
 pub data Due (p : VbvParams) (x : Known) (o : Offer) : Answer Given → Type 0 where
   out-of-turn : OutOfTurn x o → Due p x o (refused 17 0 0 0)
@@ -163,17 +165,18 @@ pub data Due (p : VbvParams) (x : Known) (o : Offer) : Answer Given → Type 0 w
   far-position : Fitting p x o → 2 ^ 48 < positionOf (x .bytes) o → Due p x o (refused 14 0 0 0)
   far-end : {z : ℕ} → Fitting p x o → Stuffs p (x .bytes) (deliveredFor p x o) o z → 2 ^ 48 < contentOf (x .bytes) o + 8 * z
       → Due p x o (refused 14 0 0 0)
-  -- 7 only once a picture is placed, 9 only before
-  early : {z : ℕ} → Near p x o z → deliveredFor p x o < positionOf (x .bytes) o * unit p → 1 ≤ x .pictures → Due p x o (refused 7 0 0 0)
-  overflow : {z : ℕ} → Near p x o z → positionOf (x .bytes) o * unit p ≤ deliveredFor p x o
+  -- the paper gives 7 and 9 no condition on the count; the last one here says when each can arise: before a placing the position is always delivered, after one the stuffing
+  -- keeps overflow away. So a 9 names picture 0, and no delay, since none was coded (docs/DECISIONS.md 44)
+  early : {z : ℕ} → InRange p x o z → deliveredFor p x o < positionOf (x .bytes) o * unit p → 1 ≤ x .pictures → Due p x o (refused 7 0 0 0)
+  overflow : {z : ℕ} → InRange p x o z → positionOf (x .bytes) o * unit p ≤ deliveredFor p x o
       → (8 * x .bytes + p .«buffer_size_bits») * unit p < deliveredFor p x o → x .pictures ≡ 0 → Due p x o (refused 9 0 0 0)
-  too-large : {z : ℕ} → Timely p x o z → deliveredFor p x o < contentOf (x .bytes) o * unit p → askedFor x o < 31
+  too-large : {z : ℕ} → OnTime p x o z → deliveredFor p x o < contentOf (x .bytes) o * unit p → askedFor x o < 31
       → Due p x o (value (again (coarser (askedFor x o))))
-  largest : {z : ℕ} → Timely p x o z → deliveredFor p x o < contentOf (x .bytes) o * unit p → askedFor x o ≡ 31 → Due p x o (refused 21 0 0 0)
-  no-edge : {z : ℕ} → Timely p x o z → contentOf (x .bytes) o * unit p ≤ deliveredFor p x o
+  largest : {z : ℕ} → OnTime p x o z → deliveredFor p x o < contentOf (x .bytes) o * unit p → askedFor x o ≡ 31 → Due p x o (refused 21 0 0 0)
+  no-edge : {z : ℕ} → OnTime p x o z → contentOf (x .bytes) o * unit p ≤ deliveredFor p x o
       → deliveredFor p x o < (contentOf (x .bytes) o + 8 * z) * unit p → Due p x o (refused 22 0 0 0)
-  no-room : {z : ℕ} → Whole p x o z → length (o .out) < sizeOf o z → Due p x o (refused 19 0 0 0)
-  room : {z : ℕ} → Whole p x o z → sizeOf o z ≤ length (o .out)
+  no-room : {z : ℕ} → AllThere p x o z → length (o .out) < sizeOf o z → Due p x o (refused 19 0 0 0)
+  room : {z : ℕ} → AllThere p x o z → sizeOf o z ≤ length (o .out)
       → Due p x o (value (placed (askedFor x o) (delayFor p x o) (sizeOf o z) z))
 
 -- what its output part then holds: headers, the layer with its delay patched, zeros, and after the last picture the sequence's end; the rest of the part keeps its bytes
@@ -183,9 +186,47 @@ pub record PlacedIn (o : Offer) (delay n z : ℕ) (out : List ℕ) : Type 0 wher
 
 -- no byte is written where none is placed
 abbrev pub PartHolds : Offer → Answer Given → List ℕ → Type 0
-PartHolds o (value (placed q d n z)) out = PlacedIn o d n z out
+PartHolds o (value (placed q delay bytes zeros)) out = PlacedIn o delay bytes zeros out
 PartHolds o (value (again q)) out = out ≡ o .out
-PartHolds o (refused n k c e) out = out ≡ o .out
+PartHolds o (refused n picture coded expected) out = out ≡ o .out
+
+-- ---- creation's answer
+
+-- each field in paper 01's range, the rate code apart
+pub record Ranges (c : CbrConfig) : Type 0 where
+  pub rate-low : 1 ≤ c .«bit_rate_value»
+  pub rate-high : c .«bit_rate_value» ≤ 262143
+  pub buffer-low : 1 ≤ c .«vbv_buffer_size_value»
+  pub buffer-high : c .«vbv_buffer_size_value» ≤ 1023
+  pub quantiser-low : 1 ≤ c .«initial_quantiser_scale_code»
+  pub quantiser-high : c .«initial_quantiser_scale_code» ≤ 31
+  pub between-high : c .«b_between» ≤ 15
+  pub anchors-low : 1 ≤ c .«anchors_per_gop»
+  pub anchors-high : c .«anchors_per_gop» ≤ 255
+
+-- R and B of a configuration, in bits a second and bits
+abbrev pub rateOf : CbrConfig → ℕ
+rateOf c = 400 * c .«bit_rate_value»
+
+abbrev pub bufferOf : CbrConfig → ℕ
+bufferOf c = 16384 * c .«vbv_buffer_size_value»
+
+-- with the frame rate f of its code, and the targets of a group
+abbrev pub paramsOf : CbrConfig → ℕ × ℕ → VbvParams
+paramsOf c f = record { «bit_rate» = rateOf c; «buffer_size_bits» = bufferOf c; frn = f .0; frd = f .1 }
+
+abbrev pub targetsOf : CbrConfig → ℕ × ℕ → List ℕ
+targetsOf c f = targets (paramsOf c f) (c .«b_between») (c .«anchors_per_gop»)
+
+-- 12 for a range, 6 for the rate code, 12 for the ratio; else a writer that holds what is known at first
+pub data CreationDue (c : CbrConfig) : Answer CbrWriter → Type 0 where
+  bad-range : (Ranges c → ⊥) → CreationDue c (refused 12 0 0 0)
+  bad-code : Ranges c → (1 ≤ c .«frame_rate_code» → c .«frame_rate_code» ≤ 8 → ⊥) → CreationDue c (refused 6 0 0 0)
+  bad-ratio : Ranges c → 1 ≤ c .«frame_rate_code» → c .«frame_rate_code» ≤ 8 → 65534 * rateOf c < 90000 * bufferOf c → CreationDue c (refused 12 0 0 0)
+  created : {f : ℕ × ℕ} → Ranges c → frameRate (c .«frame_rate_code») ≡ value f → 90000 * bufferOf c ≤ 65534 * rateOf c
+      → CreationDue c (value (holding (paramsOf c f) (targetsOf c f) (atFirst c)))
+
+-- ---- of a list
 
 -- of all calls: every offer's answer is the one that is due, and no withdrawal is refused
 pub data Answered (p : VbvParams) (t : List ℕ) : Known → List Step → Type 0 where

@@ -3,9 +3,10 @@
 use mathlib.Core.Path.{_≡_}
 use mathlib.Core.List.{List, [], _∷_}
 use Prim.Native.Nat.{ℕ, zero, suc}
+use Rattle.layers.specs.declared.PictureKind.the-variants.{I, P, B}
 use Rattle.vbv.specs.Figures.{Figures as ModelFigures, at25}
 use Rattle.rate_control.specs.Targets.{targets}
-use Rattle.rate_control.specs.Writer.{coarser, steered}
+use Rattle.rate_control.specs.Writer.{of, coarser, steered}
 use Rattle.rate_control.specs.Offer.{firstDelay}
 
 -- the first n quantisers of a picture that is sent back again and again
@@ -18,6 +19,13 @@ pub record Figures : Type 0 where
   pub first-delay : firstDelay (at25 1000000 327680) ≡ 22118
   pub targets-of-three : targets (at25 1000000 327680) 2 4 ≡ 118181 ∷ 47272 ∷ 26590 ∷ []
   pub retries-from-1 : retried 11 1 ≡ 2 ∷ 3 ∷ 4 ∷ 6 ∷ 8 ∷ 11 ∷ 14 ∷ 18 ∷ 23 ∷ 29 ∷ 31 ∷ []
+
+-- figures that no paper has: the target of each kind, and targets at 30,000/1001, where a picture's bits are no whole number
+pub record Shares : Type 0 where
+  pub of-i : of I (targets (at25 1000000 327680) 2 4) ≡ 118181
+  pub of-p : of P (targets (at25 1000000 327680) 2 4) ≡ 47272
+  pub of-b : of B (targets (at25 1000000 327680) 2 4) ≡ 26590
+  pub floored : targets (record { «bit_rate» = 1000000; «buffer_size_bits» = 327680; frn = 30000; frd = 1001 }) 2 4 ≡ 98581 ∷ 39432 ∷ 22180 ∷ []
 
 -- figures that no paper has: the edges of the rule by which a quantiser goes up, stays or goes down, for a target of 1,000; 31 and 1 are kept to; a target of 0 counts as 1
 pub record Steering : Type 0 where

@@ -123,18 +123,18 @@ withPlaced w o = record {
 
 -- the writer that an answer leaves: a refusal changes nothing, 21 excepted, which closes the pending picture
 abbrev pub leftBy : CbrWriter → Offer → Answer Given → CbrWriter
-leftBy w o (value (placed q d n z)) = withPlaced w o
+leftBy w o (value (placed q delay bytes zeros)) = withPlaced w o
 leftBy w o (value (again q)) = withPending w (Waits (o .kind) q)
-leftBy w o (refused n p c e) = pick (eqb n 21) (withPending w Nothing) w
+leftBy w o (refused n picture coded expected) = pick (eqb n 21) (withPending w Nothing) w
 
 abbrev pub left : CbrWriter → Offer → CbrWriter
 left w o = leftBy w o (offer w o)
 
 -- what the output part then holds: the bytes placed over its first ones; as it was, where none are placed
 abbrev pub outOf : Answer Given → List ℕ → List ℕ → List ℕ
-outOf (value (placed q d n z)) bytes out = over bytes out
+outOf (value (placed q delay n zeros)) bytes out = over bytes out
 outOf (value (again q)) bytes out = out
-outOf (refused n p c e) bytes out = out
+outOf (refused n picture coded expected) bytes out = out
 
 abbrev pub outAfter : CbrWriter → Offer → List ℕ
 outAfter w o = outOf (offer w o) (placedBytes w o) (o .out)

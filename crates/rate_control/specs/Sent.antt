@@ -28,7 +28,7 @@ positionOf n o = 8 * (n + length (o .headers) + 4)
 unfoldable pub contentOf : ℕ → Offer → ℕ
 contentOf n o = 8 * (n + length (o .headers) + length (o .layer) + length (tail (o .last)))
 
--- d units being delivered at its removal: after z zero bytes and no fewer the next removal does not overflow; none after the last picture
+-- d units being delivered at its removal: k zero bytes keep the next removal from overflow exactly if z ≤ k, so z is the least; after the last picture z is 0
 pub record Stuffs (p : VbvParams) (n d : ℕ) (o : Offer) (z : ℕ) : Type 0 where
   pub least : o .last ≡ false
       → (k : ℕ) → (z ≤ k) ↔ (d + gain p (periods (o .interval)) ≤ (contentOf n o + 8 * k + p .«buffer_size_bits») * unit p)
@@ -51,9 +51,10 @@ abbrev pub end : Sent → ℕ
 end x = 8 * (x .before + length (x .bytes))
 
 abbrev pub sentBy : ℕ → Offer → Answer Given → List ℕ → (ℕ → List Sent) → List Sent
-sentBy n o (value (placed q d k z)) out rest = record { before = n; offer = o; delay = d; zeros = z; bytes = take k out } ∷ rest (n + length (take k out))
+sentBy n o (value (placed q delay bytes zeros)) out rest =
+    record { before = n; offer = o; delay = delay; zeros = zeros; bytes = take bytes out } ∷ rest (n + length (take bytes out))
 sentBy n o (value (again q)) out rest = rest n
-sentBy n o (refused k p c e) out rest = rest n
+sentBy n o (refused k picture coded expected) out rest = rest n
 
 -- the pictures that the calls placed, n bytes being handed out before
 unfoldable pub sent : ℕ → List Step → List Sent
@@ -103,8 +104,8 @@ LeastStuffing p d previous x = Stuffs p (x .before) d (x .offer) (x .zeros)
 -- ---- the check
 
 -- coded equal to expected, data bits 8 × the bytes placed
-unfoldable pub recordOf : VbvParams → ℕ → ℕ → Sent → VbvPictureRecord
-recordOf p d previous x = record {
+unfoldable pub sentRecord : VbvParams → ℕ → ℕ → Sent → VbvPictureRecord
+sentRecord p d previous x = record {
   «vbv_delay» = x .delay;
   «expected_delay» = x .delay;
   «data_bits» = 8 * length (x .bytes);
@@ -112,13 +113,13 @@ recordOf p d previous x = record {
 }
 
 -- one record a picture, in order
-unfoldable pub records : VbvParams → ℕ → ℕ → List Sent → List VbvPictureRecord
-records p d previous [] = []
-records p d previous (x ∷ xs) = recordOf p d previous x ∷ records p (d + gain p (periods (x .offer .interval))) (end x) xs
+unfoldable pub sentRecords : VbvParams → ℕ → ℕ → List Sent → List VbvPictureRecord
+sentRecords p d previous [] = []
+sentRecords p d previous (x ∷ xs) = sentRecord p d previous x ∷ sentRecords p (d + gain p (periods (x .offer .interval))) (end x) xs
 
 -- once a picture is placed the MPEG-2 check accepts the bytes with these records, given a place for each
 abbrev pub Passes : VbvParams → List Sent → Type 0
 Passes p [] = Unit {0}
 Passes p (x ∷ xs) =
     (places : ℕ) → length (x ∷ xs) ≤ places
-    → verdict Mpeg2 (laid (x ∷ xs)) places ≡ accepted p (records p (firstDelivered p (position x) (x .delay)) 0 (x ∷ xs))
+    → verdict Mpeg2 (laid (x ∷ xs)) places ≡ accepted p (sentRecords p (firstDelivered p (position x) (x .delay)) 0 (x ∷ xs))
