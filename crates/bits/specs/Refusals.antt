@@ -25,3 +25,8 @@ andThen (refused n p c e) next = refused n p c e
 abbrev pub number : {X : Type 0} → Answer X → ℕ
 number (value x) = 0
 number (refused n p c e) = n
+
+-- what stands beside an answer, where an enum cannot hold it: the value, or another on a refusal
+abbrev pub orElse : {X : Type 0} → X → Answer X → X
+orElse other (value x) = x
+orElse other (refused n p c e) = other
