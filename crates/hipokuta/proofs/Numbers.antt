@@ -53,7 +53,6 @@ model-range m.DelayTooLong = (omega arith, λ h. omega arith, omega arith)
 model-range m.Params = (omega arith, λ h. omega arith, omega arith)
 model-range m.Order = (omega arith, λ h. omega arith, omega arith)
 model-range m.Range = (omega arith, λ h. omega arith, omega arith)
-model-range m.NotAPicture = (omega arith, λ h. omega arith, omega arith)
 
 pub model-number : (e : VbvError) → 1 ≤ modelNumber e
 model-number e = model-range e .0

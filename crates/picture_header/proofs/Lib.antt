@@ -1,3 +1,4 @@
+pub mod Following
 pub mod CodingExtension
 pub mod Extent
 pub mod ExtraInformation

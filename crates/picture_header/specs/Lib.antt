@@ -1,3 +1,5 @@
 pub mod PictureHeader
 pub mod CodingExtension
 pub mod Picture
+pub mod Answers
+pub mod Stability
