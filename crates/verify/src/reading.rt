@@ -2,7 +2,6 @@
 ghost use mathlib.Core.Path.{_≡_};
 ghost use Prim.Native.Nat.{_+_, _*_, _^_, _≤_};
 ghost use lib.ListN.{length};
-ghost use Rattle.vbv.specs.Answers.{frameRate};
 ghost use Rattle.verify.specs.Answers.{declaredAnswer};
 ghost use Rattle.verify.specs.Sequence.{rated, declaredBy, declared};
 ghost use Rattle.verify.specs.Coded.{intervalOf, told, codedAt};
@@ -30,7 +29,7 @@ use vbv::VbvParams;
 fn rated_by(rate: u64, buffer: u64, code: u8) -> Declared
     requires { ⌜ rate ≤ 4294967295 ⌝ }
     requires { ⌜ buffer ≤ 4294967295 ⌝ }
-    ensures { λ r. ⌜ declaredAnswer r ≡ rated rate buffer (frameRate code) ⌝ }
+    ensures { λ r. ⌜ declaredAnswer r ≡ rated rate buffer code ⌝ }
 {
     match vbv::frame_rate_value(code) {
         FrameRate::Rate(frn, frd) => Declared::Params(VbvParams {
