@@ -18,7 +18,8 @@ use Rattle.picture_header.specs.declared.PictureRead.{PictureRead}
 use Rattle.headers.specs.SequenceExtension.{extensionStartCode}
 use Rattle.picture_header.specs.PictureHeader.{pictureHeader, pictureHeaderBytes}
 use Rattle.picture_header.specs.CodingExtension.{pictureCodingExtension}
-use Rattle.picture_header.specs.Picture.{isDc, behindHeader, picture}
+use Rattle.picture_header.specs.Picture.{isDc, picture}
+use Rattle.picture_header.specs.Steps.{behindHeader}
 use Rattle.picture_header.specs.Stability.{PictureStays}
 use Rattle.picture_header.specs.declared.PictureCodingType.{PictureCodingType}
 use Rattle.picture_header.specs.declared.PictureCodingType.the-variants.{Intra, Predictive, Bidirectional, DcIntra}
@@ -66,7 +67,7 @@ module _ (s : List ℕ) (h : Mpeg2PictureHeader) where
   picture-dc p d = rw (p, d)
 
   pub picture-behind : pictureHeader s ≡ value h → (h .«picture_coding_type» ≡ DcIntra → ⊥) → behindHeader s h ≡ picture s
-  unfolding picture pick
+  unfolding picture behindHeader pick
   picture-behind p n = rw (p, no-dc _ n)
 
 pub picture-refused : (s : List ℕ) (n : ℕ) → refused n 0 0 0 ≡ pictureHeader s → refused n 0 0 0 ≡ picture s
@@ -82,7 +83,7 @@ pub record PictureParsed (s : List ℕ) (h : Mpeg2PictureHeader) (x : PictureCod
   pub coded : pictureCodingExtension (drop place s) ≡ value x
 
 pub picture-parsed : (s : List ℕ) (h : Mpeg2PictureHeader) (x : PictureCodingExtension) → picture s ≡ value (h, x) → PictureParsed s h x
-unfolding picture behindHeader
+unfolding picture
 picture-parsed s h x e =
     let a = then-value (pictureHeader s) e in
     let d = past-value 2 (isDc (a .0 .«picture_coding_type»)) (a .2) in
@@ -127,7 +128,7 @@ next-seen s k = case (prefixAt s (k + zeros (drop k s) - 2)) refl
     case false e = rw (next-missing s k _ refl e) broken
 
 pub picture-seen : (s : List ℕ) → Seen (picture s)
-unfolding picture behindHeader
+unfolding picture
 picture-seen s =
     then-seen (picture-header-seen s) (λ h.
     pick-elim Seen (isDc (h .«picture_coding_type»)) (λ d. broken) (λ d.
