@@ -22,7 +22,6 @@ use Rattle.headers.specs.Sequence.{sequence}
 use Rattle.headers.specs.declared.sequence_header.Answer.{Answer}
 use Rattle.headers.specs.declared.sequence_header.Answer.the-variants.{Parsed as SequenceParsed, Refused as SequenceRefused}
 use Rattle.headers.specs.declared.sequence_extension.Mpeg2Sequence.{Mpeg2Sequence}
-use Rattle.picture_header.specs.declared.PictureRead.the-variants.{Parsed}
 use Rattle.picture_header.proofs.Picture.{picture-append}
 use Rattle.headers.proofs.StartCode.{prefix-true}
 use Rattle.headers.proofs.Sequence.{sequence-append}
@@ -45,7 +44,6 @@ use Rattle.verify.proofs.Telling.{told-parsed, declared-parsed}
 use Rattle.verify.specs.Coded.{told}
 use Rattle.verify.specs.Sequence.{declared}
 use Rattle.verify.specs.declared.VbvStandard.the-variants.{Mpeg2}
-use Rattle.verify.specs.declared.Told.the-variants.{Delay}
 use Rattle.layers.specs.declared.PictureKind.{PictureKind}
 use Rattle.layers.specs.Layer.{slices, isExtension, layerCodes, layerFits}
 use Rattle.layers.specs.Headers.{opensHeaders, headerCode, sameRate, sameParams, parsed, sequenceFirst, sequenceFits, headersFit}
@@ -170,10 +168,10 @@ module _ (k : PictureKind) (i : RemovalInterval) (s : List ℕ) (fits : layerFit
     }
 
     -- and tells the delay that was put in, and the interval that was offered
-    pub layer-told : (t : List ℕ) → told Mpeg2 (patched s d ++ t) ≡ Delay d i
+    pub layer-told : (t : List ℕ) → told Mpeg2 (patched s d ++ t) ≡ value (d, i)
     layer-told t =
         let h = delayed (f .header) (bitsAt (patched s d) 45 16) in
-        let p : picture (patched s d ++ t) ≡ Parsed h (f .extension) =
+        let p : picture (patched s d ++ t) ≡ value (h, f .extension) =
         picture-append (patched s d) t h (f .extension) (picture-delayed s (patched s d) other (f .header) (f .extension) (f .parsed) (f .zeros-behind)) in
         told-parsed (patched s d ++ t) h (f .extension) p
         ∙ rw (delayed-delay (f .header) (bitsAt (patched s d) 45 16), patched-delay s d layer-starts small, f .interval)

@@ -3,11 +3,10 @@ ghost use mathlib.Core.Path.{_≡_};
 ghost use mathlib.Core.Bool.{_&&_};
 ghost use lib.Dec.{eqb, leb};
 ghost use lib.ListN.{drop};
+ghost use Rattle.bits.specs.Refusals.{value};
 ghost use Rattle.headers.specs.StartCode.{zeros};
 ghost use Rattle.headers.specs.Sequence.{sequence as sequenceIn};
 ghost use Rattle.picture_header.specs.PictureHeader.{pictureHeader, pictureHeaderBytes};
-ghost use Rattle.picture_header.specs.Picture.{picture};
-ghost use Rattle.picture_header.specs.declared.PictureHeaderRead.the-variants.{Parsed as HeaderParsed};
 ghost use Rattle.vbv.specs.Answers.{frameRate};
 ghost use Rattle.scan.specs.Codes.{codes, codesAt, every, endsPrefix, found};
 ghost use Rattle.scan.specs.Pictures.{skip};
@@ -241,7 +240,7 @@ fn code_seven(code: OptionCode) -> bool
 
 // Whether the bits that pad a picture header to a byte are zero. Its last bit is bit `last` of the slice from byte n on.
 fn padding_clear(layer: &[u8], header: Mpeg2PictureHeader) -> bool
-    requires { ⌜ pictureHeader (now layer) ≡ HeaderParsed header ⌝ }
+    requires { ⌜ pictureHeader (now layer) ≡ value header ⌝ }
     ensures { λ r. ⌜ r ≡ eqb (padding (now (layer .entry)) header) 0 ⌝ }
 {
     let n = header.extra_information_bytes;
@@ -269,7 +268,7 @@ fn two_zeros(s: &[u8], at: usize) -> bool
 
 // Whether two zero bytes follow a picture header.
 fn zeros_behind(layer: &[u8], header: Mpeg2PictureHeader) -> bool
-    requires { ⌜ pictureHeader (now layer) ≡ HeaderParsed header ⌝ }
+    requires { ⌜ pictureHeader (now layer) ≡ value header ⌝ }
     ensures { λ r. ⌜ r ≡ leb 2 (zeros (drop (pictureHeaderBytes header) (now (layer .entry)))) ⌝ }
 {
     let n = header.extra_information_bytes;
@@ -290,7 +289,7 @@ fn vectors_fit(header: Mpeg2PictureHeader) -> bool
 
 // What the picture header and its extension tell.
 fn header_fits(layer: &[u8], kind: PictureKind, interval: RemovalInterval) -> bool
-    ensures { λ r. ⌜ r ≡ headerFits kind interval (now (layer .entry)) (picture (now (layer .entry))) ⌝ }
+    ensures { λ r. ⌜ r ≡ headerFits kind interval (now (layer .entry)) ⌝ }
 {
     match Mpeg2PictureHeader::parse_with_extension(layer) {
         PictureRead::Refused(_) => false,

@@ -5,3 +5,4 @@ pub mod ExtraInformation
 pub mod Picture
 pub mod PictureHeader
 pub mod OtherDelay
+pub mod Cases

@@ -18,7 +18,8 @@ use Rattle.bits.proofs.Reading.{step, there-is, obeys-is, read-none, read-more,
 use Rattle.bits.proofs.Same.{bits-one, read-same, bit-list-same}
 use Rattle.headers.specs.StartCode.{zeros}
 use Rattle.picture_header.specs.PictureHeader.{pictureStartCode, pictureFields, forward, backward, vectorFields, motionFields, codingType, codeIf, extra, extraAt, extraBit, pictureOf, behindDelay, pictureHeader, pictureHeaderBits, pictureHeaderBytes}
-use Rattle.picture_header.specs.Picture.{behindHeader, picture}
+use Rattle.picture_header.specs.Picture.{picture}
+use Rattle.picture_header.specs.Steps.{behindHeader}
 use Rattle.picture_header.specs.declared.PictureCodingType.{PictureCodingType}
 use Rattle.picture_header.specs.declared.PictureCodingType.the-variants.{Intra, Predictive, Bidirectional, DcIntra}
 use Rattle.picture_header.specs.declared.OptionCode.the-variants.{Some as SomeCode}

@@ -3,34 +3,36 @@
 -- Assumes nothing.
 use mathlib.Core.Path.{_≡_, refl, sym, ap, _∙_}
 use mathlib.Core.List.{List, _++_}
-use mathlib.Core.Bool.{true, false}
+use mathlib.Core.Bool.{Bool, true, false}
 use Prim.Native.Nat.{ℕ, _+_, _-_, _≤_, _<_}
 use native.Mathlib.Omega.{arith}
 use lib.ListN.{length, getD, take, drop, length-drop}
 use lib.Seq.{getD-drop, drop-append-le}
 use Rattle.bits.specs.Bits.{pick}
 use Rattle.bits.specs.Refusals.{Answer, value, refused, andThen}
+use Rattle.bits.proofs.Flags.{pick-elim}
 use Rattle.bits.proofs.Reading.{rest-is}
-use Rattle.headers.specs.StartCode.{nextStartCode}
-use Rattle.headers.specs.Answers.{nextAnswer}
-use Rattle.headers.specs.declared.NextStartCode.{NextStartCode}
+use Rattle.headers.specs.StartCode.{zeros, prefixAt, nextStartCode}
+use Rattle.picture_header.specs.Answers.{pictureAnswer}
+use Rattle.picture_header.specs.declared.PictureRead.{PictureRead}
 use Rattle.headers.specs.SequenceExtension.{extensionStartCode}
 use Rattle.picture_header.specs.PictureHeader.{pictureHeader, pictureHeaderBytes}
 use Rattle.picture_header.specs.CodingExtension.{pictureCodingExtension}
-use Rattle.picture_header.specs.Picture.{isDc, behindHeader, picture}
+use Rattle.picture_header.specs.Picture.{isDc, picture}
+use Rattle.picture_header.specs.Steps.{behindHeader}
 use Rattle.picture_header.specs.Stability.{PictureStays}
 use Rattle.picture_header.specs.declared.PictureCodingType.{PictureCodingType}
 use Rattle.picture_header.specs.declared.PictureCodingType.the-variants.{Intra, Predictive, Bidirectional, DcIntra}
 use Rattle.picture_header.specs.declared.Mpeg2PictureHeader.{Mpeg2PictureHeader}
 use Rattle.picture_header.specs.declared.PictureCodingExtension.{PictureCodingExtension}
-use Rattle.headers.proofs.StartCode.{zeros-zero, next-found, next-append}
-use Rattle.picture_header.proofs.Following.{then-value, past-value}
-use Rattle.picture_header.proofs.PictureHeader.{picture-header-append}
-use Rattle.picture_header.proofs.CodingExtension.{coding-long, coding-code, coding-append}
+use Rattle.headers.proofs.StartCode.{zeros-zero, next-at, next-missing, next-found, next-append}
+use Rattle.picture_header.proofs.Following.{Seen, broken, whole, then-value, past-value, then-seen}
+use Rattle.picture_header.proofs.PictureHeader.{picture-header-seen, picture-header-append}
+use Rattle.picture_header.proofs.CodingExtension.{coding-long, coding-code, coding-seen, coding-append}
 
 -- the case, by what is told of it
-pub next-case : {r x : NextStartCode} {a : Answer ℕ} → r ≡ x → nextAnswer r ≡ a → nextAnswer x ≡ a
-next-case e f = rw (← e) f
+pub picture-case : {r x : PictureRead} {a : Answer (Mpeg2PictureHeader × PictureCodingExtension)} → r ≡ x → pictureAnswer r ≡ a → pictureAnswer x ≡ a
+picture-case e f = rw (← e) f
 
 -- D pictures are refused, others not
 no-dc : (t : PictureCodingType) → (t ≡ DcIntra → ⊥) → isDc t ≡ false
@@ -65,7 +67,7 @@ module _ (s : List ℕ) (h : Mpeg2PictureHeader) where
   picture-dc p d = rw (p, d)
 
   pub picture-behind : pictureHeader s ≡ value h → (h .«picture_coding_type» ≡ DcIntra → ⊥) → behindHeader s h ≡ picture s
-  unfolding picture pick
+  unfolding picture behindHeader pick
   picture-behind p n = rw (p, no-dc _ n)
 
 pub picture-refused : (s : List ℕ) (n : ℕ) → refused n 0 0 0 ≡ pictureHeader s → refused n 0 0 0 ≡ picture s
@@ -81,7 +83,7 @@ pub record PictureParsed (s : List ℕ) (h : Mpeg2PictureHeader) (x : PictureCod
   pub coded : pictureCodingExtension (drop place s) ≡ value x
 
 pub picture-parsed : (s : List ℕ) (h : Mpeg2PictureHeader) (x : PictureCodingExtension) → picture s ≡ value (h, x) → PictureParsed s h x
-unfolding picture behindHeader
+unfolding picture
 picture-parsed s h x e =
     let a = then-value (pictureHeader s) e in
     let d = past-value 2 (isDc (a .0 .«picture_coding_type»)) (a .2) in
@@ -116,6 +118,22 @@ extension-placed {s} {h} {x} r =
       zero-between = λ k l m. let e : b + (k - b) ≡ k = omega arith in
           sym (getD-drop b s (k - b) 0 ∙ ap (λ (i : ℕ). getD s i 0) e) ∙ zeros-zero (drop b s) (k - b) (omega (arith, f .ends));
     }
+
+-- what reading both finds
+next-seen : (s : List ℕ) (k : ℕ) → Seen (nextStartCode s k)
+next-seen s k = case (prefixAt s (k + zeros (drop k s) - 2)) refl
+  where
+    case : (b : Bool) → prefixAt s (k + zeros (drop k s) - 2) ≡ b → Seen (nextStartCode s k)
+    case true e = rw (next-at s k _ refl e) (whole _)
+    case false e = rw (next-missing s k _ refl e) broken
+
+pub picture-seen : (s : List ℕ) → Seen (picture s)
+unfolding picture
+picture-seen s =
+    then-seen (picture-header-seen s) (λ h.
+    pick-elim Seen (isDc (h .«picture_coding_type»)) (λ d. broken) (λ d.
+    then-seen (next-seen s (pictureHeaderBytes h)) (λ p.
+    then-seen (coding-seen (drop p s)) (λ x. whole _))))
 
 -- what stands behind does not matter
 pub picture-append : PictureStays

@@ -20,15 +20,11 @@ isDc Predictive = false
 isDc Bidirectional = false
 isDc DcIntra = true
 
--- the extension behind the header h, at the next start code
-unfoldable pub behindHeader : List ℕ → Mpeg2PictureHeader → Answer (Mpeg2PictureHeader × PictureCodingExtension)
-behindHeader s h =
-    andThen (nextStartCode s (pictureHeaderBytes h)) (λ place.
-    andThen (pictureCodingExtension (drop place s)) (λ x.
-    value (h, x)))
-
+-- the header, and the extension at the next start code behind it
 unfoldable pub picture : List ℕ → Answer (Mpeg2PictureHeader × PictureCodingExtension)
 picture s =
     andThen (pictureHeader s) (λ h.
     refuse 2 (isDc (h .«picture_coding_type»))
-    (behindHeader s h))
+    (andThen (nextStartCode s (pictureHeaderBytes h)) (λ place.
+    andThen (pictureCodingExtension (drop place s)) (λ x.
+    value (h, x)))))

@@ -17,13 +17,13 @@ HeaderStays = (s t : List ℕ) → (pictureHeader s ≡ refused 1 0 0 0 → ⊥)
 abbrev pub CodingStays : Type 0
 CodingStays = (s t : List ℕ) → (pictureCodingExtension s ≡ refused 1 0 0 0 → ⊥) → pictureCodingExtension (s ++ t) ≡ pictureCodingExtension s
 
--- and bytes end in it (1) only where fewer bytes do too
+-- and what is too short with more bytes behind it (1) is too short without them
 abbrev pub HeaderCut : Type 0
 HeaderCut = (s t : List ℕ) → pictureHeader (s ++ t) ≡ refused 1 0 0 0 → pictureHeader s ≡ refused 1 0 0 0
 
 abbrev pub CodingCut : Type 0
 CodingCut = (s t : List ℕ) → pictureCodingExtension (s ++ t) ≡ refused 1 0 0 0 → pictureCodingExtension s ≡ refused 1 0 0 0
 
--- an extension that is missing may yet come
+-- the pair stays where it parses: an extension that is missing (2) may come with more bytes
 abbrev pub PictureStays : Type 0
 PictureStays = (s t : List ℕ) (h : Mpeg2PictureHeader) (x : PictureCodingExtension) → picture s ≡ value (h, x) → picture (s ++ t) ≡ value (h, x)

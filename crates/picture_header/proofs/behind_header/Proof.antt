@@ -4,8 +4,8 @@ use native.Mathlib.Omega.{arith}
 use Rattle.headers.specs.StartCode.{nextStartCode}
 use Rattle.picture_header.specs.PictureHeader.{pictureHeaderBytes}
 use Rattle.bits.specs.Refusals.{value}
-use Rattle.headers.proofs.StartCode.{next-found}
-use Rattle.picture_header.proofs.Picture.{next-case, behind-missing, behind-part}
+use Rattle.headers.proofs.StartCode.{next-case, next-found}
+use Rattle.picture_header.proofs.Picture.{behind-missing, behind-part}
 use Rattle.picture_header.proofs.behind_header.Statement.{statement}
 use Rattle.picture_header.proofs.behind_header.Tie as tie
 
