@@ -5,12 +5,10 @@ ghost use lib.Dec.{eqb, leb};
 ghost use lib.ListN.{drop};
 ghost use Rattle.bits.specs.Refusals.{value};
 ghost use Rattle.headers.specs.StartCode.{zeros};
-ghost use Rattle.headers.specs.Sequence.{sequence as sequenceIn};
 ghost use Rattle.picture_header.specs.PictureHeader.{pictureHeader, pictureHeaderBytes};
-ghost use Rattle.vbv.specs.Answers.{frameRate};
 ghost use Rattle.scan.specs.Codes.{codes, codesAt, every, endsPrefix, found};
 ghost use Rattle.scan.specs.Pictures.{skip};
-ghost use Rattle.layers.specs.Headers.{opensHeaders, sameRate, sameParams, parsed, sequenceFirst, sequenceFits, headersFit};
+ghost use Rattle.layers.specs.Headers.{opensHeaders, sameRate, sameParams, declares as declaresThem, sequenceFirst, sequenceFits, headersFit};
 ghost use Rattle.layers.specs.Layer.{sameKind, sameInterval, flagClear, codeSeven, padding, headerFits, slices, isExtension, layerCodes, layerFits};
 ghost use Rattle.layers.specs.Steps.{inSet};
 use bits::Bits;
@@ -120,7 +118,7 @@ fn sequence_first(headers: &[u8]) -> bool
 
 // Whether a frame rate code is that of the parameters.
 fn same_rate(params: VbvParams, code: u8) -> bool
-    ensures { λ r. ⌜ r ≡ sameRate params (frameRate code) ⌝ }
+    ensures { λ r. ⌜ r ≡ sameRate params code ⌝ }
 {
     match vbv::frame_rate_value(code) {
         FrameRate::Rate(frn, frd) => (frn == params.frn) & (frd == params.frd),
@@ -145,7 +143,7 @@ fn same_params(params: VbvParams, sequence: Mpeg2Sequence) -> bool
 
 // Whether the sequence that headers begin with declares the parameters.
 fn declares(headers: &[u8], params: VbvParams) -> bool
-    ensures { λ r. ⌜ r ≡ (parsed (sequenceIn (now (headers .entry)) .answer) && sameParams params (sequenceIn (now (headers .entry)) .sequence)) ⌝ }
+    ensures { λ r. ⌜ r ≡ declaresThem params (now (headers .entry)) ⌝ }
 {
     let read = Mpeg2Sequence::from_buf(headers);
     let answer = read.answer;
