@@ -2,7 +2,7 @@
 -- Assumes nothing.
 use mathlib.Core.Path.{_≡_, refl, sym, ap, _∙_}
 use mathlib.Core.List.{List, [], _∷_}
-use mathlib.Core.Bool.{Bool, true, false, _&&_}
+use mathlib.Core.Bool.{Bool, true, false, not, _&&_}
 use Prim.Native.Nat.{ℕ, zero, suc, _+_, _*_, _^_, _≤_, _<_, zero-le}
 use native.Mathlib.Numerals.{add-one}
 use native.Mathlib.Nat.{zero-add, add-zero}
@@ -12,9 +12,10 @@ use lib.ListN.{length, getD, drop, drop-of-length-le}
 use lib.Seq.{drop-cons}
 use borrow.Author.Tests.{le-leb, lt-leb, lt-ltb, leb-true, ltb-true}
 use Rattle.bits.specs.Bits.{pick}
+use Rattle.bits.specs.Refusals.{Answer, value, refused}
 use Rattle.bits.specs.Fields.{Field, field, obeys, fitsField, fitsAll, total}
-use Rattle.bits.specs.Answers.{greatest, tableOf, checkAnswer}
-use Rattle.bits.specs.declared.Checked.the-variants.{Width, Misfit}
+use Rattle.bits.specs.Answers.{greatest, tableOf, checkFields, checkedAnswer}
+use Rattle.bits.specs.declared.Checked.{Checked}
 use Rattle.bits.proofs.Reading.{both-true, fieldAt, table-at, table-room, obeys-is, obeys-true}
 
 -- values that fit a table, as a proposition
@@ -73,29 +74,33 @@ misfit-count (f ∷ fs) (v ∷ vs) n = rw (misfit-count fs vs (λ e. n (ap suc e
     and-false true = refl
     and-false false = refl
 
+-- a case of the answer, by what it tells
+pub checked-case : {r x : Checked} {a : Answer ℕ} → r ≡ x → checkedAnswer r ≡ a → checkedAnswer x ≡ a
+checked-case e f = rw (← e) f
+
 -- what the answer says
 module _ (fs : List Field) (vs : List ℕ) where
-  pub check-misfit : fitsAll fs vs ≡ false → Misfit ≡ checkAnswer fs vs
-  unfolding checkAnswer pick
+  pub check-misfit : fitsAll fs vs ≡ false → refused 16 0 0 0 ≡ checkFields fs vs
+  unfolding checkFields pick
   check-misfit e = rw e
 
-  pub check-width : (n : ℕ) → fitsAll fs vs ≡ true → total fs ≡ n → Width n ≡ checkAnswer fs vs
-  unfolding checkAnswer pick
+  pub check-width : (n : ℕ) → fitsAll fs vs ≡ true → total fs ≡ n → value n ≡ checkFields fs vs
+  unfolding checkFields pick
   check-width n e t = rw (e, t)
 
-  pub checked-width : {n : ℕ} → Width n ≡ checkAnswer fs vs → (fitsAll fs vs ≡ true) × (n ≡ total fs)
-  unfolding checkAnswer pick
+  pub checked-width : {n : ℕ} → value n ≡ checkFields fs vs → (fitsAll fs vs ≡ true) × (n ≡ total fs)
+  unfolding checkFields pick
   checked-width {n} e = case (fitsAll fs vs) e
     where
-      case : (b : Bool) → Width n ≡ pick b (Width (total fs)) Misfit → (b ≡ true) × (n ≡ total fs)
+      case : (b : Bool) → value n ≡ pick (not b) (refused 16 0 0 0) (value (total fs)) → (b ≡ true) × (n ≡ total fs)
       case true q = (refl, cc)
       case false q = ((cc), (cc))
 
-  pub checked-misfit : Misfit ≡ checkAnswer fs vs → fitsAll fs vs ≡ false
-  unfolding checkAnswer pick
+  pub checked-misfit : refused 16 0 0 0 ≡ checkFields fs vs → fitsAll fs vs ≡ false
+  unfolding checkFields pick
   checked-misfit e = case (fitsAll fs vs) e
     where
-      case : (b : Bool) → Misfit ≡ pick b (Width (total fs)) Misfit → b ≡ false
+      case : (b : Bool) → refused 16 0 0 0 ≡ pick (not b) (refused 16 0 0 0) (value (total fs)) → b ≡ false
       case true q = cc
       case false q = refl
 
@@ -131,7 +136,7 @@ module _ {t vs : List ℕ} {n k bits w : ℕ} (r : Checking t vs n k bits) (h : 
   next = r .fits-on ∙ rw (cons, drop-cons vs k 0 (omega arith), add-one k)
 
   pub checking-misfit : {f : Bool} → f ≡ fitsField (field w (getD t (3 * k + 1) 0) (greatest w (getD t (3 * k + 2) 0))) (getD vs k 0) → f ≡ false
-      → Misfit ≡ checkAnswer (tableOf 24 t) vs
+      → refused 16 0 0 0 ≡ checkFields (tableOf 24 t) vs
   checking-misfit p f = check-misfit (tableOf 24 t) vs (next ∙ rw (sym (rw e at p) ∙ f))
 
   pub checking-more : {f : Bool} → f ≡ fitsField (field w (getD t (3 * k + 1) 0) (greatest w (getD t (3 * k + 2) 0))) (getD vs k 0) → f ≡ true
@@ -148,7 +153,7 @@ module _ {t vs : List ℕ} {n k bits w : ℕ} (r : Checking t vs n k bits) (h : 
     bits-on = r .bits-on ∙ rw cons (omega arith);
   }
 
-pub checking-end : {t vs : List ℕ} {n k bits : ℕ} → Checking t vs n k bits → n ≤ k → Width bits ≡ checkAnswer (tableOf 24 t) vs
+pub checking-end : {t vs : List ℕ} {n k bits : ℕ} → Checking t vs n k bits → n ≤ k → value bits ≡ checkFields (tableOf 24 t) vs
 unfolding fitsAll total
 checking-end {t} {vs} {n} {k} {bits} r h =
     let a : drop k (tableOf 24 t) ≡ [] = drop-of-length-le (tableOf 24 t) {i = k} (omega arith) in

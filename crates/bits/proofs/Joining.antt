@@ -5,12 +5,12 @@ use mathlib.Core.List.{List, [], _∷_, _++_, append-assoc}
 use mathlib.Core.Bool.{true, _&&_, and-assoc}
 use Prim.Native.Nat.{ℕ, zero, suc, _+_, _*_, _/_, _≤_, zero-le}
 use native.Mathlib.Omega.{arith}
-use borrow.Author.Tests.{le-leb}
+use borrow.Author.Tests.{le-ltb}
 use lib.ListN.{length, replicate, length-append}
 use Rattle.bits.specs.Bits.{pick, digits, bitList, appendBits}
+use Rattle.bits.specs.Refusals.{value}
 use Rattle.bits.specs.Fields.{Field, any, fieldBits, writeHeader, fitsAll, total}
 use Rattle.bits.specs.Answers.{over, writeAnswer, writeResult}
-use Rattle.bits.specs.declared.Wrote.the-variants.{Bytes}
 use Rattle.bits.proofs.Laws.{bit-list-length}
 use Rattle.bits.proofs.Appending.{Below, below-append, bit-list-bound, append-append}
 use Rattle.bits.proofs.Checking.{Fits, fits-none, fits-more, fits-of, fits-length}
@@ -58,8 +58,8 @@ module _ (code : List ℕ) (fs : List Field) (vs out : List ℕ) where
 
   -- what is answered and left where the bytes are written
   pub write-over : {n : ℕ} {o : List ℕ} → length code ≡ 4 → fitsAll fs vs ≡ true → n ≡ 4 + (total fs + 7) / 8 → n ≤ length out
-      → o ≡ over (writeHeader code fs vs) out → (Bytes n ≡ writeAnswer code fs vs out) × (o ≡ writeResult code fs vs out)
+      → o ≡ over (writeHeader code fs vs) out → (value n ≡ writeAnswer code fs vs out) × (o ≡ writeResult code fs vs out)
   unfolding writeAnswer writeResult pick
   write-over {n} l e m h q =
       let t : length (writeHeader code fs vs) ≡ n = length-header code fs vs l (fits-length (fits-of fs vs e)) ∙ sym m in
-      (rw (e, t, le-leb _ _ h), q ∙ rw (e, t, le-leb _ _ h))
+      (rw (e, t, le-ltb _ _ h), q ∙ rw (e, t, le-ltb _ _ h))

@@ -1,7 +1,7 @@
 -- The loop of read_fields: what is known after k fields, and each way to go on.
 -- Assumes nothing.
 use mathlib.Core.Path.{_≡_, refl, sym, ap, _∙_}
-use mathlib.Core.List.{List, _∷_, append-nil}
+use mathlib.Core.List.{List, [], _∷_, append-nil}
 use mathlib.Core.Bool.{true, false}
 use Prim.Native.Nat.{ℕ, suc, _+_, _-_, _*_, _≤_, _<_, zero-le}
 use native.Mathlib.Numerals.{add-one}
@@ -9,11 +9,22 @@ use native.Mathlib.Omega.{arith}
 use lib.ListN.{length, getD, take, drop, set, replicate, length-set, take-append-drop, drop-of-length-le}
 use lib.Seq.{drop-cons, drop-set-lt, take-suc-set, length-take-le}
 use Rattle.bits.specs.Bits.{bitsAt, there}
-use Rattle.bits.specs.Fields.{field, after, obeys, readFields}
-use Rattle.bits.specs.Answers.{readBits, greatest, tableOf, places, noFields, fieldsAnswer}
-use Rattle.bits.specs.declared.Bits.the-variants.{Value, Short as NoBits}
+use Rattle.bits.specs.Refusals.{Answer, value, refused, orElse}
+use Rattle.bits.specs.Fields.{field, obeys, readFields}
+use Rattle.bits.specs.Answers.{readBits, greatest, tableOf, places, placed, noValues, fieldsAnswer}
+use Rattle.bits.specs.declared.Fields.{Fields}
 use Rattle.bits.specs.declared.Outcome.the-variants.{Done, Short, Bad}
-use Rattle.bits.proofs.Reading.{there-true, found, missed, fieldAt, table-room, table-at, after-none, after-after, read-short, read-bad, read-more, obeys-low, obeys-high, obeys-is}
+use Rattle.bits.proofs.Reading.{there-true, found, missed, fieldAt, table-room, table-at, after, after-none, after-after, read-short, read-bad, read-more, obeys-low, obeys-high, obeys-is}
+
+-- what the code answers of a table: its number, and the values or zeros
+abbrev Told : Fields → Answer (List ℕ) → Type 0
+Told r p = (fieldsAnswer r ≡ placed p) × (r .values ≡ orElse noValues (placed p))
+
+pub told-short : {r : Fields} (p : Answer (List ℕ)) → (r .outcome ≡ Short) × (r .values ≡ noValues) → p ≡ refused 1 0 0 0 → Told r p
+told-short p e q = (rw (q, e .0), rw q (e .1))
+
+pub told-bad : {r : Fields} (p : Answer (List ℕ)) → (r .outcome ≡ Bad) × (r .values ≡ noValues) → p ≡ refused 2 0 0 0 → Told r p
+told-bad p e q = (rw (q, e .0), rw q (e .1))
 
 -- a store at the first of the places that are left
 rest-more : (vs : List ℕ) (k v m : ℕ) → k < length vs → drop k vs ≡ replicate (suc m) 0 → drop (suc k) (set vs k v) ≡ replicate m 0
@@ -48,28 +59,26 @@ module _ {t s : List ℕ} {start n : ℕ} {vs : List ℕ} {k i w : ℕ} (r : Rea
   next : readFields (tableOf 24 t) s start ≡ after (take k vs) (readFields (fieldAt t k ∷ drop (suc k) (tableOf 24 t)) s i)
   next = r .progress ∙ rw (drop-cons (tableOf 24 t) k (field 0 0 0) (omega arith), table-at 24 t k (omega arith))
 
-  pub reading-short : NoBits ≡ readBits s i w → noFields Short ≡ fieldsAnswer (readFields (tableOf 24 t) s start)
-  unfolding fieldsAnswer after
+  pub reading-short : refused 1 0 0 0 ≡ readBits s i w → readFields (tableOf 24 t) s start ≡ refused 1 0 0 0
   reading-short m =
       rw (next, read-short (fieldAt t k) (drop (suc k) (tableOf 24 t)) s i (missed s i _ (m ∙ ap (readBits s i) e)))
 
-  module _ {v : ℕ} (f : Value v ≡ readBits s i w) where
-    value : (there s i (getD t (3 * k) 0) ≡ true) × (v ≡ bitsAt s i (getD t (3 * k) 0))
-    value = found s i (getD t (3 * k) 0) v (f ∙ ap (readBits s i) e)
+  module _ {v : ℕ} (f : value v ≡ readBits s i w) where
+    number-is : (there s i (getD t (3 * k) 0) ≡ true) × (v ≡ bitsAt s i (getD t (3 * k) 0))
+    number-is = found s i (getD t (3 * k) 0) v (f ∙ ap (readBits s i) e)
 
     pub reading-width : w ≤ 32
     reading-width = there-true s i w (found s i w v f .0) .0
 
-    broken : obeys (fieldAt t k) v ≡ false → noFields Bad ≡ fieldsAnswer (readFields (tableOf 24 t) s start)
-    unfolding fieldsAnswer after
+    broken : obeys (fieldAt t k) v ≡ false → readFields (tableOf 24 t) s start ≡ refused 2 0 0 0
     broken o =
-        rw (next, read-bad (fieldAt t k) (drop (suc k) (tableOf 24 t)) s i (value .0) (rw (← value .1) o))
+        rw (next, read-bad (fieldAt t k) (drop (suc k) (tableOf 24 t)) s i (number-is .0) (rw (← number-is .1) o))
 
-    pub reading-low : v < getD t (3 * k + 1) 0 → noFields Bad ≡ fieldsAnswer (readFields (tableOf 24 t) s start)
+    pub reading-low : v < getD t (3 * k + 1) 0 → readFields (tableOf 24 t) s start ≡ refused 2 0 0 0
     reading-low l = broken (obeys-low (fieldAt t k) v l)
 
     module _ (l : getD t (3 * k + 1) 0 ≤ v) where
-      pub reading-high : greatest w (getD t (3 * k + 2) 0) < v → noFields Bad ≡ fieldsAnswer (readFields (tableOf 24 t) s start)
+      pub reading-high : greatest w (getD t (3 * k + 2) 0) < v → readFields (tableOf 24 t) s start ≡ refused 2 0 0 0
       reading-high g = broken (obeys-high (fieldAt t k) v l (rw (← e) g))
 
       pub reading-more : v ≤ greatest w (getD t (3 * k + 2) 0) → w < 256 → Reading t s start n (set vs k v) (k + 1) (i + w)
@@ -85,13 +94,14 @@ module _ {t s : List ℕ} {start n : ℕ} {vs : List ℕ} {k i w : ℕ} (r : Rea
             rw (add-one k) (rest-more vs k v (24 - suc k) (omega arith) (rw d at (r .rest)));
         progress =
             let o = obeys-is (fieldAt t k) v l (rw (← e) g) in
-            next ∙ rw (read-more (fieldAt t k) (drop (suc k) (tableOf 24 t)) s i (value .0) (rw (← value .1) o), after-after, add-one k, take-suc-set vs k _ (omega arith), e, value .1);
+            next ∙ rw (read-more (fieldAt t k) (drop (suc k) (tableOf 24 t)) s i (number-is .0) (rw (← number-is .1) o), after-after (take k vs) (bitsAt s i (getD t (3 * k) 0) ∷ []) (readFields (drop (suc k) (tableOf 24 t)) s (i + getD t (3 * k) 0)), add-one k, take-suc-set vs k _ (omega arith), e, number-is .1);
       }
 
 pub reading-end : {t s : List ℕ} {start n : ℕ} {vs : List ℕ} {k i : ℕ} → Reading t s start n vs k i → n ≤ k
-    → record { outcome = Done; values = vs } ≡ fieldsAnswer (readFields (tableOf 24 t) s start)
-unfolding fieldsAnswer after places readFields
+    → Told (record { outcome = Done; values = vs }) (readFields (tableOf 24 t) s start)
+unfolding places readFields
 reading-end {t} {s} {start} {n} {vs} {k} {i} r h =
+    let x : placed (readFields (tableOf 24 t) s start) ≡ value vs =
     rw (
       r .progress,
       drop-of-length-le (tableOf 24 t) {i = k} (omega arith),
@@ -99,4 +109,5 @@ reading-end {t} {s} {start} {n} {vs} {k} {i} r h =
       length-take-le k vs (omega arith),
       ← r .rest,
       take-append-drop k vs,
-    )
+    ) in
+    (sym x, rw x)

@@ -2,22 +2,24 @@
 -- Assumes nothing.
 use mathlib.Core.Path.{_≡_, refl, sym, ap, _∙_}
 use mathlib.Core.List.{List, [], _∷_, _++_, append-assoc}
-use mathlib.Core.Bool.{Bool, true, false, _&&_}
+use mathlib.Core.Bool.{Bool, true, false, not, _&&_}
 use Prim.Native.Nat.{ℕ, zero, suc, _+_, _-_, _*_, _/_, _^_, _≤_, _<_, zero-le}
 use native.Mathlib.Nat.{add-assoc, add-zero}
 use native.Mathlib.Omega.{arith}
-use lib.Dec.{leb, eqb}
+use lib.Dec.{leb, ltb, eqb}
 use lib.ListN.{length, getD, take, drop, replicate, length-append, length-drop}
 use lib.Seq.{take-suc, take-all, take-append-le}
-use borrow.Author.Tests.{le-leb, lt-leb, leb-true, leb-false, eqb-true, eq-eqb}
+use borrow.Author.Tests.{le-leb, lt-leb, le-ltb, lt-ltb, leb-true, ltb-true, ltb-false, eqb-true, eq-eqb}
 use Rattle.bits.specs.Bits.{pick, bitsAt, there}
-use Rattle.bits.specs.Fields.{Field, field, any, Parsed, short, bad, got, after, obeys, readFields, sameBytes, readHeader, total}
-use Rattle.bits.specs.Answers.{readBits, greatest, tableOf, places, noFields, fieldsAnswer}
-use Rattle.bits.proofs.Flags.{and-left, and-right}
+use Rattle.bits.specs.Refusals.{Answer, value, refused, andThen, number}
+use Rattle.bits.specs.Fields.{Field, field, any, obeys, readFields, sameBytes, readHeader, total}
+use Rattle.bits.specs.Answers.{readBits, bitsAnswer, greatest, tableOf, places, placed, outcomeAnswer, fieldsAnswer}
+use Rattle.bits.proofs.Flags.{and-left, and-right, pick-elim}
 use Rattle.bits.proofs.Laws.{bits-bound, bits-append, bits-drop}
 use Rattle.bits.specs.declared.Bits.{Bits}
 use Rattle.bits.specs.declared.Bits.the-variants.{Value, Short as NoBits}
 use Rattle.bits.specs.declared.Fields.{Fields}
+use Rattle.bits.specs.declared.Outcome.{Outcome}
 use Rattle.bits.specs.declared.Outcome.the-variants.{Done, Short, Bad}
 
 pub both-true : (a b : Bool) → a && b ≡ true → (a ≡ true) × (b ≡ true)
@@ -35,25 +37,39 @@ module _ (s : List ℕ) (i n : ℕ) where
       let b = both-true (leb n 32) (leb (i + n) (8 * length s)) e in
       (leb-true _ _ (b .0), leb-true _ _ (b .1))
 
--- what a read says of the bits
-pub found : (s : List ℕ) (i n v : ℕ) → Value v ≡ readBits s i n → (there s i n ≡ true) × (v ≡ bitsAt s i n)
-unfolding readBits pick
-found s i n v e = case (there s i n) (bitsAt s i n) e
-  where
-    case : (b : Bool) (x : ℕ) → Value v ≡ pick b (Value x) NoBits → (b ≡ true) × (v ≡ x)
-    case true x q = (refl, cc)
-    case false x q = ((cc), (cc))
+-- what a read of bits finds: they are not there, or the number in them
+pub data Bit (s : List ℕ) (i n : ℕ) : Answer ℕ → Type 0 where
+  absent : there s i n ≡ false → Bit s i n (refused 1 0 0 0)
+  present : there s i n ≡ true → Bit s i n (value (bitsAt s i n))
 
-pub found-bound : (s : List ℕ) (i n v : ℕ) → Value v ≡ readBits s i n → v < 2 ^ n
+pub bits-seen : (s : List ℕ) (i n : ℕ) → Bit s i n (readBits s i n)
+unfolding readBits pick
+bits-seen s i n = case (there s i n) refl
+  where
+    case : (b : Bool) → there s i n ≡ b → Bit s i n (readBits s i n)
+    case true e = rw e (present e)
+    case false e = rw e (absent e)
+
+pub found : (s : List ℕ) (i n v : ℕ) → value v ≡ readBits s i n → (there s i n ≡ true) × (v ≡ bitsAt s i n)
+found s i n v e = case (bits-seen s i n) e
+  where
+    case : {a : Answer ℕ} → Bit s i n a → value v ≡ a → (there s i n ≡ true) × (v ≡ bitsAt s i n)
+    case (absent t) q = ((cc), (cc))
+    case (present t) q = (t, cc)
+
+pub found-bound : (s : List ℕ) (i n v : ℕ) → value v ≡ readBits s i n → v < 2 ^ n
 found-bound s i n v e = rw (found s i n v e .1) (bits-bound s i n)
 
-pub missed : (s : List ℕ) (i n : ℕ) → NoBits ≡ readBits s i n → there s i n ≡ false
-unfolding readBits pick
-missed s i n e = case (there s i n) (bitsAt s i n) e
+pub missed : (s : List ℕ) (i n : ℕ) → refused 1 0 0 0 ≡ readBits s i n → there s i n ≡ false
+missed s i n e = case (bits-seen s i n) e
   where
-    case : (b : Bool) (x : ℕ) → NoBits ≡ pick b (Value x) NoBits → b ≡ false
-    case true x q = cc
-    case false x q = refl
+    case : {a : Answer ℕ} → Bit s i n a → refused 1 0 0 0 ≡ a → there s i n ≡ false
+    case (absent t) q = t
+    case (present t) q = cc
+
+-- a case of the answer, by what it tells
+pub bits-case : {r x : Bits} {a : Answer ℕ} → r ≡ x → bitsAnswer r ≡ a → bitsAnswer x ≡ a
+bits-case e f = rw (← e) f
 
 -- the greatest value of a field
 pub greatest-none : (w : ℕ) → greatest w 0 ≡ 2 ^ w - 1
@@ -102,42 +118,29 @@ table-at (suc n) (w ∷ l ∷ m ∷ t) (suc k) h =
     rw (b, d, a) (table-at n t k (omega arith))
 
 -- values before others
-pub after-none : (p : Parsed) → after [] p ≡ p
-unfolding after
-after-none short = refl
-after-none bad = refl
-after-none (got vs) = refl
+abbrev pub after : List ℕ → Answer (List ℕ) → Answer (List ℕ)
+after vs a = andThen a (λ ws. value (vs ++ ws))
 
-pub after-after : (a b : List ℕ) (p : Parsed) → after a (after b p) ≡ after (a ++ b) p
-unfolding after
-after-after a b short = refl
-after-after a b bad = refl
-after-after a b (got vs) = ap got (sym (append-assoc a b vs))
+pub after-none : (a : Answer (List ℕ)) → after [] a ≡ a
+after-none (value vs) = refl
+after-none (refused n p c e) = refl
 
-pub after-short : (vs : List ℕ) → after vs short ≡ short
-unfolding after
-after-short vs = refl
-
-pub after-bad : (vs : List ℕ) → after vs bad ≡ bad
-unfolding after
-after-bad vs = refl
-
-pub after-got : (vs ws : List ℕ) → after vs (got ws) ≡ got (vs ++ ws)
-unfolding after
-after-got vs ws = refl
+pub after-after : (us vs : List ℕ) (a : Answer (List ℕ)) → after us (after vs a) ≡ after (us ++ vs) a
+after-after us vs (value ws) = ap value (sym (append-assoc us vs ws))
+after-after us vs (refused n p c e) = refl
 
 -- no fields are left
-pub read-none : (s : List ℕ) (i : ℕ) → readFields [] s i ≡ got []
+pub read-none : (s : List ℕ) (i : ℕ) → readFields [] s i ≡ value []
 unfolding readFields
 read-none s i = refl
 
 -- the three ways that reading a field goes
 module _ (f : Field) (fs : List Field) (s : List ℕ) (i : ℕ) where
-  pub read-short : there s i (f .width) ≡ false → readFields (f ∷ fs) s i ≡ short
+  pub read-short : there s i (f .width) ≡ false → readFields (f ∷ fs) s i ≡ refused 1 0 0 0
   unfolding readFields pick
   read-short e = rw e
 
-  pub read-bad : there s i (f .width) ≡ true → obeys f (bitsAt s i (f .width)) ≡ false → readFields (f ∷ fs) s i ≡ bad
+  pub read-bad : there s i (f .width) ≡ true → obeys f (bitsAt s i (f .width)) ≡ false → readFields (f ∷ fs) s i ≡ refused 2 0 0 0
   unfolding readFields pick
   read-bad e o = rw (e, o)
 
@@ -168,58 +171,76 @@ module _ (f : Field) (v : ℕ) where
 
 -- a field of any value, after a read of its bits
 module _ (w : ℕ) (fs : List Field) (s : List ℕ) (i : ℕ) where
-  pub any-missed : NoBits ≡ readBits s i w → readFields (any w ∷ fs) s i ≡ short
+  pub any-missed : refused 1 0 0 0 ≡ readBits s i w → readFields (any w ∷ fs) s i ≡ refused 1 0 0 0
   any-missed e = read-short (any w) fs s i (missed s i w e)
 
-  pub any-found : (v : ℕ) → Value v ≡ readBits s i w → readFields (any w ∷ fs) s i ≡ after (v ∷ []) (readFields fs s (i + w))
+  pub any-found : (v : ℕ) → value v ≡ readBits s i w → readFields (any w ∷ fs) s i ≡ after (v ∷ []) (readFields fs s (i + w))
   any-found v e =
       let f = found s i w v e in
       read-more (any w) fs s i (f .0) (obeys-is (any w) (bitsAt s i w) zero-le (omega (arith, bits-bound s i w)))
       ∙ rw (f .1)
 
--- so no rule is broken where there is none
-pub never-bad : (n w : ℕ) (s : List ℕ) (i : ℕ) → readFields (replicate n (any w)) s i ≡ bad → ⊥
+-- what reading a table finds: bits that end in it, a rule broken, or the values
+pub data Seen : Answer (List ℕ) → Type 0 where
+  cut : Seen (refused 1 0 0 0)
+  broken : Seen (refused 2 0 0 0)
+  whole : (vs : List ℕ) → Seen (value vs)
+
+seen-after : {a : Answer (List ℕ)} (us : List ℕ) → Seen a → Seen (after us a)
+seen-after us cut = cut
+seen-after us broken = broken
+seen-after us (whole vs) = whole (us ++ vs)
+
+pub fields-seen : (fs : List Field) (s : List ℕ) (i : ℕ) → Seen (readFields fs s i)
+unfolding readFields
+fields-seen [] s i = whole []
+fields-seen (f ∷ fs) s i =
+    pick-elim Seen (not (there s i (f .width))) (λ t. cut)
+    (λ t. pick-elim Seen (not (obeys f (bitsAt s i (f .width)))) (λ o. broken)
+    (λ o. seen-after (bitsAt s i (f .width) ∷ []) (fields-seen fs s (i + f .width))))
+
+-- no rule is broken where there is none
+pub never-bad : (n w : ℕ) (s : List ℕ) (i : ℕ) → readFields (replicate n (any w)) s i ≡ refused 2 0 0 0 → ⊥
 never-bad zero w s i e = let z : _≡_ {A = ℕ} 0 1 = cc (read-none s i) in omega arith
-never-bad (suc n) w s i e = case (readBits s i w) refl (readFields (replicate n (any w)) s (i + w)) refl (never-bad n w s (i + w))
+never-bad (suc n) w s i e = case (bits-seen s i w) refl (fields-seen (replicate n (any w)) s (i + w)) refl (never-bad n w s (i + w))
   where
-    case : (b : Bits) → b ≡ readBits s i w → (p : Parsed) → readFields (replicate n (any w)) s (i + w) ≡ p
-        → (readFields (replicate n (any w)) s (i + w) ≡ bad → ⊥) → ⊥
-    case NoBits b p q r = let z : _≡_ {A = ℕ} 0 1 = cc (any-missed w (replicate n (any w)) s i b) in omega arith
-    case (Value v) b short q r = let z : _≡_ {A = ℕ} 0 1 = cc (any-found w (replicate n (any w)) s i v b, after-short (v ∷ [])) in omega arith
-    case (Value v) b bad q r = r q
-    case (Value v) b (got vs) q r = let z : _≡_ {A = ℕ} 0 1 = cc (any-found w (replicate n (any w)) s i v b, after-got (v ∷ []) vs) in omega arith
+    case : {b : Answer ℕ} → Bit s i w b → b ≡ readBits s i w → {p : Answer (List ℕ)} → Seen p → readFields (replicate n (any w)) s (i + w) ≡ p
+        → (readFields (replicate n (any w)) s (i + w) ≡ refused 2 0 0 0 → ⊥) → ⊥
+    case (absent t) b p q r = let z = ap number (sym (any-missed w (replicate n (any w)) s i b) ∙ e) in omega arith
+    case (present t) b cut q r = let z = ap number (sym (any-found w (replicate n (any w)) s i _ b ∙ ap (after (bitsAt s i w ∷ [])) q) ∙ e) in omega arith
+    case (present t) b broken q r = r q
+    case (present t) b (whole vs) q r = let z = ap number (sym (any-found w (replicate n (any w)) s i _ b ∙ ap (after (bitsAt s i w ∷ [])) q) ∙ e) in omega arith
 
 -- what a table that was read says of its first field
 pub record Step (f : Field) (fs : List Field) (s : List ℕ) (i : ℕ) (vs : List ℕ) : Type 0 where
   pub rest : List ℕ
   pub is-there : there s i (f .width) ≡ true
   pub obeyed : obeys f (bitsAt s i (f .width)) ≡ true
-  pub then : readFields fs s (i + f .width) ≡ got rest
+  pub then : readFields fs s (i + f .width) ≡ value rest
   pub all : vs ≡ bitsAt s i (f .width) ∷ rest
 
-pub step : (f : Field) (fs : List Field) (s : List ℕ) (i : ℕ) (vs : List ℕ) → readFields (f ∷ fs) s i ≡ got vs → Step f fs s i vs
-unfolding readFields pick after
+pub step : (f : Field) (fs : List Field) (s : List ℕ) (i : ℕ) (vs : List ℕ) → readFields (f ∷ fs) s i ≡ value vs → Step f fs s i vs
+unfolding readFields pick
 step f fs s i vs e = case (there s i (f .width)) (obeys f (bitsAt s i (f .width))) (readFields fs s (i + f .width)) refl refl refl e
   where
-    case : (b o : Bool) (p : Parsed) → there s i (f .width) ≡ b → obeys f (bitsAt s i (f .width)) ≡ o
+    case : (b o : Bool) (p : Answer (List ℕ)) → there s i (f .width) ≡ b → obeys f (bitsAt s i (f .width)) ≡ o
         → readFields fs s (i + f .width) ≡ p
-        → pick b (pick o (after (bitsAt s i (f .width) ∷ []) p) bad) short ≡ got vs → Step f fs s i vs
-    case true true (got ws) t u r q = record { rest = ws; is-there = t; obeyed = u; then = r; all = cc }
-    case true true short t u r q = record { rest = []; is-there = t; obeyed = u; then = cc; all = cc }
-    case true true bad t u r q = record { rest = []; is-there = t; obeyed = u; then = cc; all = cc }
+        → pick (not b) (refused 1 0 0 0) (pick (not o) (refused 2 0 0 0) (after (bitsAt s i (f .width) ∷ []) p)) ≡ value vs → Step f fs s i vs
+    case true true (value ws) t u r q = record { rest = ws; is-there = t; obeyed = u; then = r; all = cc }
+    case true true (refused n p c x) t u r q = record { rest = []; is-there = t; obeyed = u; then = cc; all = cc }
     case true false p t u r q = record { rest = []; is-there = t; obeyed = cc; then = cc; all = cc }
     case false o p t u r q = record { rest = []; is-there = cc; obeyed = cc; then = cc; all = cc }
 
 -- and the first value is the number in its bits
-pub first-found : (f : Field) (fs : List Field) (s : List ℕ) (i : ℕ) (vs : List ℕ) → readFields (f ∷ fs) s i ≡ got vs
-    → Value (getD vs 0 0) ≡ readBits s i (f .width)
+pub first-found : (f : Field) (fs : List Field) (s : List ℕ) (i : ℕ) (vs : List ℕ) → readFields (f ∷ fs) s i ≡ value vs
+    → value (getD vs 0 0) ≡ readBits s i (f .width)
 unfolding readBits pick
 first-found f fs s i vs e =
     let t = step f fs s i vs e in
     rw (t .is-there, t .all)
 
 -- as many values as fields
-pub read-length : (fs : List Field) (s : List ℕ) (i : ℕ) (vs : List ℕ) → readFields fs s i ≡ got vs → length vs ≡ length fs
+pub read-length : (fs : List Field) (s : List ℕ) (i : ℕ) (vs : List ℕ) → readFields fs s i ≡ value vs → length vs ≡ length fs
 unfolding readFields
 read-length [] s i [] e = refl
 read-length [] s i (v ∷ vs) e = cc
@@ -245,7 +266,7 @@ total-same (suc n) f = omega (arith, total-same n f)
 abbrev pub InRange : List Field → List ℕ → Type 0
 InRange fs vs = (k : ℕ) → (getD fs k (field 0 0 0) .low ≤ getD vs k 0) × (getD vs k 0 ≤ getD fs k (field 0 0 0) .high)
 
-pub read-range : (fs : List Field) (s : List ℕ) (i : ℕ) (vs : List ℕ) → readFields fs s i ≡ got vs → InRange fs vs
+pub read-range : (fs : List Field) (s : List ℕ) (i : ℕ) (vs : List ℕ) → readFields fs s i ≡ value vs → InRange fs vs
 unfolding readFields
 read-range [] s i [] e k = (zero-le, zero-le)
 read-range [] s i (v ∷ vs) e k = let z : _≡_ {A = ℕ} 0 1 = cc in omega arith
@@ -256,7 +277,7 @@ read-range (f ∷ fs) s i vs e (suc k) =
     let t = step f fs s i vs e in
     rw (t .all) (read-range fs s (i + f .width) (t .rest) (t .then) k)
 
-module _ (fs : List Field) (s : List ℕ) (i : ℕ) (vs : List ℕ) (e : readFields fs s i ≡ got vs) (k : ℕ) where
+module _ (fs : List Field) (s : List ℕ) (i : ℕ) (vs : List ℕ) (e : readFields fs s i ≡ value vs) (k : ℕ) where
   pub read-above : getD fs k (field 0 0 0) .low ≤ getD vs k 0
   read-above = read-range fs s i vs e k .0
 
@@ -298,8 +319,8 @@ there-append s t i n e =
     let b = there-true s i n e in
     there-is (s ++ t) i n (b .0) (omega (arith, b .1, length-append s t))
 
-pub read-append : (fs : List Field) (s t : List ℕ) (i : ℕ) → (readFields fs s i ≡ short → ⊥) → readFields fs (s ++ t) i ≡ readFields fs s i
-unfolding readFields pick after
+pub read-append : (fs : List Field) (s t : List ℕ) (i : ℕ) → (readFields fs s i ≡ refused 1 0 0 0 → ⊥) → readFields fs (s ++ t) i ≡ readFields fs s i
+unfolding readFields pick
 read-append [] s t i h = refl
 read-append (f ∷ fs) s t i h =
     case (there s i (f .width)) (obeys f (bitsAt s i (f .width))) refl refl (read-append fs s t (i + f .width))
@@ -308,55 +329,47 @@ read-append (f ∷ fs) s t i h =
     same e = bits-append s t i (f .width) (there-true s i (f .width) e .1)
 
     case : (b o : Bool) → there s i (f .width) ≡ b → obeys f (bitsAt s i (f .width)) ≡ o
-        → ((readFields fs s (i + f .width) ≡ short → ⊥) → readFields fs (s ++ t) (i + f .width) ≡ readFields fs s (i + f .width))
+        → ((readFields fs s (i + f .width) ≡ refused 1 0 0 0 → ⊥) → readFields fs (s ++ t) (i + f .width) ≡ readFields fs s (i + f .width))
         → readFields (f ∷ fs) (s ++ t) i ≡ readFields (f ∷ fs) s i
     case false o e u r = absurd (h (rw e))
     case true false e u r = rw (there-append s t i (f .width) e, e, same e, u)
     case true true e u r = rw (there-append s t i (f .width) e, e, same e, u, r (λ z. h (rw (e, u, z))))
 
 -- so what is short with more behind it is short
-cut : (p q : Parsed) → ((p ≡ short → ⊥) → q ≡ p) → q ≡ short → p ≡ short
-cut short q f e = refl
-cut bad q f e = sym (f (λ z. let n : _≡_ {A = ℕ} 0 1 = cc in omega arith)) ∙ e
-cut (got vs) q f e = sym (f (λ z. let n : _≡_ {A = ℕ} 0 1 = cc in omega arith)) ∙ e
-
--- what follows a read, at the bit behind it
-unfoldable pub followed : Parsed → (List ℕ → Parsed) → Parsed
-followed short g = short
-followed bad g = bad
-followed (got vs) g = g vs
+short-cut : {p : Answer (List ℕ)} → Seen p → (q : Answer (List ℕ)) → ((p ≡ refused 1 0 0 0 → ⊥) → q ≡ p) → q ≡ refused 1 0 0 0 → p ≡ refused 1 0 0 0
+short-cut cut q f e = refl
+short-cut broken q f e = sym (f (λ z. let n = ap number z in omega arith)) ∙ e
+short-cut (whole vs) q f e = sym (f (λ z. let n = ap number z in omega arith)) ∙ e
 
 -- two tables end to end: the second is read where the first ends
 pub read-join : (fs gs : List Field) (s : List ℕ) (i : ℕ)
-    → readFields (fs ++ gs) s i ≡ followed (readFields fs s i) (λ vs. after vs (readFields gs s (i + total fs)))
-unfolding readFields total followed pick after
+    → readFields (fs ++ gs) s i ≡ andThen (readFields fs s i) (λ vs. after vs (readFields gs s (i + total fs)))
+unfolding readFields total pick
 read-join [] gs s i = rw (add-zero i) (sym (after-none _))
 read-join (f ∷ fs) gs s i =
     case (there s i (f .width)) (obeys f (bitsAt s i (f .width))) (readFields fs s (i + f .width)) refl refl refl
     (read-join fs gs s (i + f .width))
   where
-    case : (b o : Bool) (p : Parsed) → there s i (f .width) ≡ b → obeys f (bitsAt s i (f .width)) ≡ o
+    case : (b o : Bool) (p : Answer (List ℕ)) → there s i (f .width) ≡ b → obeys f (bitsAt s i (f .width)) ≡ o
         → readFields fs s (i + f .width) ≡ p
         → readFields (fs ++ gs) s (i + f .width)
-        ≡ followed (readFields fs s (i + f .width)) (λ vs. after vs (readFields gs s (i + f .width + total fs)))
+        ≡ andThen (readFields fs s (i + f .width)) (λ vs. after vs (readFields gs s (i + f .width + total fs)))
         → readFields (f ∷ (fs ++ gs)) s i
-        ≡ followed (readFields (f ∷ fs) s i) (λ vs. after vs (readFields gs s (i + (f .width + total fs))))
+        ≡ andThen (readFields (f ∷ fs) s i) (λ vs. after vs (readFields gs s (i + (f .width + total fs))))
     case false o p e u q r = rw e
     case true false p e u q r = rw (e, u)
-    case true true short e u q r = rw (e, u, r, q)
-    case true true bad e u q r = rw (e, u, r, q)
-    case true true (got vs) e u q r =
+    case true true (refused n k c x) e u q r = rw (e, u, r, q)
+    case true true (value vs) e u q r =
         rw (e, u, r, q, ← add-assoc i (f .width) (total fs))
         (after-after (bitsAt s i (f .width) ∷ []) vs (readFields gs s (i + f .width + total fs)))
 
-pub read-both : (fs gs : List Field) (s : List ℕ) (i : ℕ) (vs ws : List ℕ) → readFields fs s i ≡ got vs → readFields gs s (i + total fs) ≡ got ws
-    → readFields (fs ++ gs) s i ≡ got (vs ++ ws)
-unfolding followed after
+pub read-both : (fs gs : List Field) (s : List ℕ) (i : ℕ) (vs ws : List ℕ) → readFields fs s i ≡ value vs → readFields gs s (i + total fs) ≡ value ws
+    → readFields (fs ++ gs) s i ≡ value (vs ++ ws)
 read-both fs gs s i vs ws e f = read-join fs gs s i ∙ rw (e, f)
 
-pub read-split : (fs gs : List Field) (s : List ℕ) (i : ℕ) (vs ws : List ℕ) → length vs ≡ length fs → readFields (fs ++ gs) s i ≡ got (vs ++ ws)
-    → (readFields fs s i ≡ got vs) × (readFields gs s (i + total fs) ≡ got ws)
-unfolding readFields total after
+pub read-split : (fs gs : List Field) (s : List ℕ) (i : ℕ) (vs ws : List ℕ) → length vs ≡ length fs → readFields (fs ++ gs) s i ≡ value (vs ++ ws)
+    → (readFields fs s i ≡ value vs) × (readFields gs s (i + total fs) ≡ value ws)
+unfolding readFields total
 read-split [] gs s i [] ws l e = (refl, rw add-zero e)
 read-split [] gs s i (v ∷ vs) ws l e = absurd (omega arith)
 read-split (f ∷ fs) gs s i [] ws l e = absurd (omega arith)
@@ -364,7 +377,7 @@ read-split (f ∷ fs) gs s i (v ∷ vs) ws l e =
     let t = step f (fs ++ gs) s i (v ∷ (vs ++ ws)) e in
     let x : v ≡ bitsAt s i (f .width) = cc in
     let y : t .rest ≡ vs ++ ws = cc in
-    let r = read-split fs gs s (i + f .width) vs ws (omega arith) (t .then ∙ ap got y) in
+    let r = read-split fs gs s (i + f .width) vs ws (omega arith) (t .then ∙ ap value y) in
     (read-more f fs s i (t .is-there) (t .obeyed) ∙ rw (r .0, x), rw (← add-assoc) (r .1))
 
 -- four bytes, one by one
@@ -373,17 +386,17 @@ four s h = rw (take-suc s 3 0 (omega arith), take-suc s 2 0 (omega arith), take-
 
 -- the three ways that reading a header goes
 module _ (code : List ℕ) (fs : List Field) (s : List ℕ) where
-  pub header-short : length s < 4 → readHeader code fs s ≡ short
+  pub header-short : length s < 4 → readHeader code fs s ≡ refused 1 0 0 0
   unfolding readHeader pick
-  header-short h = rw (lt-leb 4 (length s) h)
+  header-short h = rw (lt-ltb (length s) 4 h)
 
-  pub header-bad : 4 ≤ length s → sameBytes (take 4 s) code ≡ false → readHeader code fs s ≡ bad
+  pub header-bad : 4 ≤ length s → sameBytes (take 4 s) code ≡ false → readHeader code fs s ≡ refused 2 0 0 0
   unfolding readHeader pick
-  header-bad h e = rw (le-leb 4 (length s) h, e)
+  header-bad h e = rw (le-ltb (length s) 4 h, e)
 
   pub header-more : 4 ≤ length s → sameBytes (take 4 s) code ≡ true → readHeader code fs s ≡ readFields fs s 32
   unfolding readHeader pick
-  header-more h e = rw (le-leb 4 (length s) h, e)
+  header-more h e = rw (le-ltb (length s) 4 h, e)
 
 -- bytes that are the same, and what a header that was read says
 pub same-bytes : (a b : List ℕ) → sameBytes a b ≡ true → a ≡ b
@@ -418,41 +431,47 @@ same-not a b n = case (sameBytes a b) refl
 pub record HeaderRead (code : List ℕ) (fs : List Field) (s vs : List ℕ) : Type 0 where
   pub long : 4 ≤ length s
   pub code-first : take 4 s ≡ code
-  pub fields-read : readFields fs s 32 ≡ got vs
+  pub fields-read : readFields fs s 32 ≡ value vs
 
-pub header-got : (code : List ℕ) (fs : List Field) (s vs : List ℕ) → readHeader code fs s ≡ got vs → HeaderRead code fs s vs
+pub header-got : (code : List ℕ) (fs : List Field) (s vs : List ℕ) → readHeader code fs s ≡ value vs → HeaderRead code fs s vs
 unfolding readHeader pick
-header-got code fs s vs e = case (leb 4 (length s)) (sameBytes (take 4 s) code) refl refl e
+header-got code fs s vs e = case (ltb (length s) 4) (sameBytes (take 4 s) code) refl refl e
   where
-    case : (b o : Bool) → leb 4 (length s) ≡ b → sameBytes (take 4 s) code ≡ o
-        → pick b (pick o (readFields fs s 32) bad) short ≡ got vs → HeaderRead code fs s vs
-    case true true l t q = record { long = leb-true _ _ l; code-first = same-bytes (take 4 s) code t; fields-read = q }
-    case true false l t q = record { long = leb-true _ _ l; code-first = cc; fields-read = cc }
-    case false o l t q = record { long = let z : _≡_ {A = ℕ} 0 1 = cc in omega arith; code-first = cc; fields-read = cc }
+    case : (b o : Bool) → ltb (length s) 4 ≡ b → sameBytes (take 4 s) code ≡ o
+        → pick b (refused 1 0 0 0) (pick (not o) (refused 2 0 0 0) (readFields fs s 32)) ≡ value vs → HeaderRead code fs s vs
+    case false true l t q = record { long = ltb-false _ _ l; code-first = same-bytes (take 4 s) code t; fields-read = q }
+    case false false l t q = record { long = ltb-false _ _ l; code-first = cc; fields-read = cc }
+    case true o l t q = record { long = let z : _≡_ {A = ℕ} 0 1 = cc in omega arith; code-first = cc; fields-read = cc }
 
-pub header-of : {code : List ℕ} {fs : List Field} {s vs : List ℕ} → HeaderRead code fs s vs → readHeader code fs s ≡ got vs
+pub header-of : {code : List ℕ} {fs : List Field} {s vs : List ℕ} → HeaderRead code fs s vs → readHeader code fs s ≡ value vs
 header-of {code} {fs} {s} {vs} r = header-more code fs s (r .long) (rw (r .code-first) (same-self code)) ∙ r .fields-read
 
 -- more behind a header does not matter, unless it is too short
-pub header-append : (code : List ℕ) (fs : List Field) (s t : List ℕ) → (readHeader code fs s ≡ short → ⊥)
+pub header-append : (code : List ℕ) (fs : List Field) (s t : List ℕ) → (readHeader code fs s ≡ refused 1 0 0 0 → ⊥)
     → readHeader code fs (s ++ t) ≡ readHeader code fs s
-header-append code fs s t h = case (leb 4 (length s)) (sameBytes (take 4 s) code) refl refl
+header-append code fs s t h = case (ltb (length s) 4) (sameBytes (take 4 s) code) refl refl
   where
     more : 4 ≤ length s → 4 ≤ length (s ++ t)
     more a = omega (arith, length-append s t)
 
-    case : (b o : Bool) → leb 4 (length s) ≡ b → sameBytes (take 4 s) code ≡ o → readHeader code fs (s ++ t) ≡ readHeader code fs s
-    case false o l e = absurd (h (header-short code fs s (leb-false _ _ l)))
-    case true false l e =
-        let a : 4 ≤ length s = leb-true _ _ l in
+    case : (b o : Bool) → ltb (length s) 4 ≡ b → sameBytes (take 4 s) code ≡ o → readHeader code fs (s ++ t) ≡ readHeader code fs s
+    case true o l e = absurd (h (header-short code fs s (ltb-true _ _ l)))
+    case false false l e =
+        let a : 4 ≤ length s = ltb-false _ _ l in
         header-bad code fs (s ++ t) (more a) (rw (take-append-le 4 s t a) e) ∙ sym (header-bad code fs s a e)
-    case true true l e =
-        let a : 4 ≤ length s = leb-true _ _ l in
+    case false true l e =
+        let a : 4 ≤ length s = ltb-false _ _ l in
         let m = header-more code fs s a e in
         header-more code fs (s ++ t) (more a) (rw (take-append-le 4 s t a) e) ∙ read-append fs s t 32 (λ z. h (m ∙ z)) ∙ sym m
 
-pub header-short-cut : (code : List ℕ) (fs : List Field) (s t : List ℕ) → readHeader code fs (s ++ t) ≡ short → readHeader code fs s ≡ short
-header-short-cut code fs s t = cut (readHeader code fs s) (readHeader code fs (s ++ t)) (header-append code fs s t)
+pub header-seen : (code : List ℕ) (fs : List Field) (s : List ℕ) → Seen (readHeader code fs s)
+unfolding readHeader
+header-seen code fs s =
+    pick-elim Seen (ltb (length s) 4) (λ t. cut) (λ t. pick-elim Seen (not (sameBytes (take 4 s) code)) (λ o. broken) (λ o. fields-seen fs s 32))
+
+pub header-short-cut : (code : List ℕ) (fs : List Field) (s t : List ℕ) → readHeader code fs (s ++ t) ≡ refused 1 0 0 0
+    → readHeader code fs s ≡ refused 1 0 0 0
+header-short-cut code fs s t = short-cut (header-seen code fs s) (readHeader code fs (s ++ t)) (header-append code fs s t)
 
 -- the values in 24 places, each where it was
 pub places-at : (vs : List ℕ) (k : ℕ) → getD (places vs) k 0 ≡ getD vs k 0
@@ -470,36 +489,33 @@ places-at vs k = zeros vs (24 - length vs) k
     zeros (u ∷ us) n (suc j) = zeros us n j
 
 -- what the answer says of the table
-pub answer-short : (r : Fields) (p : Parsed) → r ≡ fieldsAnswer p → r .outcome ≡ Short → p ≡ short
-unfolding fieldsAnswer noFields
-answer-short r short e o = refl
-answer-short r bad e o = cc
-answer-short r (got vs) e o = cc
+answer-is : (r : Fields) {o : Outcome} (p : Answer (List ℕ)) → fieldsAnswer r ≡ placed p → r .outcome ≡ o → outcomeAnswer o (r .values) ≡ placed p
+answer-is r p e o = rw (← o) e
 
-pub answer-bad : (r : Fields) (p : Parsed) → r ≡ fieldsAnswer p → r .outcome ≡ Bad → p ≡ bad
-unfolding fieldsAnswer noFields
-answer-bad r short e o = cc
-answer-bad r bad e o = refl
-answer-bad r (got vs) e o = cc
+pub answer-short : (r : Fields) (p : Answer (List ℕ)) → fieldsAnswer r ≡ placed p → r .outcome ≡ Short → p ≡ refused 1 0 0 0
+answer-short r (value vs) e o = let z = ap number (answer-is r (value vs) e o) in absurd (omega arith)
+answer-short r (refused n k c x) e o = sym (answer-is r (refused n k c x) e o)
 
-pub answer-done : (r : Fields) (p : Parsed) → r ≡ fieldsAnswer p → r .outcome ≡ Done
-    → (vs : List ℕ) × (p ≡ got vs) × (r .values ≡ places vs)
-unfolding fieldsAnswer noFields
-answer-done r short e o = ([], (cc), (cc))
-answer-done r bad e o = ([], (cc), (cc))
-answer-done r (got vs) e o = (vs, refl, (cc))
+pub answer-bad : (r : Fields) (p : Answer (List ℕ)) → fieldsAnswer r ≡ placed p → r .outcome ≡ Bad → p ≡ refused 2 0 0 0
+answer-bad r (value vs) e o = let z = ap number (answer-is r (value vs) e o) in absurd (omega arith)
+answer-bad r (refused n k c x) e o = sym (answer-is r (refused n k c x) e o)
+
+pub answer-done : (r : Fields) (p : Answer (List ℕ)) → fieldsAnswer r ≡ placed p → r .outcome ≡ Done
+    → (vs : List ℕ) × (p ≡ value vs) × (r .values ≡ places vs)
+answer-done r (value vs) e o = let z = answer-is r (value vs) e o in (vs, refl, (cc))
+answer-done r (refused n k c x) e o = let z = answer-is r (refused n k c x) e o in ([], (cc), (cc))
 
 -- where it is Done: the values, each within its field's range
-pub record Read (fs : List Field) (p : Parsed) (r : Fields) : Type 0 where
+pub record Read (fs : List Field) (p : Answer (List ℕ)) (r : Fields) : Type 0 where
   pub vs : List ℕ
-  pub parsed : p ≡ got vs
+  pub parsed : p ≡ value vs
   pub values : r .values ≡ places vs
   pub same : (k : ℕ) → getD (r .values) k 0 ≡ getD vs k 0
   pub low : (k : ℕ) → getD fs k (field 0 0 0) .low ≤ getD (r .values) k 0
   pub high : (k : ℕ) → getD (r .values) k 0 ≤ getD fs k (field 0 0 0) .high
 
-read-by : (r : Fields) (fs : List Field) (p : Parsed) → r ≡ fieldsAnswer p → r .outcome ≡ Done
-    → ((vs : List ℕ) → p ≡ got vs → InRange fs vs) → Read fs p r
+read-by : (r : Fields) (fs : List Field) (p : Answer (List ℕ)) → fieldsAnswer r ≡ placed p → r .outcome ≡ Done
+    → ((vs : List ℕ) → p ≡ value vs → InRange fs vs) → Read fs p r
 read-by r fs p e o within =
     let d = answer-done r p e o in
     let at : (k : ℕ) → getD (r .values) k 0 ≡ getD (d .0) k 0 = λ k. ap (λ (x : List ℕ). getD x k 0) (d .2) ∙ places-at (d .0) k in
@@ -513,11 +529,11 @@ read-by r fs p e o within =
       high = λ k. omega (arith, at k, in-range k);
     }
 
-pub fields-done : (r : Fields) (fs : List Field) (s : List ℕ) (i : ℕ) → r ≡ fieldsAnswer (readFields fs s i) → r .outcome ≡ Done
+pub fields-done : (r : Fields) (fs : List Field) (s : List ℕ) (i : ℕ) → fieldsAnswer r ≡ placed (readFields fs s i) → r .outcome ≡ Done
     → Read fs (readFields fs s i) r
 fields-done r fs s i e o = read-by r fs (readFields fs s i) e o (read-range fs s i)
 
-pub header-done : (r : Fields) (code : List ℕ) (fs : List Field) (s : List ℕ) → r ≡ fieldsAnswer (readHeader code fs s) → r .outcome ≡ Done
+pub header-done : (r : Fields) (code : List ℕ) (fs : List Field) (s : List ℕ) → fieldsAnswer r ≡ placed (readHeader code fs s) → r .outcome ≡ Done
     → Read fs (readHeader code fs s) r
 header-done r code fs s e o =
     read-by r fs (readHeader code fs s) e o (λ vs q. read-range fs s 32 vs (header-got code fs s vs q .fields-read))

@@ -2,20 +2,22 @@
 -- Assumes nothing.
 use mathlib.Core.Path.{_≡_, refl, sym, ap, _∙_}
 use mathlib.Core.List.{List, [], _∷_, _++_, append-assoc, append-nil}
-use mathlib.Core.Bool.{Bool, true, false}
+use mathlib.Core.Bool.{Bool, true, false, not}
 use mathlib.Core.Logic.{⊎-elim}
 use Prim.Native.Nat.{ℕ, zero, suc, _+_, _*_, _/_, _≤_, _<_, zero-le}
 use native.Mathlib.Nat.{zero-add, add-assoc, mod-eq-of-lt}
 use native.Mathlib.Omega.{arith}
-use lib.Dec.{leb, lit<}
+use lib.Dec.{ltb, lit<}
 use lib.ListN.{length, getD, take, drop, set, length-append, List·getD-append}
 use lib.Seq.{getD-append-add, take-at, take-add, drop-at, drop-append-add, drop-drop, take-all}
-use borrow.Author.Tests.{le-leb, lt-leb, leb-true, leb-false}
+use borrow.Author.Tests.{le-ltb, lt-ltb, ltb-true, ltb-false}
 use Rattle.bits.specs.Bits.{pick, num, bitAt, bitsAt, digits, bitList, pack, appendBits}
-use Rattle.bits.specs.Fields.{Field, got, after, readFields, readHeader, fieldBits, writeFields, writeHeader, fitsAll, total}
-use Rattle.bits.specs.Answers.{over, writeAnswer, writeResult}
-use Rattle.bits.specs.declared.Wrote.the-variants.{Unfit, Full, Bytes}
+use Rattle.bits.specs.Refusals.{Answer, value, refused, number}
+use Rattle.bits.specs.Fields.{Field, readFields, readHeader, fieldBits, writeFields, writeHeader, fitsAll, total}
+use Rattle.bits.specs.Answers.{over, writeAnswer, wroteAnswer, writeResult}
+use Rattle.bits.specs.declared.Wrote.{Wrote}
 use Rattle.bits.proofs.Laws.{num-same, bits-bound, bit-append, bit-drop, length-digits, digits-num, bit-list-length, bit-list-append}
+use Rattle.bits.proofs.Flags.{pick-elim}
 use Rattle.bits.proofs.Reading.{there-is, there-true, obeys-is, obeys-true, read-more, step, read-drop, same-self, four, header-more, header-got}
 use Rattle.bits.proofs.Appending.{Below, lt-or-le, digits-bits, below-append, below-front, below-drop, length-pack, pack-bit, pack-take, pack-bytes, append-zero}
 use Rattle.bits.proofs.Checking.{Fits, fits-none, fits-more, fits-of, fits-all, fits-length}
@@ -76,7 +78,7 @@ stored-code code s l h =
     ∙ ap (λ (c : List ℕ). over c s) (sym (four code (omega arith)) ∙ take-all 4 code (omega arith))
 
 module _ (code : List ℕ) (fs : List Field) (vs out : List ℕ) where
-  pub write-unfit : fitsAll fs vs ≡ false → (Unfit ≡ writeAnswer code fs vs out) × (out ≡ writeResult code fs vs out)
+  pub write-unfit : fitsAll fs vs ≡ false → (refused 16 0 0 0 ≡ writeAnswer code fs vs out) × (out ≡ writeResult code fs vs out)
   unfolding writeAnswer writeResult pick
   write-unfit e = (rw e, rw e)
 
@@ -84,65 +86,68 @@ module _ (code : List ℕ) (fs : List Field) (vs out : List ℕ) where
     long : length (writeHeader code fs vs) ≡ 4 + (total fs + 7) / 8
     long = length-header code fs vs l (fits-length (fits-of fs vs e))
 
-    pub write-full : length out < 4 + (total fs + 7) / 8 → (Full ≡ writeAnswer code fs vs out) × (out ≡ writeResult code fs vs out)
+    pub write-full : length out < 4 + (total fs + 7) / 8 → (refused 19 0 0 0 ≡ writeAnswer code fs vs out) × (out ≡ writeResult code fs vs out)
     unfolding writeAnswer writeResult pick
-    write-full h = (rw (e, long, lt-leb _ _ h), rw (e, long, lt-leb _ _ h))
+    write-full h = (rw (e, long, lt-ltb _ _ h), rw (e, long, lt-ltb _ _ h))
 
     pub write-bytes : {m o : List ℕ} {n : ℕ} → n ≡ total fs → 4 + (n + 7) / 8 ≤ length out → m ≡ over code out → Below 256 m
         → o ≡ appendBits m 32 (fieldBits fs vs)
-        → (Bytes (4 + (n + 7) / 8) ≡ writeAnswer code fs vs out) × (o ≡ writeResult code fs vs out)
+        → (value (4 + (n + 7) / 8) ≡ writeAnswer code fs vs out) × (o ≡ writeResult code fs vs out)
     unfolding writeAnswer writeResult pick over writeHeader writeFields
     write-bytes t h p b q =
         let r : length (code ++ pack (fieldBits fs vs)) ≤ length out = omega (arith, long) in
         let i : 32 ≡ 8 * length code = omega arith in
         let a = append-after code out (fieldBits fs vs) (below-front 256 code (drop (length code) out) (rw p at b)) in
-        (rw (e, le-leb _ _ r) (rw (long, t)), q ∙ rw (e, le-leb _ _ r, p) (ap (λ (x : ℕ). appendBits (over code out) x (fieldBits fs vs)) i ∙ a))
+        (rw (e, le-ltb _ _ r) (rw (long, t)), q ∙ rw (e, le-ltb _ _ r, p) (ap (λ (x : ℕ). appendBits (over code out) x (fieldBits fs vs)) i ∙ a))
+
+-- a case of the answer, by what it tells
+pub wrote-case : {r x : Wrote} {a : Answer ℕ} → r ≡ x → wroteAnswer r ≡ a → wroteAnswer x ≡ a
+wrote-case e f = rw (← e) f
 
 -- what an answer of `write_header` says
 module _ (code : List ℕ) (fs : List Field) (vs out : List ℕ) where
-  pub wrote-unfit : Unfit ≡ writeAnswer code fs vs out → (fitsAll fs vs ≡ false) × (writeResult code fs vs out ≡ out)
+  pub wrote-unfit : refused 16 0 0 0 ≡ writeAnswer code fs vs out → (fitsAll fs vs ≡ false) × (writeResult code fs vs out ≡ out)
   unfolding writeAnswer writeResult pick
-  wrote-unfit e = case (fitsAll fs vs) (leb (length (writeHeader code fs vs)) (length out)) e
+  wrote-unfit e = case (fitsAll fs vs) refl e
     where
-      case : (f r : Bool) → Unfit ≡ pick f (pick r (Bytes (length (writeHeader code fs vs))) Full) Unfit
-          → (f ≡ false) × (pick f (pick r (over (writeHeader code fs vs) out) out) out ≡ out)
-      case false r q = (refl, refl)
-      case true true q = ((cc), (cc))
-      case true false q = ((cc), refl)
+      case : (f : Bool) → fitsAll fs vs ≡ f
+          → refused 16 0 0 0 ≡ pick (not f) (refused 16 0 0 0) (pick (ltb (length out) (length (writeHeader code fs vs))) (refused 19 0 0 0) (value (length (writeHeader code fs vs))))
+          → (f ≡ false) × (writeResult code fs vs out ≡ out)
+      case false p q = (refl, rw p)
+      case true p q = absurd (pick-elim (λ (a : Answer ℕ). refused 16 0 0 0 ≡ a → ⊥) (ltb (length out) (length (writeHeader code fs vs))) (λ r z. let n = ap number z in omega arith) (λ r z. let n = ap number z in omega arith) q)
 
-  pub wrote-full : Full ≡ writeAnswer code fs vs out
+  pub wrote-full : refused 19 0 0 0 ≡ writeAnswer code fs vs out
       → (fitsAll fs vs ≡ true) × (length out < length (writeHeader code fs vs)) × (writeResult code fs vs out ≡ out)
   unfolding writeAnswer writeResult pick
-  wrote-full e = case (fitsAll fs vs) (leb (length (writeHeader code fs vs)) (length out)) refl e
+  wrote-full e = case (fitsAll fs vs) (ltb (length out) (length (writeHeader code fs vs))) refl refl e
     where
-      case : (f r : Bool) → leb (length (writeHeader code fs vs)) (length out) ≡ r
-          → Full ≡ pick f (pick r (Bytes (length (writeHeader code fs vs))) Full) Unfit
-          → (f ≡ true) × (length out < length (writeHeader code fs vs)) × (pick f (pick r (over (writeHeader code fs vs) out) out) out ≡ out)
-      case true false p q = (refl, leb-false _ _ p, refl)
-      case true true p q = let z : _≡_ {A = ℕ} 0 1 = cc in absurd (omega arith)
-      case false r p q = let z : _≡_ {A = ℕ} 0 1 = cc in absurd (omega arith)
+      case : (f r : Bool) → fitsAll fs vs ≡ f → ltb (length out) (length (writeHeader code fs vs)) ≡ r
+          → refused 19 0 0 0 ≡ pick (not f) (refused 16 0 0 0) (pick r (refused 19 0 0 0) (value (length (writeHeader code fs vs))))
+          → (f ≡ true) × (length out < length (writeHeader code fs vs)) × (writeResult code fs vs out ≡ out)
+      case true true p l q = (refl, ltb-true _ _ l, rw (p, l))
+      case true false p l q = let n = ap number q in absurd (omega arith)
+      case false r p l q = let n = ap number q in absurd (omega arith)
 
-  pub wrote-bytes : {n : ℕ} → Bytes n ≡ writeAnswer code fs vs out
+  pub wrote-bytes : {n : ℕ} → value n ≡ writeAnswer code fs vs out
       → (fitsAll fs vs ≡ true) × (n ≡ length (writeHeader code fs vs)) × (n ≤ length out) × (writeResult code fs vs out ≡ over (writeHeader code fs vs) out)
   unfolding writeAnswer writeResult pick
-  wrote-bytes {n} e = case (fitsAll fs vs) (leb (length (writeHeader code fs vs)) (length out)) refl e
+  wrote-bytes {n} e = case (fitsAll fs vs) (ltb (length out) (length (writeHeader code fs vs))) refl refl e
     where
-      case : (f r : Bool) → leb (length (writeHeader code fs vs)) (length out) ≡ r
-          → Bytes n ≡ pick f (pick r (Bytes (length (writeHeader code fs vs))) Full) Unfit
-          → (f ≡ true) × (n ≡ length (writeHeader code fs vs)) × (n ≤ length out)
-          × (pick f (pick r (over (writeHeader code fs vs) out) out) out ≡ over (writeHeader code fs vs) out)
-      case true true p q =
+      case : (f r : Bool) → fitsAll fs vs ≡ f → ltb (length out) (length (writeHeader code fs vs)) ≡ r
+          → value n ≡ pick (not f) (refused 16 0 0 0) (pick r (refused 19 0 0 0) (value (length (writeHeader code fs vs))))
+          → (f ≡ true) × (n ≡ length (writeHeader code fs vs)) × (n ≤ length out) × (writeResult code fs vs out ≡ over (writeHeader code fs vs) out)
+      case true false p l q =
           let m : n ≡ length (writeHeader code fs vs) = cc in
-          (refl, m, rw m (leb-true _ _ p), refl)
-      case true false p q = let z : _≡_ {A = ℕ} 0 1 = cc in absurd (omega arith)
-      case false r p q = let z : _≡_ {A = ℕ} 0 1 = cc in absurd (omega arith)
+          (refl, m, rw m (ltb-false _ _ l), rw (p, l))
+      case true true p l q = let z = ap number q in absurd (omega arith)
+      case false r p l q = let z = ap number q in absurd (omega arith)
 
 -- where the bits of the fields stand in s from bit i on, the table reads their values
 pub reads-back : {fs : List Field} {vs : List ℕ} → Fits fs vs → (s : List ℕ) (i : ℕ)
     → i + length (fieldBits fs vs) ≤ 8 * length s
     → ((k : ℕ) → k < length (fieldBits fs vs) → bitAt s (i + k) ≡ getD (fieldBits fs vs) k 0)
-    → readFields fs s i ≡ got vs
-unfolding fieldBits readFields bitsAt after
+    → readFields fs s i ≡ value vs
+unfolding fieldBits readFields bitsAt
 reads-back fits-none s i l h = refl
 reads-back (fits-more {f} {fs} {v} {vs} a b c d r) s i l h =
     let w = f .width in
@@ -153,7 +158,7 @@ reads-back (fits-more {f} {fs} {v} {vs} a b c d r) s i l h =
     (λ k t. h k (omega arith) ∙ List·getD-append (digits w v) (fieldBits fs vs) 0 k (omega (arith, length-digits w v))
     ∙ ap (λ (x : ℕ). getD (digits w v) x 0) (sym (zero-add k)))
     ∙ digits-num w v ∙ mod-eq-of-lt b in
-    let m : readFields fs s (i + w) ≡ got vs =
+    let m : readFields fs s (i + w) ≡ value vs =
     reads-back r s (i + w) (omega arith)
     (λ k t. ap (bitAt s) (add-assoc i w k) ∙ h (w + k) (omega arith)
     ∙ ap (λ (x : ℕ). getD (digits w v ++ fieldBits fs vs) (x + k) 0) (sym (length-digits w v))
@@ -162,7 +167,7 @@ reads-back (fits-more {f} {fs} {v} {vs} a b c d r) s i l h =
 
 -- so they are read from the bits packed, whatever stands before and behind
 pub reads-packed : {fs : List Field} {vs : List ℕ} → Fits fs vs → (pre post t : List ℕ) → Below 2 pre → Below 2 post
-    → readFields fs (pack (pre ++ fieldBits fs vs ++ post) ++ t) (length pre) ≡ got vs
+    → readFields fs (pack (pre ++ fieldBits fs vs ++ post) ++ t) (length pre) ≡ value vs
 reads-packed {fs} {vs} r pre post t p q =
     let bs = pre ++ fieldBits fs vs ++ post in
     let m : length (pre ++ fieldBits fs vs) ≡ length pre + length (fieldBits fs vs) = length-append pre (fieldBits fs vs) in
@@ -174,12 +179,12 @@ reads-packed {fs} {vs} r pre post t p q =
     ∙ List·getD-append (pre ++ fieldBits fs vs) post 0 (length pre + k) (omega arith) ∙ getD-append-add pre (fieldBits fs vs) k 0)
 
 -- reading what was written gives the values
-pub read-written : (fs : List Field) (vs t : List ℕ) → fitsAll fs vs ≡ true → readFields fs (writeFields fs vs ++ t) 0 ≡ got vs
+pub read-written : (fs : List Field) (vs t : List ℕ) → fitsAll fs vs ≡ true → readFields fs (writeFields fs vs ++ t) 0 ≡ value vs
 unfolding writeFields
 read-written fs vs t e = rw append-nil at (reads-packed (fits-of fs vs e) [] [] t (λ k. lit< tt) (λ k. lit< tt))
 
 pub header-read-written : (code : List ℕ) (fs : List Field) (vs t : List ℕ) → length code ≡ 4 → fitsAll fs vs ≡ true
-    → readHeader code fs (writeHeader code fs vs ++ t) ≡ got vs
+    → readHeader code fs (writeHeader code fs vs ++ t) ≡ value vs
 unfolding writeHeader
 header-read-written code fs vs t l e =
     let s = (code ++ writeFields fs vs) ++ t in
@@ -191,14 +196,14 @@ header-read-written code fs vs t l e =
     ∙ sym (read-drop fs 4 s 0 g) ∙ ap (λ (x : List ℕ). readFields fs x 0) d ∙ read-written fs vs t e
 
 -- the bits of what was read are the bits that stand there
-pub read-room : (fs : List Field) (s : List ℕ) (i : ℕ) (vs : List ℕ) → i ≤ 8 * length s → readFields fs s i ≡ got vs → i + total fs ≤ 8 * length s
+pub read-room : (fs : List Field) (s : List ℕ) (i : ℕ) (vs : List ℕ) → i ≤ 8 * length s → readFields fs s i ≡ value vs → i + total fs ≤ 8 * length s
 unfolding total
 read-room [] s i vs l e = omega arith
 read-room (f ∷ fs) s i vs l e =
     let t = step f fs s i vs e in
     omega (arith, read-room fs s (i + f .width) (t .rest) (there-true s i (f .width) (t .is-there) .1) (t .then))
 
-pub writes-back : (fs : List Field) (s : List ℕ) (i : ℕ) (vs : List ℕ) → i ≤ 8 * length s → readFields fs s i ≡ got vs
+pub writes-back : (fs : List Field) (s : List ℕ) (i : ℕ) (vs : List ℕ) → i ≤ 8 * length s → readFields fs s i ≡ value vs
     → fieldBits fs vs ≡ take (total fs) (drop i (bitList s))
 unfolding fieldBits total
 writes-back [] s i vs l e = refl
@@ -210,7 +215,7 @@ writes-back (f ∷ fs) s i vs l e =
     (sym (take-add w (total fs) (drop i (bitList s))))
 
 -- writing what was read gives back the bytes, where what is left of the last byte is zeros
-pub write-read : (fs : List Field) (s vs : List ℕ) → Below 256 s → readFields fs s 0 ≡ got vs
+pub write-read : (fs : List Field) (s vs : List ℕ) → Below 256 s → readFields fs s 0 ≡ value vs
     → ((k : ℕ) → total fs ≤ k → k < 8 * ((total fs + 7) / 8) → bitAt s k ≡ 0)
     → writeFields fs vs ≡ take ((total fs + 7) / 8) s
 unfolding writeFields
@@ -218,7 +223,7 @@ write-read fs s vs b e z =
     ap pack (writes-back fs s 0 vs zero-le e) ∙ pack-take s (total fs) b (omega (arith, read-room fs s 0 vs zero-le e)) z
 
 -- values that were read fit their table
-read-fit : (fs : List Field) (s : List ℕ) (i : ℕ) (vs : List ℕ) → readFields fs s i ≡ got vs → Fits fs vs
+read-fit : (fs : List Field) (s : List ℕ) (i : ℕ) (vs : List ℕ) → readFields fs s i ≡ value vs → Fits fs vs
 unfolding readFields
 read-fit [] s i [] e = fits-none
 read-fit [] s i (v ∷ vs) e = let z : _≡_ {A = ℕ} 0 1 = cc in absurd (omega arith)
@@ -228,10 +233,10 @@ read-fit (f ∷ fs) s i vs e =
     let o = obeys-true f (bitsAt s i w) (t .obeyed) in
     rw (t .all) (fits-more (there-true s i w (t .is-there) .0) (bits-bound s i w) (o .0) (o .1) (read-fit fs s (i + w) (t .rest) (t .then)))
 
-pub read-fits : (fs : List Field) (s : List ℕ) (i : ℕ) (vs : List ℕ) → readFields fs s i ≡ got vs → fitsAll fs vs ≡ true
+pub read-fits : (fs : List Field) (s : List ℕ) (i : ℕ) (vs : List ℕ) → readFields fs s i ≡ value vs → fitsAll fs vs ≡ true
 read-fits fs s i vs e = fits-all (read-fit fs s i vs e)
 
-pub header-write-read : (code : List ℕ) (fs : List Field) (s vs : List ℕ) → Below 256 s → readHeader code fs s ≡ got vs
+pub header-write-read : (code : List ℕ) (fs : List Field) (s vs : List ℕ) → Below 256 s → readHeader code fs s ≡ value vs
     → ((k : ℕ) → 32 + total fs ≤ k → k < 32 + 8 * ((total fs + 7) / 8) → bitAt s k ≡ 0)
     → writeHeader code fs vs ≡ take (4 + (total fs + 7) / 8) s
 unfolding writeHeader

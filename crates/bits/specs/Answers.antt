@@ -2,10 +2,12 @@
 -- Assumes nothing.
 use Prim.Native.Nat.{ℕ, zero, suc, _-_, _^_}
 use mathlib.Core.List.{List, [], _∷_, _++_}
-use lib.Dec.{leb}
+use mathlib.Core.Bool.{not}
+use lib.Dec.{ltb}
 use lib.ListN.{replicate, length, drop}
 use Rattle.bits.specs.Bits.{pick, bitsAt, there, digits, appendBits}
-use Rattle.bits.specs.Fields.{Field, field, Parsed, short, bad, got, fitsAll, total, writeHeader}
+use Rattle.bits.specs.Refusals.{Answer, value, refused, refuse, andThen, orElse}
+use Rattle.bits.specs.Fields.{Field, field, fitsAll, total, writeHeader}
 use Rattle.bits.specs.declared.Bits.{Bits}
 use Rattle.bits.specs.declared.Bits.the-variants.{Value, Short as NoBits}
 use Rattle.bits.specs.declared.Checked.{Checked}
@@ -20,8 +22,14 @@ use Rattle.bits.specs.declared.Fields.{Fields}
 unfoldable pub over : {X : Type 0} → List X → List X → List X
 over new old = new ++ drop (length new) old
 
-unfoldable pub readBits : List ℕ → ℕ → ℕ → Bits
-readBits s i n = pick (there s i n) (Value (bitsAt s i n)) NoBits
+-- the number in n bits: fewer remain (1)
+unfoldable pub readBits : List ℕ → ℕ → ℕ → Answer ℕ
+readBits s i n = refuse 1 (not (there s i n)) (value (bitsAt s i n))
+
+-- the number and the value of each case
+abbrev pub bitsAnswer : Bits → Answer ℕ
+bitsAnswer (Value v) = value v
+bitsAnswer NoBits = refused 1 0 0 0
 
 -- the bytes after writing n bits of v at bit i: as they were where the bits do not fit
 unfoldable pub wroteBits : List ℕ → ℕ → ℕ → ℕ → List ℕ
@@ -44,28 +52,44 @@ tableOf (suc n) (w ∷ l ∷ h ∷ t) = field w l (greatest w h) ∷ tableOf n t
 unfoldable pub places : List ℕ → List ℕ
 places vs = vs ++ replicate (24 - length vs) 0
 
--- a refusal has no values
-unfoldable pub noFields : Outcome → Fields
-noFields o = record { outcome = o; values = replicate 24 0 }
+abbrev pub placed : Answer (List ℕ) → Answer (List ℕ)
+placed a = andThen a (λ vs. value (places vs))
 
-unfoldable pub fieldsAnswer : Parsed → Fields
-fieldsAnswer short = noFields Short
-fieldsAnswer bad = noFields Bad
-fieldsAnswer (got vs) = record { outcome = Done; values = places vs }
+-- 24 zeros stand beside a refusal
+abbrev pub noValues : List ℕ
+noValues = replicate 24 0
 
--- whether values fit a table, and how many bits it has
-unfoldable pub checkAnswer : List Field → List ℕ → Checked
-checkAnswer fs vs = pick (fitsAll fs vs) (Width (total fs)) Misfit
+-- the number and the values of each case: a table that was read, bits that end in it (1), a rule broken (2)
+abbrev pub outcomeAnswer : Outcome → List ℕ → Answer (List ℕ)
+outcomeAnswer Done vs = value vs
+outcomeAnswer Short vs = refused 1 0 0 0
+outcomeAnswer Bad vs = refused 2 0 0 0
 
--- writing a header: a value that does not fit (16), then too few bytes (19), else the bytes; those behind them stay
-unfoldable pub writeAnswer : List ℕ → List Field → List ℕ → List ℕ → Wrote
+abbrev pub fieldsAnswer : Fields → Answer (List ℕ)
+fieldsAnswer r = outcomeAnswer (r .outcome) (r .values)
+
+-- how many bits a table has, where the values fit it (16)
+unfoldable pub checkFields : List Field → List ℕ → Answer ℕ
+checkFields fs vs = refuse 16 (not (fitsAll fs vs)) (value (total fs))
+
+-- the number and the value of each case
+abbrev pub checkedAnswer : Checked → Answer ℕ
+checkedAnswer (Width n) = value n
+checkedAnswer Misfit = refused 16 0 0 0
+
+-- writing a header: a value that does not fit (16), then too few bytes (19), else so many bytes
+unfoldable pub writeAnswer : List ℕ → List Field → List ℕ → List ℕ → Answer ℕ
 writeAnswer code fs vs out =
-    pick (fitsAll fs vs)
-    (pick (leb (length (writeHeader code fs vs)) (length out)) (Bytes (length (writeHeader code fs vs))) Full)
-    Unfit
+    refuse 16 (not (fitsAll fs vs))
+    (refuse 19 (ltb (length out) (length (writeHeader code fs vs)))
+    (value (length (writeHeader code fs vs))))
 
+-- the number and the value of each case
+abbrev pub wroteAnswer : Wrote → Answer ℕ
+wroteAnswer (Bytes n) = value n
+wroteAnswer Unfit = refused 16 0 0 0
+wroteAnswer Full = refused 19 0 0 0
+
+-- and what is there then: the header over the first bytes; all as it was on a refusal
 unfoldable pub writeResult : List ℕ → List Field → List ℕ → List ℕ → List ℕ
-writeResult code fs vs out =
-    pick (fitsAll fs vs)
-    (pick (leb (length (writeHeader code fs vs)) (length out)) (over (writeHeader code fs vs) out) out)
-    out
+writeResult code fs vs out = orElse out (andThen (writeAnswer code fs vs out) (λ n. value (over (writeHeader code fs vs) out)))

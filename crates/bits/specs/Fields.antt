@@ -2,10 +2,11 @@
 -- Assumes nothing.
 use Prim.Native.Nat.{ℕ, _+_, _-_, _^_}
 use mathlib.Core.List.{List, [], _∷_, _++_}
-use mathlib.Core.Bool.{Bool, true, false, _&&_}
+use mathlib.Core.Bool.{Bool, true, false, not, _&&_}
 use lib.Dec.{leb, ltb, eqb}
 use lib.ListN.{length, take}
-use Rattle.bits.specs.Bits.{pick, bitsAt, there, digits, pack}
+use Rattle.bits.specs.Bits.{bitsAt, there, digits, pack}
+use Rattle.bits.specs.Refusals.{Answer, value, refuse, andThen}
 
 -- a field is so many bits wide, and its value is low at least and high at most
 pub record Field : Type 0 where
@@ -29,27 +30,13 @@ exactly w k = field w k k
 unfoldable pub obeys : Field → ℕ → Bool
 obeys f v = leb (f .low) v && leb v (f .high)
 
--- what reading a table finds: too few bits left (1), a rule broken (2), or the values
-pub data Parsed : Type 0 where
-  short : Parsed
-  bad : Parsed
-  got : List ℕ → Parsed
-
--- the values, with some before them
-unfoldable pub after : List ℕ → Parsed → Parsed
-after vs short = short
-after vs bad = bad
-after vs (got ws) = got (vs ++ ws)
-
 -- reads the fields from bit i on: at each first that its bits are there, then its rule, then the next
-unfoldable pub readFields : List Field → List ℕ → ℕ → Parsed
-readFields [] s i = got []
+unfoldable pub readFields : List Field → List ℕ → ℕ → Answer (List ℕ)
+readFields [] s i = value []
 readFields (f ∷ fs) s i =
-    pick (there s i (f .width))
-    (pick (obeys f (bitsAt s i (f .width)))
-    (after (bitsAt s i (f .width) ∷ []) (readFields fs s (i + f .width)))
-    bad)
-    short
+    refuse 1 (not (there s i (f .width)))
+    (refuse 2 (not (obeys f (bitsAt s i (f .width))))
+    (andThen (readFields fs s (i + f .width)) (λ vs. value (bitsAt s i (f .width) ∷ vs))))
 
 -- the same bytes
 unfoldable pub sameBytes : List ℕ → List ℕ → Bool
@@ -63,8 +50,8 @@ abbrev pub startCodePrefix : List ℕ
 startCodePrefix = 0x00 ∷ 0x00 ∷ 0x01 ∷ []
 
 -- a header is a start code, four bytes read as one, and after it the fields (6.2.1)
-unfoldable pub readHeader : List ℕ → List Field → List ℕ → Parsed
-readHeader code fs s = pick (leb 4 (length s)) (pick (sameBytes (take 4 s) code) (readFields fs s 32) bad) short
+unfoldable pub readHeader : List ℕ → List Field → List ℕ → Answer (List ℕ)
+readHeader code fs s = refuse 1 (ltb (length s) 4) (refuse 2 (not (sameBytes (take 4 s) code)) (readFields fs s 32))
 
 -- the bits of the fields, end to end
 unfoldable pub fieldBits : List Field → List ℕ → List ℕ

@@ -26,7 +26,7 @@ abbrev pub number : {X : Type 0} → Answer X → ℕ
 number (value x) = 0
 number (refused n p c e) = n
 
--- the value, or another thing beside a refusal
+-- what stands beside an answer, where an enum cannot hold it: the value, or another on a refusal
 abbrev pub orElse : {X : Type 0} → X → Answer X → X
 orElse other (value x) = x
 orElse other (refused n p c e) = other

@@ -5,7 +5,8 @@ ghost use Prim.Native.Nat.{_+_, _-_, _<_, _≤_, _*_, _/_, _%_, _^_};
 ghost use lib.ListN.{length, take};
 ghost use Rattle.bits.specs.Bits.{bitsAt, there, appendBits};
 ghost use Rattle.bits.specs.Fields.{field, readFields, sameBytes, readHeader, fitsField, fitsAll, fieldBits, total};
-ghost use Rattle.bits.specs.Answers.{over, readBits, wroteBits, greatest, tableOf, noFields, fieldsAnswer, checkAnswer, writeAnswer, writeResult};
+ghost use Rattle.bits.specs.Refusals.{orElse};
+ghost use Rattle.bits.specs.Answers.{over, readBits, bitsAnswer, wroteBits, greatest, tableOf, placed, noValues, fieldsAnswer, checkFields, checkedAnswer, writeAnswer, wroteAnswer, writeResult};
 
 // What a read of some bits finds.
 pub enum Bits {
@@ -65,7 +66,7 @@ fn pow2(k: usize) -> u64
 
 // The number in the n bits from bit i; Short where n is above 32 or fewer remain.
 pub fn read_bits(s: &[u8], i: usize, n: usize) -> Bits
-    ensures { λ r. ⌜ r ≡ readBits (now (s .entry)) i n ⌝ }
+    ensures { λ r. ⌜ bitsAnswer r ≡ readBits (now (s .entry)) i n ⌝ }
 {
     if 32 < n {
         return Bits::Short;
@@ -98,7 +99,7 @@ fn top(w: usize, most: u8) -> u64
 }
 
 fn refused(outcome: Outcome) -> Fields
-    ensures { λ r. ⌜ r ≡ noFields outcome ⌝ }
+    ensures { λ r. ⌜ (r .outcome ≡ outcome) × (r .values ≡ noValues) ⌝ }
 {
     Fields {
         outcome,
@@ -120,7 +121,8 @@ fn field_count(table: &[u8]) -> usize
 // Reads a table from bit start on. A field has three bytes in the table: width, least value, greatest value (0: what the
 // width allows). 24 fields at most are read.
 pub fn read_fields(s: &[u8], start: u32, table: &[u8]) -> Fields
-    ensures { λ r. ⌜ r ≡ fieldsAnswer (readFields (tableOf 24 (now (table .entry))) (now (s .entry)) start) ⌝ }
+    ensures { λ r. ⌜ fieldsAnswer r ≡ placed (readFields (tableOf 24 (now (table .entry))) (now (s .entry)) start) ⌝ }
+    ensures { λ r. ⌜ r .values ≡ orElse noValues (placed (readFields (tableOf 24 (now (table .entry))) (now (s .entry)) start)) ⌝ }
 {
     let n = field_count(table);
     let mut values = [0u32; 24];
@@ -170,7 +172,8 @@ pub fn starts_with(s: &[u8], bytes: &[u8]) -> bool
 
 // Reads a header: its start code, then its table.
 pub fn read_header(s: &[u8], code: [u8; 4], table: &[u8]) -> Fields
-    ensures { λ r. ⌜ r ≡ fieldsAnswer (readHeader code (tableOf 24 (now (table .entry))) (now (s .entry))) ⌝ }
+    ensures { λ r. ⌜ fieldsAnswer r ≡ placed (readHeader code (tableOf 24 (now (table .entry))) (now (s .entry))) ⌝ }
+    ensures { λ r. ⌜ r .values ≡ orElse noValues (placed (readHeader code (tableOf 24 (now (table .entry))) (now (s .entry)))) ⌝ }
 {
     if s.len() < 4 {
         return refused(Outcome::Short);
@@ -231,7 +234,7 @@ fn fits(w: usize, least: u8, most: u8, v: u32) -> bool
 
 // Whether the values are as many as the table's fields and each fits its own.
 pub fn check_fields(table: &[u8], values: &[u32]) -> Checked
-    ensures { λ r. ⌜ r ≡ checkAnswer (tableOf 24 (now (table .entry))) (now (values .entry)) ⌝ }
+    ensures { λ r. ⌜ checkedAnswer r ≡ checkFields (tableOf 24 (now (table .entry))) (now (values .entry)) ⌝ }
 {
     let n = field_count(table);
     if values.len() != n {
@@ -281,7 +284,7 @@ fn put_code(out: &mut [u8], code: [u8; 4])
 
 // Writes a header: its start code, then its fields, and zeros to a whole byte. The bytes behind keep what they hold.
 pub fn write_header(out: &mut [u8], code: [u8; 4], table: &[u8], values: &[u32]) -> Wrote
-    ensures { λ r. ⌜ r ≡ writeAnswer code (tableOf 24 (now (table .entry))) (now (values .entry)) (now (out .entry)) ⌝ }
+    ensures { λ r. ⌜ wroteAnswer r ≡ writeAnswer code (tableOf 24 (now (table .entry))) (now (values .entry)) (now (out .entry)) ⌝ }
     ensures { λ r. ⌜ now (out .exit) ≡ writeResult code (tableOf 24 (now (table .entry))) (now (values .entry)) (now (out .entry)) ⌝ }
 {
     let checked = check_fields(table, values);

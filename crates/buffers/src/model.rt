@@ -53,7 +53,7 @@ pub(crate) fn patch(s: &[u8], out: &mut [u8]) -> usize {
 
 fn put_patch(out: &mut [u8], answer: VbvPatch) -> usize {
     match answer {
-        VbvPatch::Refused(e) => put(out, 0, e.number()),
+        VbvPatch::NotAPicture => put(out, 0, 20),
         VbvPatch::Done => put(out, 0, 0),
     }
 }

@@ -2,17 +2,16 @@
 -- Assumes nothing.
 use mathlib.Core.Path.{_≡_, refl, _∙_}
 use mathlib.Core.List.{List, [], _∷_, append-nil}
-use mathlib.Core.Bool.{true, false}
 use Prim.Native.Nat.{ℕ, suc, _+_, _-_, _*_, _≤_, _<_, zero-le}
 use native.Mathlib.Numerals.{add-one}
 use native.Mathlib.Omega.{arith}
 use lib.ListN.{length, take, set, replicate, length-set}
 use lib.Seq.{take-suc-set, take-all}
-use Rattle.bits.specs.Fields.{any, after, readFields}
+use Rattle.bits.specs.Refusals.{value, refused}
+use Rattle.bits.specs.Fields.{any, readFields}
 use Rattle.bits.specs.Answers.{readBits}
-use Rattle.bits.specs.declared.Bits.the-variants.{Value, Short as NoBits}
-use Rattle.bits.proofs.Reading.{after-none, after-after, after-short, after-got, read-none, any-missed, any-found}
-use Rattle.headers.specs.QuantMatrix.{matrixBytes, noMatrix, matrixRead, loadedRead}
+use Rattle.bits.proofs.Reading.{after, after-none, after-after, read-none, any-missed, any-found}
+use Rattle.headers.specs.QuantMatrix.{matrixBytes, loaded, loadedAt}
 
 -- the code's loop, after k of 64 bytes: they stand first in bytes, and the others are read behind them
 pub record Reading (s : List ℕ) (at : ℕ) (bytes : List ℕ) (k : ℕ) : Type 0 where
@@ -27,7 +26,7 @@ reading-none s at = record {
   long = refl;
   progress =
       let e : at + 8 * 0 ≡ at = omega arith in
-      rw (e, after-none);
+      rw (e, after-none (readFields (replicate 64 (any 8)) s at));
 }
 
 module _ {s : List ℕ} {at : ℕ} {bytes : List ℕ} {k : ℕ} (r : Reading s at bytes k) where
@@ -37,21 +36,19 @@ module _ {s : List ℕ} {at : ℕ} {bytes : List ℕ} {k : ℕ} (r : Reading s a
         let e : 64 - k ≡ suc (64 - suc k) = omega arith in
         r .progress ∙ rw e
 
-    pub reading-short : NoBits ≡ readBits s (at + 8 * k) 8 → record { there = false; matrix = noMatrix } ≡ loadedRead (readFields (matrixBytes 1) s at)
-    unfolding loadedRead matrixRead
-    reading-short m = rw (next, any-missed 8 (replicate (64 - suc k) (any 8)) s (at + 8 * k) m, after-short (take k bytes))
+    pub reading-short : refused 1 0 0 0 ≡ readBits s (at + 8 * k) 8 → loadedAt s at ≡ refused 1 0 0 0
+    reading-short m = rw (next, any-missed 8 (replicate (64 - suc k) (any 8)) s (at + 8 * k) m)
 
-    pub reading-more : {v : ℕ} → Value v ≡ readBits s (at + 8 * k) 8 → Reading s at (set bytes k v) (k + 1)
+    pub reading-more : {v : ℕ} → value v ≡ readBits s (at + 8 * k) 8 → Reading s at (set bytes k v) (k + 1)
     reading-more {v} f = record {
       within = omega arith;
       long = simp length-set (r .long);
       progress =
           let e : at + 8 * k + 8 ≡ at + 8 * suc k = omega arith in
-          next ∙ rw (any-found 8 (replicate (64 - suc k) (any 8)) s (at + 8 * k) v f, after-after, add-one k, take-suc-set bytes k v (omega arith), e);
+          next ∙ rw (any-found 8 (replicate (64 - suc k) (any 8)) s (at + 8 * k) v f, after-after (take k bytes) (v ∷ []) (readFields (replicate (64 - suc k) (any 8)) s (at + 8 * k + 8)), add-one k, take-suc-set bytes k v (omega arith), e);
     }
 
-  pub reading-end : 64 ≤ k → record { there = true; matrix = record { load = true; bytes = bytes } } ≡ loadedRead (readFields (matrixBytes 1) s at)
-  unfolding loadedRead
+  pub reading-end : 64 ≤ k → loadedAt s at ≡ value (loaded bytes)
   reading-end h =
       let e : 64 - k ≡ 0 = omega arith in
-      rw (r .progress, e, read-none s (at + 8 * k), after-got (take k bytes) [], append-nil (take k bytes), take-all k bytes (omega arith))
+      rw (r .progress, e, read-none s (at + 8 * k), append-nil (take k bytes), take-all k bytes (omega arith))

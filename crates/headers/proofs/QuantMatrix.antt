@@ -6,107 +6,109 @@ use mathlib.Core.Bool.{Bool, true, false}
 use Prim.Native.Nat.{ℕ, zero, suc, _+_, _*_, _≤_}
 use native.Mathlib.Omega.{arith}
 use lib.ListN.{length, getD}
-use Rattle.bits.specs.Bits.{pick}
-use Rattle.bits.specs.Fields.{any, Parsed, short, bad, got, after, readFields, total}
+use Rattle.bits.specs.Bits.{pick, bitsAt}
+use Rattle.bits.specs.Refusals.{Answer, value, refused, andThen, number, orElse}
+use Rattle.bits.specs.Fields.{any, readFields, total}
 use Rattle.bits.specs.Answers.{readBits}
-use Rattle.bits.specs.declared.Bits.{Bits}
-use Rattle.bits.specs.declared.Bits.the-variants.{Value, Short as NoBits}
-use Rattle.bits.proofs.Reading.{found-bound, found, there-true, never-bad, read-length, read-append, total-none, total-more, total-same, first-found, after-short, after-bad, after-got, read-none, any-missed, any-found}
+use Rattle.bits.proofs.Reading.{Bit, absent, present, bits-seen, found-bound, there-true, Seen, cut, broken, whole, fields-seen, never-bad, read-length, read-append, total-none, total-more, total-same, first-found, after, read-none, any-missed, any-found}
 use Rattle.bits.proofs.Writing.{read-room}
-use Rattle.headers.specs.Answers.{flagOf}
-use Rattle.headers.specs.QuantMatrix.{matrixBytes, matrixAfter, readMatrix, noMatrix, matrixOf, matrixRead, loadedRead, matrixFields, matrixValues, asRead}
+use Rattle.headers.specs.Answers.{flagOf, matrixIf, matrixAnswer}
+use Rattle.headers.specs.QuantMatrix.{matrixBytes, readMatrix, noMatrix, matrixOf, matrixAt, loadedAt, matrixFields, matrixValues, asRead}
 use Rattle.headers.specs.declared.quant_matrix_extension.QuantiserMatrix.{QuantiserMatrix}
 use Rattle.headers.specs.declared.quant_matrix_extension.MatrixRead.{MatrixRead}
 
--- a matrix behind its flag
-loaded-read : (p : Parsed) → loadedRead p ≡ matrixRead (after (1 ∷ []) p)
-unfolding loadedRead matrixRead matrixOf pick
-loaded-read short = rw (after-short (1 ∷ []))
-loaded-read bad = rw (after-bad (1 ∷ []))
-loaded-read (got vs) = rw (after-got (1 ∷ []) vs)
-
 -- what is read, by the flag's bit
 module _ (s : List ℕ) (i : ℕ) where
-  pub none-there : NoBits ≡ readBits s i 1 → readMatrix s i ≡ short
-  unfolding readMatrix matrixAfter
+  pub none-there : refused 1 0 0 0 ≡ readBits s i 1 → readMatrix s i ≡ refused 1 0 0 0
+  unfolding readMatrix
   none-there e = rw (any-missed 1 [] s i e)
 
-  behind-flag : (v : ℕ) → Value v ≡ readBits s i 1 → readMatrix s i ≡ after (v ∷ []) (readFields (matrixBytes v) s (i + 1))
-  unfolding readMatrix matrixAfter
-  behind-flag v e = rw (any-found 1 [] s i v e, read-none s (i + 1), after-got (v ∷ []) [])
+  behind-flag : (v : ℕ) → value v ≡ readBits s i 1 → readMatrix s i ≡ after (v ∷ []) (readFields (matrixBytes v) s (i + 1))
+  unfolding readMatrix
+  behind-flag v e = rw (any-found 1 [] s i v e, read-none s (i + 1))
 
-  flag-table : (v : ℕ) → Value v ≡ readBits s i 1 → readMatrix s i ≡ readFields (any 1 ∷ matrixBytes v) s i
+  flag-table : (v : ℕ) → value v ≡ readBits s i 1 → readMatrix s i ≡ readFields (any 1 ∷ matrixBytes v) s i
   flag-table v e = behind-flag v e ∙ sym (any-found 1 (matrixBytes v) s i v e)
 
-  pub none-loaded : Value 0 ≡ readBits s i 1 → readMatrix s i ≡ got (0 ∷ [])
+  pub none-loaded : value 0 ≡ readBits s i 1 → readMatrix s i ≡ value (0 ∷ [])
   unfolding matrixBytes
-  none-loaded e = behind-flag 0 e ∙ rw (read-none s (i + 1), after-got (0 ∷ []) [])
+  none-loaded e = behind-flag 0 e ∙ rw (read-none s (i + 1))
 
-  pub one-loaded : Value 1 ≡ readBits s i 1 → readMatrix s i ≡ after (1 ∷ []) (readFields (matrixBytes 1) s (i + 1))
+  pub one-loaded : value 1 ≡ readBits s i 1 → readMatrix s i ≡ after (1 ∷ []) (readFields (matrixBytes 1) s (i + 1))
   one-loaded e = behind-flag 1 e
 
   -- the three ways of read_matrix
-  pub flag-missed : NoBits ≡ readBits s i 1 → record { there = false; matrix = noMatrix } ≡ matrixRead (readMatrix s i)
-  unfolding matrixRead
+  pub flag-missed : refused 1 0 0 0 ≡ readBits s i 1 → matrixAt s i ≡ refused 1 0 0 0
   flag-missed e = rw (none-there e)
 
-  pub flag-unset : (v : ℕ) → Value v ≡ readBits s i 1 → v ≡ 0 → record { there = true; matrix = noMatrix } ≡ matrixRead (readMatrix s i)
-  unfolding matrixRead matrixOf pick
+  pub flag-unset : (v : ℕ) → value v ≡ readBits s i 1 → v ≡ 0 → matrixAt s i ≡ value noMatrix
+  unfolding matrixOf pick
   flag-unset v e z = rw (none-loaded (rw z at (e)))
 
-  pub flag-set : (v : ℕ) → Value v ≡ readBits s i 1 → (v ≡ 0 → ⊥) → loadedRead (readFields (matrixBytes 1) s (i + 1)) ≡ matrixRead (readMatrix s i)
+  pub flag-set : (v : ℕ) → value v ≡ readBits s i 1 → (v ≡ 0 → ⊥) → matrixAt s i ≡ loadedAt s (i + 1)
+  unfolding matrixOf pick
   flag-set v e n =
       let z : v ≡ 1 = omega (arith, n, found-bound s i 1 v e) in
-      rw (one-loaded (rw z at (e))) (loaded-read _)
+      rw (one-loaded (rw z at (e))) (behind (readFields (matrixBytes 1) s (i + 1)))
+    where
+      behind : (p : Answer (List ℕ)) → andThen (after (1 ∷ []) p) (λ vs. value (matrixOf vs)) ≡ andThen p (λ bytes. value (record { load = true; bytes = bytes }))
+      behind (value vs) = refl
+      behind (refused m p c x) = refl
+
+-- what the code answers: its number, and the matrix or none
+abbrev Told : MatrixRead → Answer QuantiserMatrix → Type 0
+Told r a = (matrixAnswer r ≡ a) × (r .matrix ≡ orElse noMatrix a)
+
+pub told-missing : {m : QuantiserMatrix} {a : Answer QuantiserMatrix} → m ≡ noMatrix → a ≡ refused 1 0 0 0 → Told (record { there = false; matrix = m }) a
+told-missing e q = (sym q, rw q e)
+
+pub told-there : {m : QuantiserMatrix} {a : Answer QuantiserMatrix} → a ≡ value m → Told (record { there = true; matrix = m }) a
+told-there q = (sym q, rw q)
 
 -- what a read finds: too few bits; the flag alone; or the flag and 64 bytes
-pub data Matrix (s : List ℕ) (i : ℕ) : Parsed → Type 0 where
-  missing : Matrix s i short
-  none : i + 1 ≤ 8 * length s → Matrix s i (got (0 ∷ []))
-  one : (bytes : List ℕ) → length bytes ≡ 64 → i + 513 ≤ 8 * length s → Matrix s i (got (1 ∷ bytes))
+pub data Matrix (s : List ℕ) (i : ℕ) : Answer (List ℕ) → Type 0 where
+  missing : Matrix s i (refused 1 0 0 0)
+  none : i + 1 ≤ 8 * length s → Matrix s i (value (0 ∷ []))
+  one : (bytes : List ℕ) → length bytes ≡ 64 → i + 513 ≤ 8 * length s → Matrix s i (value (1 ∷ bytes))
 
 pub matrix-seen : (s : List ℕ) (i : ℕ) → Matrix s i (readMatrix s i)
 unfolding matrixBytes
-matrix-seen s i = flag (readBits s i 1) refl
+matrix-seen s i = flag (bits-seen s i 1) refl
   where
-    inside : (v : ℕ) → Value v ≡ readBits s i 1 → i + 1 ≤ 8 * length s
-    inside v e = there-true s i 1 (found s i 1 v e .0) .1
+    bytes : {p : Answer (List ℕ)} → Seen p → readFields (matrixBytes 1) s (i + 1) ≡ p → i + 1 ≤ 8 * length s → Matrix s i (after (1 ∷ []) p)
+    bytes cut e h = missing
+    bytes broken e h = absurd (never-bad 64 8 s (i + 1) e)
+    bytes (whole vs) e h =
+        one vs (read-length (matrixBytes 1) s (i + 1) vs e) (omega (arith, read-room (matrixBytes 1) s (i + 1) vs h e, total-same 64 (any 8)))
 
-    bytes : (p : Parsed) → readFields (matrixBytes 1) s (i + 1) ≡ p → i + 1 ≤ 8 * length s → Matrix s i (after (1 ∷ []) p)
-    bytes short e h = rw (after-short (1 ∷ [])) missing
-    bytes bad e h = absurd (never-bad 64 8 s (i + 1) e)
-    bytes (got vs) e h =
-        rw (after-got (1 ∷ []) vs)
-        (one vs (read-length (matrixBytes 1) s (i + 1) vs e) (omega (arith, read-room (matrixBytes 1) s (i + 1) vs h e, total-same 64 (any 8))))
+    bit : (v : ℕ) → value v ≡ readBits s i 1 → i + 1 ≤ 8 * length s → Matrix s i (readMatrix s i)
+    bit zero e h = rw (none-loaded s i e) (none h)
+    bit (suc zero) e h = rw (one-loaded s i e) (bytes (fields-seen (matrixBytes 1) s (i + 1)) refl h)
+    bit (suc (suc v)) e h = absurd (omega (arith, found-bound s i 1 (suc (suc v)) e))
 
-    flag : (b : Bits) → b ≡ readBits s i 1 → Matrix s i (readMatrix s i)
-    flag NoBits e = rw (none-there s i e) missing
-    flag (Value zero) e = rw (none-loaded s i e) (none (inside 0 e))
-    flag (Value (suc zero)) e = rw (one-loaded s i e) (bytes _ refl (inside 1 e))
-    flag (Value (suc (suc v))) e = absurd (omega (arith, found-bound s i 1 (suc (suc v)) e))
+    flag : {b : Answer ℕ} → Bit s i 1 b → b ≡ readBits s i 1 → Matrix s i (readMatrix s i)
+    flag (absent t) e = rw (none-there s i e) missing
+    flag (present t) e = bit _ e (there-true s i 1 t .1)
 
 -- what the code's answer says of the read
-module _ (s : List ℕ) (i : ℕ) (r : MatrixRead) (e : r ≡ matrixRead (readMatrix s i)) where
-  pub matrix-there : r .there ≡ true → (vs : List ℕ) × (readMatrix s i ≡ got vs) × (r .matrix ≡ matrixOf vs)
-  unfolding matrixRead
-  matrix-there t = case (readMatrix s i) e
+module _ (s : List ℕ) (i : ℕ) (r : MatrixRead) (e : matrixAnswer r ≡ matrixAt s i) where
+  pub matrix-there : r .there ≡ true → (vs : List ℕ) × (readMatrix s i ≡ value vs) × (r .matrix ≡ matrixOf vs)
+  matrix-there t = case (readMatrix s i) refl
     where
-      case : (p : Parsed) → r ≡ matrixRead p → (vs : List ℕ) × (p ≡ got vs) × (r .matrix ≡ matrixOf vs)
-      case short q = ([], (cc), (cc))
-      case bad q = ([], (cc), (cc))
-      case (got vs) q = (vs, refl, ap (λ (x : MatrixRead). x .matrix) q)
+      case : (p : Answer (List ℕ)) → readMatrix s i ≡ p → (vs : List ℕ) × (p ≡ value vs) × (r .matrix ≡ matrixOf vs)
+      case (value vs) q = let z : value (r .matrix) ≡ value (matrixOf vs) = rw (t, q) at (e) in (vs, refl, cc)
+      case (refused n p c x) q = let z : value (r .matrix) ≡ refused n p c x = rw (t, q) at (e) in ([], (cc), (cc))
 
-  pub matrix-missing : r .there ≡ false → readMatrix s i ≡ short
-  unfolding matrixRead
-  matrix-missing t = case (readMatrix s i) (matrix-seen s i) e
+  pub matrix-missing : r .there ≡ false → readMatrix s i ≡ refused 1 0 0 0
+  matrix-missing t = case (readMatrix s i) refl
     where
-      case : (p : Parsed) → Matrix s i p → r ≡ matrixRead p → p ≡ short
-      case short m q = refl
-      case (got vs) m q = cc
+      case : (p : Answer (List ℕ)) → readMatrix s i ≡ p → p ≡ refused 1 0 0 0
+      case (value vs) q = let z : _≡_ {A = Answer QuantiserMatrix} (refused 1 0 0 0) (value (matrixOf vs)) = rw (t, q) at (e) in cc
+      case (refused n p c x) q = let z : _≡_ {A = Answer QuantiserMatrix} (refused 1 0 0 0) (refused n p c x) = rw (t, q) at (e) in cc
 
 -- what a read that found them says
-module _ (s : List ℕ) (i : ℕ) (vs : List ℕ) (e : readMatrix s i ≡ got vs) where
-  seen : Matrix s i (got vs)
+module _ (s : List ℕ) (i : ℕ) (vs : List ℕ) (e : readMatrix s i ≡ value vs) where
+  seen : Matrix s i (value vs)
   seen = rw e at (matrix-seen s i)
 
   -- the matrix is loaded where the first value is 1
@@ -114,33 +116,34 @@ module _ (s : List ℕ) (i : ℕ) (vs : List ℕ) (e : readMatrix s i ≡ got vs
   unfolding matrixOf noMatrix pick
   matrix-flag = case seen
     where
-      case : {ws : List ℕ} → Matrix s i (got ws) → flagOf (matrixOf ws .load) ≡ getD ws 0 0
+      case : {ws : List ℕ} → Matrix s i (value ws) → flagOf (matrixOf ws .load) ≡ getD ws 0 0
       case (none h) = refl
       case (one bytes l h) = refl
 
   -- it is the table that its flag chooses
-  pub matrix-as-table : readFields (any 1 ∷ matrixBytes (getD vs 0 0)) s i ≡ got vs
-  matrix-as-table = case (readBits s i 1) refl
+  pub matrix-as-table : readFields (any 1 ∷ matrixBytes (getD vs 0 0)) s i ≡ value vs
+  matrix-as-table = case (bits-seen s i 1) refl
     where
-      case : (b : Bits) → b ≡ readBits s i 1 → readFields (any 1 ∷ matrixBytes (getD vs 0 0)) s i ≡ got vs
-      case NoBits b = let z = none-there s i b in cc
-      case (Value v) b =
-          let x : readFields (any 1 ∷ matrixBytes v) s i ≡ got vs = sym (flag-table s i v b) ∙ e in
+      case : {b : Answer ℕ} → Bit s i 1 b → b ≡ readBits s i 1 → readFields (any 1 ∷ matrixBytes (getD vs 0 0)) s i ≡ value vs
+      case (absent t) b = let z = none-there s i b in cc
+      case (present t) b =
+          let v = bitsAt s i 1 in
+          let x : readFields (any 1 ∷ matrixBytes v) s i ≡ value vs = sym (flag-table s i v b) ∙ e in
           let y : v ≡ getD vs 0 0 = let f = first-found (any 1) (matrixBytes v) s i vs x in cc in
           rw (← y) x
 
-pub table-as-matrix : (s : List ℕ) (i : ℕ) (vs : List ℕ) → readFields (any 1 ∷ matrixBytes (getD vs 0 0)) s i ≡ got vs → readMatrix s i ≡ got vs
+pub table-as-matrix : (s : List ℕ) (i : ℕ) (vs : List ℕ) → readFields (any 1 ∷ matrixBytes (getD vs 0 0)) s i ≡ value vs → readMatrix s i ≡ value vs
 table-as-matrix s i vs e = flag-table s i (getD vs 0 0) (first-found (any 1) (matrixBytes (getD vs 0 0)) s i vs e) ∙ e
 
 -- what stands behind does not matter
-pub matrix-append : (s t : List ℕ) (i : ℕ) (vs : List ℕ) → readMatrix s i ≡ got vs → readMatrix (s ++ t) i ≡ got vs
+pub matrix-append : (s t : List ℕ) (i : ℕ) (vs : List ℕ) → readMatrix s i ≡ value vs → readMatrix (s ++ t) i ≡ value vs
 matrix-append s t i vs e =
     let r = matrix-as-table s i vs e in
     table-as-matrix (s ++ t) i vs (read-append (any 1 ∷ matrixBytes (getD vs 0 0)) s t i (λ z. let n : _≡_ {A = ℕ} 0 1 = cc in omega arith) ∙ r)
 
 -- a matrix that was read is written again
-module _ (s : List ℕ) (i : ℕ) (vs : List ℕ) (e : readMatrix s i ≡ got vs) where
-  pub matrix-fields-back : readFields (matrixFields (matrixOf vs)) s i ≡ got vs
+module _ (s : List ℕ) (i : ℕ) (vs : List ℕ) (e : readMatrix s i ≡ value vs) where
+  pub matrix-fields-back : readFields (matrixFields (matrixOf vs)) s i ≡ value vs
   unfolding matrixFields
   matrix-fields-back = rw (matrix-flag s i vs e) (matrix-as-table s i vs e)
 
@@ -148,7 +151,7 @@ module _ (s : List ℕ) (i : ℕ) (vs : List ℕ) (e : readMatrix s i ≡ got vs
   unfolding matrixValues matrixOf noMatrix pick
   matrix-values-back = case (rw e at (matrix-seen s i))
     where
-      case : {ws : List ℕ} → Matrix s i (got ws) → matrixValues (matrixOf ws) ≡ ws
+      case : {ws : List ℕ} → Matrix s i (value ws) → matrixValues (matrixOf ws) ≡ ws
       case (none h) = refl
       case (one bytes l h) = refl
 
@@ -156,13 +159,13 @@ module _ (s : List ℕ) (i : ℕ) (vs : List ℕ) (e : readMatrix s i ≡ got vs
   unfolding matrixOf noMatrix pick
   matrix-places = case (rw e at (matrix-seen s i))
     where
-      case : {ws : List ℕ} → Matrix s i (got ws) → length (matrixOf ws .bytes) ≡ 64
+      case : {ws : List ℕ} → Matrix s i (value ws) → length (matrixOf ws .bytes) ≡ 64
       case (none h) = refl
       case (one bytes l h) = l
 
 -- a matrix that was written is read again
 module _ (m : QuantiserMatrix) where
-  pub matrix-read-back : (s : List ℕ) (i : ℕ) → readFields (matrixFields m) s i ≡ got (matrixValues m) → readMatrix s i ≡ got (matrixValues m)
+  pub matrix-read-back : (s : List ℕ) (i : ℕ) → readFields (matrixFields m) s i ≡ value (matrixValues m) → readMatrix s i ≡ value (matrixValues m)
   unfolding matrixFields matrixValues
   matrix-read-back s i e = table-as-matrix s i _ e
 

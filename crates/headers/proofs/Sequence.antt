@@ -1,94 +1,108 @@
 -- A sequence header with its extension: the ways that reading the two goes, and what stands behind them.
 -- Assumes nothing.
-use mathlib.Core.Path.{_≡_, refl}
-use mathlib.Core.List.{List, _++_}
+use mathlib.Core.Path.{_≡_, refl, sym, ap, _∙_}
+use mathlib.Core.List.{List}
 use Prim.Native.Nat.{ℕ, _-_, _≤_}
 use native.Mathlib.Omega.{arith}
 use lib.ListN.{length, take, drop}
 use lib.Seq.{drop-append-le}
+use Rattle.bits.specs.Refusals.{Answer, value, refused, andThen, number, orElse}
 use Rattle.bits.proofs.Reading.{rest-is}
+use Rattle.headers.specs.Answers.{refusal, flagged, headerAnswer, sequenceAnswer}
 use Rattle.headers.specs.StartCode.{nextStartCode}
 use Rattle.headers.specs.SequenceHeader.{sequenceHeader, sequenceHeaderBytes}
 use Rattle.headers.specs.SequenceExtension.{sequenceExtension}
-use Rattle.headers.specs.Sequence.{sequenceOf, refusedSequence, withExtension, extensionAt, afterHeader, sequence}
+use Rattle.headers.specs.Sequence.{sequenceOf, noSequence, sequence}
+use Rattle.headers.specs.RoundTrips.{SequenceStays}
 use Rattle.headers.proofs.StartCode.{next-found, next-append}
 use Rattle.headers.proofs.SequenceHeader.{HeaderBounds, sequence-header-bounds, sequence-header-append}
 use Rattle.headers.proofs.SequenceExtension.{extension-append}
 use Rattle.headers.specs.declared.Error.{Error}
-use Rattle.headers.specs.declared.Error.the-variants.{InvalidBitstream}
-use Rattle.headers.specs.declared.NextStartCode.{NextStartCode}
-use Rattle.headers.specs.declared.NextStartCode.the-variants.{At, Missing}
-use Rattle.headers.specs.declared.sequence_header.Answer.{Answer}
-use Rattle.headers.specs.declared.sequence_header.Answer.the-variants.{Parsed as Accepted, Refused}
+use Rattle.headers.specs.declared.sequence_header.Answer.{Answer as Flag}
+use Rattle.headers.specs.declared.sequence_header.Answer.the-variants.{Parsed, Refused}
+use Rattle.headers.specs.declared.sequence_header.Mpeg2SequenceHeader.{Mpeg2SequenceHeader}
 use Rattle.headers.specs.declared.sequence_header.SequenceHeaderRead.{SequenceHeaderRead}
 use Rattle.headers.specs.declared.sequence_extension.Mpeg2SequenceExtension.{Mpeg2SequenceExtension}
-use Rattle.headers.specs.declared.sequence_extension.SequenceExtensionRead.{SequenceExtensionRead}
-use Rattle.headers.specs.declared.sequence_extension.SequenceExtensionRead.the-variants.{Parsed as ExtensionParsed, Refused as ExtensionRefused}
+use Rattle.headers.specs.declared.sequence_extension.Mpeg2Sequence.{Mpeg2Sequence}
+use Rattle.headers.specs.declared.sequence_extension.SequenceRead.{SequenceRead}
 
--- the ways of from_buf, with what its calls answer
-module _ (s : List ℕ) (r : SequenceHeaderRead) (h : r ≡ sequenceHeader s) where
-  pub sequence-refused : (e : Error) → r .answer ≡ Refused e → refusedSequence e ≡ sequence s
-  unfolding sequence afterHeader
-  sequence-refused e a = rw (← h, a)
+-- what the code answers: its number, and the sequence or none
+abbrev Told : SequenceRead → Answer Mpeg2Sequence → Type 0
+Told r a = (sequenceAnswer r ≡ a) × (r .sequence ≡ orElse noSequence a)
 
-  pub header-bounds : r .answer ≡ Accepted → HeaderBounds (r .header)
-  header-bounds a = rw h (sequence-header-bounds s (rw h at (a)))
+pub told-refused : (r : SequenceRead) {a : Answer Mpeg2Sequence} (e : Error) → (sequenceAnswer r ≡ refusal e) × (r .sequence ≡ noSequence) → a ≡ refusal e → Told r a
+told-refused r e t q = (t .0 ∙ sym q, rw q (t .1))
 
-  module _ (a : r .answer ≡ Accepted) (n : ℕ) (b : n ≡ sequenceHeaderBytes (r .header)) where
-    pub sequence-missing : Missing ≡ nextStartCode s n → refusedSequence InvalidBitstream ≡ sequence s
-    unfolding sequence afterHeader extensionAt
-    sequence-missing m = rw (← h, a, ← b, ← m)
+-- a case of the header's answer, by what it tells
+pub header-case : (r : SequenceHeaderRead) {f : Flag} {a : Answer Mpeg2SequenceHeader} → r .answer ≡ f → headerAnswer r ≡ a → flagged f (r .header) ≡ a
+header-case r e f = rw (← e) f
 
-    pub sequence-at : (p : ℕ) → At p ≡ nextStartCode s n
-        → withExtension (r .header) (sequenceExtension (take (length s - p) (drop p s))) ≡ sequence s
-    unfolding sequence afterHeader extensionAt
-    sequence-at p f = rw (← h, a, ← b, ← f, rest-is s p)
+-- the ways of from_buf
+module _ (s : List ℕ) where
+  pub sequence-refused : {n p c x : ℕ} → refused n p c x ≡ sequenceHeader s → sequence s ≡ refused n p c x
+  unfolding sequence
+  sequence-refused e = rw (← e)
+
+  module _ (h : Mpeg2SequenceHeader) (e : value h ≡ sequenceHeader s) where
+    pub header-bounds : HeaderBounds h
+    header-bounds = sequence-header-bounds s h (sym e)
+
+    module _ (n : ℕ) (b : n ≡ sequenceHeaderBytes h) where
+      pub sequence-missing : refused 2 0 0 0 ≡ nextStartCode s n → sequence s ≡ refused 2 0 0 0
+      unfolding sequence
+      sequence-missing m = rw (← e, ← b, ← m)
+
+      pub sequence-at : (p : ℕ) → value p ≡ nextStartCode s n
+          → sequence s ≡ andThen (sequenceExtension (take (length s - p) (drop p s))) (λ x. value (sequenceOf h x))
+      unfolding sequence
+      sequence-at p f = rw (← e, ← b, ← f, rest-is s p)
 
 -- what a parsed sequence is
-pub record SequenceParts (s : List ℕ) : Type 0 where
+pub record SequenceParts (s : List ℕ) (q : Mpeg2Sequence) : Type 0 where
   pub place : ℕ
+  pub header : Mpeg2SequenceHeader
   pub extension : Mpeg2SequenceExtension
-  pub header-parsed : sequenceHeader s .answer ≡ Accepted
-  pub code-found : nextStartCode s (sequenceHeaderBytes (sequenceHeader s .header)) ≡ At place
-  pub extension-parsed : sequenceExtension (drop place s) ≡ ExtensionParsed extension
-  pub sequence-is : sequence s .sequence ≡ sequenceOf (sequenceHeader s .header) extension
+  pub header-parsed : sequenceHeader s ≡ value header
+  pub code-found : nextStartCode s (sequenceHeaderBytes header) ≡ value place
+  pub extension-parsed : sequenceExtension (drop place s) ≡ value extension
+  pub sequence-is : q ≡ sequenceOf header extension
 
-pub sequence-parts : (s : List ℕ) → sequence s .answer ≡ Accepted → SequenceParts s
-unfolding sequence afterHeader extensionAt withExtension refusedSequence
-sequence-parts s a = headed (sequenceHeader s .answer) refl a
+pub sequence-parts : (s : List ℕ) (q : Mpeg2Sequence) → sequence s ≡ value q → SequenceParts s q
+unfolding sequence
+sequence-parts s q a = headed (sequenceHeader s) refl a
   where
-    never : {e : Error} → Refused e ≡ Accepted → ⊥
-    never q = let z : _≡_ {A = ℕ} 0 1 = cc in omega arith
-
-    extended : (p : ℕ) (x : SequenceExtensionRead) → sequenceHeader s .answer ≡ Accepted → nextStartCode s (sequenceHeaderBytes (sequenceHeader s .header)) ≡ At p
-        → sequenceExtension (drop p s) ≡ x → withExtension (sequenceHeader s .header) x .answer ≡ Accepted → SequenceParts s
-    extended p (ExtensionRefused e) u f v q = absurd (never q)
-    extended p (ExtensionParsed x) u f v q = record {
+    extended : (h : Mpeg2SequenceHeader) → sequenceHeader s ≡ value h → (p : ℕ) → nextStartCode s (sequenceHeaderBytes h) ≡ value p
+        → (x : Answer Mpeg2SequenceExtension) → sequenceExtension (drop p s) ≡ x → andThen x (λ y. value (sequenceOf h y)) ≡ value q → SequenceParts s q
+    extended h u p f (refused m k c y) v z = let n : _≡_ {A = ℕ} 0 1 = cc in absurd (omega arith)
+    extended h u p f (value x) v z = record {
       place = p;
+      header = h;
       extension = x;
       header-parsed = u;
       code-found = f;
       extension-parsed = v;
-      sequence-is = rw (u, f, v);
+      sequence-is = cc;
     }
 
-    placed : (n : NextStartCode) → sequenceHeader s .answer ≡ Accepted → nextStartCode s (sequenceHeaderBytes (sequenceHeader s .header)) ≡ n
-        → extensionAt s (sequenceHeader s .header) n .answer ≡ Accepted → SequenceParts s
-    placed Missing u f q = absurd (never q)
-    placed (At p) u f q = extended p (sequenceExtension (drop p s)) u f refl q
+    placed : (h : Mpeg2SequenceHeader) → sequenceHeader s ≡ value h → (n : Answer ℕ) → nextStartCode s (sequenceHeaderBytes h) ≡ n
+        → andThen n (λ place. andThen (sequenceExtension (drop place s)) (λ y. value (sequenceOf h y))) ≡ value q → SequenceParts s q
+    placed h u (refused m k c y) f z = let n : _≡_ {A = ℕ} 0 1 = cc in absurd (omega arith)
+    placed h u (value p) f z = extended h u p f (sequenceExtension (drop p s)) refl z
 
-    headed : (b : Answer) → sequenceHeader s .answer ≡ b → afterHeader s (sequenceHeader s .header) b .answer ≡ Accepted → SequenceParts s
-    headed (Refused e) u q = absurd (never q)
-    headed Accepted u q = placed (nextStartCode s (sequenceHeaderBytes (sequenceHeader s .header))) u refl q
+    headed : (r : Answer Mpeg2SequenceHeader) → sequenceHeader s ≡ r
+        → andThen r (λ h. andThen (nextStartCode s (sequenceHeaderBytes h)) (λ place. andThen (sequenceExtension (drop place s)) (λ y. value (sequenceOf h y)))) ≡ value q
+        → SequenceParts s q
+    headed (refused m k c y) u z = let n : _≡_ {A = ℕ} 0 1 = cc in absurd (omega arith)
+    headed (value h) u z = placed h u (nextStartCode s (sequenceHeaderBytes h)) refl z
 
 -- what stands behind a parsed sequence does not matter
-pub sequence-append : (s t : List ℕ) → sequence s .answer ≡ Accepted → sequence (s ++ t) ≡ sequence s
-unfolding sequence afterHeader extensionAt
-sequence-append s t a =
-    let p = sequence-parts s a in
-    let f = next-found s (sequenceHeaderBytes (sequenceHeader s .header)) (p .place) (p .code-found) in
+pub sequence-append : SequenceStays
+unfolding sequence
+sequence-append s t q a =
+    let p = sequence-parts s q a in
+    let f = next-found s (sequenceHeaderBytes (p .header)) (p .place) (p .code-found) in
     let l : p .place ≤ length s = omega (arith, f .prefix .room) in
-    let h = sequence-header-append s t (λ e. let z : _≡_ {A = ℕ} 0 1 = cc in omega arith) in
-    let c = next-append s t (sequenceHeaderBytes (sequenceHeader s .header)) (p .place) (p .code-found) in
-    let x = extension-append (drop (p .place) s) t (λ e. let z : _≡_ {A = ℕ} 0 1 = cc in omega arith) in
-    rw (h, p .header-parsed, c, p .code-found, drop-append-le (p .place) s t l, x)
+    let h = sequence-header-append s t (λ e. let n = ap number (sym (p .header-parsed) ∙ e) in omega arith) ∙ p .header-parsed in
+    let c = next-append s t (sequenceHeaderBytes (p .header)) (p .place) (p .code-found) in
+    let x = extension-append (drop (p .place) s) t (λ e. let n = ap number (sym (p .extension-parsed) ∙ e) in omega arith) ∙ p .extension-parsed in
+    rw (h, c, drop-append-le (p .place) s t l, x) (ap value (sym (p .sequence-is)))

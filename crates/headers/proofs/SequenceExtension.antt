@@ -8,21 +8,21 @@ use native.Mathlib.Omega.{arith}
 use lib.Dec.{eqb}
 use lib.ListN.{getD}
 use Rattle.bits.specs.Bits.{pick}
-use Rattle.bits.specs.Fields.{Field, Parsed, short, bad, got, readHeader, writeHeader, fitsAll, total}
+use Rattle.bits.specs.Fields.{Field, readHeader, writeHeader, fitsAll, total}
+use Rattle.bits.specs.Refusals.{Answer, value, refused, andThen}
 use Rattle.bits.specs.Answers.{places}
 use Rattle.bits.proofs.Reading.{places-at, header-got, read-range, read-length, header-append, header-short-cut, total-none, total-more}
 use Rattle.bits.proofs.Checking.{Fits, fits-none, fits-more, fits-all}
 use Rattle.bits.proofs.Writing.{header-read-written, header-write-read, read-fits}
-use Rattle.headers.specs.Answers.{flagOf}
-use Rattle.headers.specs.SequenceExtension.{extensionStartCode, sequenceExtensionFields, chromaFormat, chromaCode, extensionOf, extensionRead, sequenceExtension, extensionValues}
+use Rattle.headers.specs.Answers.{flagOf, extensionAnswer}
+use Rattle.headers.specs.SequenceExtension.{extensionStartCode, sequenceExtensionFields, chromaFormat, chromaCode, extensionOf, sequenceExtension, extensionValues}
 use Rattle.headers.specs.StreamWriter.{plainExtension}
-use Rattle.headers.specs.RoundTrips.{ExtensionWrittenReads, ExtensionReadWrites}
+use Rattle.headers.specs.RoundTrips.{ExtensionWrittenReads, ExtensionReadWrites, ExtensionStays}
 use Rattle.headers.proofs.Answers.{flag-bound, flag-same, flag-back, spread, spread-is}
-use Rattle.headers.specs.declared.Error.the-variants.{ShortHeader}
 use Rattle.headers.specs.declared.sequence_extension.ChromaFormat.{ChromaFormat}
 use Rattle.headers.specs.declared.sequence_extension.ChromaFormat.the-variants.{Yuv420, Yuv422, Yuv444}
 use Rattle.headers.specs.declared.sequence_extension.Mpeg2SequenceExtension.{Mpeg2SequenceExtension}
-use Rattle.headers.specs.declared.sequence_extension.SequenceExtensionRead.the-variants.{Parsed as Accepted, Refused}
+use Rattle.headers.specs.declared.sequence_extension.SequenceExtensionRead.{SequenceExtensionRead}
 
 -- the zeros behind the values do not matter
 pub extension-places : (vs : List ℕ) → extensionOf (places vs) ≡ extensionOf vs
@@ -30,16 +30,15 @@ unfolding extensionOf
 extension-places vs = simp places-at
 
 -- a parsed extension is the one that its values make
-pub extension-got : (s : List ℕ) (e : Mpeg2SequenceExtension) → sequenceExtension s ≡ Accepted e
-    → (vs : List ℕ) × (readHeader extensionStartCode sequenceExtensionFields s ≡ got vs) × (e ≡ extensionOf vs)
-unfolding sequenceExtension extensionRead
+pub extension-got : (s : List ℕ) (e : Mpeg2SequenceExtension) → sequenceExtension s ≡ value e
+    → (vs : List ℕ) × (readHeader extensionStartCode sequenceExtensionFields s ≡ value vs) × (e ≡ extensionOf vs)
+unfolding sequenceExtension
 extension-got s e q = case (readHeader extensionStartCode sequenceExtensionFields s) refl q
   where
-    case : (p : Parsed) → readHeader extensionStartCode sequenceExtensionFields s ≡ p → extensionRead p ≡ Accepted e
-        → (vs : List ℕ) × (readHeader extensionStartCode sequenceExtensionFields s ≡ got vs) × (e ≡ extensionOf vs)
-    case short r x = ([], (cc), (cc))
-    case bad r x = ([], (cc), (cc))
-    case (got vs) r x = (vs, r, cc)
+    case : (p : Answer (List ℕ)) → readHeader extensionStartCode sequenceExtensionFields s ≡ p → andThen p (λ vs. value (extensionOf vs)) ≡ value e
+        → (vs : List ℕ) × (readHeader extensionStartCode sequenceExtensionFields s ≡ value vs) × (e ≡ extensionOf vs)
+    case (refused n p c x) r y = ([], (cc), (cc))
+    case (value vs) r y = (vs, r, cc)
 
 pub record ExtensionBounds (e : Mpeg2SequenceExtension) : Type 0 where
   pub profile : e .«profile_and_level» ≤ 255
@@ -50,7 +49,7 @@ pub record ExtensionBounds (e : Mpeg2SequenceExtension) : Type 0 where
   pub frame-n : e .«frame_rate_extension_n» ≤ 3
   pub frame-d : e .«frame_rate_extension_d» ≤ 31
 
-pub extension-bounds : (s : List ℕ) (e : Mpeg2SequenceExtension) → sequenceExtension s ≡ Accepted e → ExtensionBounds e
+pub extension-bounds : (s : List ℕ) (e : Mpeg2SequenceExtension) → sequenceExtension s ≡ value e → ExtensionBounds e
 unfolding extensionOf
 extension-bounds s e q =
     let g = extension-got s e q in
@@ -66,20 +65,24 @@ extension-bounds s e q =
     }
 
 -- what stands behind does not matter, unless the bytes are too short
-module _ (s t : List ℕ) where
-  pub extension-append : (sequenceExtension s ≡ Refused ShortHeader → ⊥) → sequenceExtension (s ++ t) ≡ sequenceExtension s
-  unfolding sequenceExtension extensionRead
-  extension-append h = ap extensionRead (header-append extensionStartCode sequenceExtensionFields s t (λ z. h (ap extensionRead z)))
+pub extension-append : ExtensionStays
+unfolding sequenceExtension
+extension-append s t h = rw (header-append extensionStartCode sequenceExtensionFields s t (λ z. h (rw z)))
 
-  pub extension-short-cut : sequenceExtension (s ++ t) ≡ Refused ShortHeader → sequenceExtension s ≡ Refused ShortHeader
-  unfolding sequenceExtension extensionRead
-  extension-short-cut q = case (readHeader extensionStartCode sequenceExtensionFields (s ++ t)) refl q
-    where
-      case : (p : Parsed) → readHeader extensionStartCode sequenceExtensionFields (s ++ t) ≡ p → extensionRead p ≡ Refused ShortHeader
-          → sequenceExtension s ≡ Refused ShortHeader
-      case short r x = ap extensionRead (header-short-cut extensionStartCode sequenceExtensionFields s t r)
-      case bad r x = cc
-      case (got vs) r x = cc
+pub extension-short-cut : (s t : List ℕ) → sequenceExtension (s ++ t) ≡ refused 1 0 0 0 → sequenceExtension s ≡ refused 1 0 0 0
+unfolding sequenceExtension
+extension-short-cut s t q = case (readHeader extensionStartCode sequenceExtensionFields (s ++ t)) refl q
+  where
+    case : (p : Answer (List ℕ)) → readHeader extensionStartCode sequenceExtensionFields (s ++ t) ≡ p
+        → andThen p (λ vs. value (extensionOf vs)) ≡ refused 1 0 0 0 → sequenceExtension s ≡ refused 1 0 0 0
+    case (refused n p c x) r y =
+        let z : readHeader extensionStartCode sequenceExtensionFields (s ++ t) ≡ refused 1 0 0 0 = cc in
+        rw (header-short-cut extensionStartCode sequenceExtensionFields s t z)
+    case (value vs) r y = cc
+
+-- a case of the answer, by what it tells
+pub extension-case : {r x : SequenceExtensionRead} {a : Answer Mpeg2SequenceExtension} → r ≡ x → extensionAnswer r ≡ a → extensionAnswer x ≡ a
+extension-case e f = rw (← e) f
 
 -- chroma formats and their codes
 chroma-same : (c : ChromaFormat) → chromaFormat (chromaCode c) ≡ c
@@ -102,9 +105,8 @@ values-whole e = rw (chroma-same (e .«chroma_format»), flag-same (e .«progres
 
 -- what was written is read again, whatever stands behind
 pub extension-read-back : ExtensionWrittenReads
-unfolding sequenceExtension extensionRead
-extension-read-back e t f =
-    ap extensionRead (header-read-written extensionStartCode sequenceExtensionFields (extensionValues e) t refl f) ∙ ap Accepted (values-whole e)
+unfolding sequenceExtension
+extension-read-back e t f = rw (header-read-written extensionStartCode sequenceExtensionFields (extensionValues e) t refl f, values-whole e)
 
 -- what is within its bounds fits
 chroma-bound : (c : ChromaFormat) → (1 ≤ chromaCode c) × (chromaCode c ≤ 3)
@@ -134,12 +136,12 @@ plain-bounds Yuv444 progressive = omega arith
 
 pub plain-read-back : (c : ChromaFormat) (progressive : Bool) (t : List ℕ)
     → sequenceExtension (writeHeader extensionStartCode sequenceExtensionFields (extensionValues (plainExtension c progressive)) ++ t)
-    ≡ Accepted (plainExtension c progressive)
+    ≡ value (plainExtension c progressive)
 plain-read-back c progressive t =
     extension-read-back (plainExtension c progressive) t (extension-fits (plainExtension c progressive) (plain-bounds c progressive))
 
 -- the values that were read are those of the extension that they make
-values-same : (s vs : List ℕ) → readHeader extensionStartCode sequenceExtensionFields s ≡ got vs → extensionValues (extensionOf vs) ≡ vs
+values-same : (s vs : List ℕ) → readHeader extensionStartCode sequenceExtensionFields s ≡ value vs → extensionValues (extensionOf vs) ≡ vs
 unfolding extensionValues extensionOf
 values-same s vs e =
     let f = header-got extensionStartCode sequenceExtensionFields s vs e .fields-read in

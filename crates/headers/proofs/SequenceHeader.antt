@@ -7,91 +7,107 @@ use Prim.Native.Nat.{ℕ, _+_, _*_, _≤_}
 use native.Mathlib.Omega.{arith}
 use lib.Dec.{eqb}
 use lib.ListN.{getD}
-use Rattle.bits.specs.Fields.{Parsed, short, bad, got, readHeader}
+use Rattle.bits.specs.Refusals.{Answer, value, refused, number, orElse}
+use Rattle.bits.specs.Fields.{readHeader}
 use Rattle.bits.proofs.Reading.{both-true, read-range, header-got, header-append}
-use Rattle.headers.specs.Answers.{flagOf}
-use Rattle.headers.specs.QuantMatrix.{readMatrix, matrixOf, matrixRead}
-use Rattle.headers.specs.SequenceHeader.{sequenceHeaderCode, sequenceHeaderFields, aspectRatio, headerOf, refusedHeader, headerThen, sequenceHeader}
+use Rattle.bits.proofs.Reading as rd
+use Rattle.headers.specs.Answers.{flagOf, refusal, matrixAnswer, headerAnswer}
+use Rattle.headers.specs.QuantMatrix.{readMatrix, matrixOf, matrixAt}
+use Rattle.headers.specs.SequenceHeader.{sequenceHeaderCode, sequenceHeaderFields, aspectRatio, headerOf, noHeader, sequenceHeader}
+use Rattle.headers.specs.RoundTrips.{HeaderStays}
 use Rattle.headers.specs.declared.Error.{Error}
-use Rattle.headers.specs.declared.Error.the-variants.{ShortHeader, InvalidBitstream}
+use Rattle.headers.specs.declared.quant_matrix_extension.QuantiserMatrix.{QuantiserMatrix}
 use Rattle.headers.specs.declared.quant_matrix_extension.MatrixRead.{MatrixRead}
 use Rattle.headers.specs.declared.sequence_header.Mpeg2SequenceHeader.{Mpeg2SequenceHeader}
 use Rattle.headers.specs.declared.sequence_header.SequenceHeaderRead.{SequenceHeaderRead}
-use Rattle.headers.specs.declared.sequence_header.Answer.the-variants.{Parsed as Accepted, Refused}
-use Rattle.headers.proofs.QuantMatrix.{Matrix, matrix-seen, matrix-append, matrix-there, matrix-missing, matrix-flag}
+use Rattle.headers.specs.declared.sequence_header.Answer.the-variants.{Parsed}
+use Rattle.headers.proofs.QuantMatrix.{Matrix, missing, none, one, matrix-seen, matrix-append, matrix-there, matrix-missing, matrix-flag}
 
 -- the fields before the matrices
-abbrev pub fixedFields : List ℕ → Parsed
+abbrev pub fixedFields : List ℕ → Answer (List ℕ)
 fixedFields s = readHeader sequenceHeaderCode sequenceHeaderFields s
 
 -- the ways that parsing goes
 module _ (s : List ℕ) where
-  pub header-short : fixedFields s ≡ short → sequenceHeader s ≡ refusedHeader ShortHeader
-  unfolding sequenceHeader headerThen
-  header-short e = rw e
+  pub fields-refused : {n p c x : ℕ} → fixedFields s ≡ refused n p c x → sequenceHeader s ≡ refused n p c x
+  unfolding sequenceHeader
+  fields-refused e = rw e
 
-  pub header-bad : fixedFields s ≡ bad → sequenceHeader s ≡ refusedHeader InvalidBitstream
-  unfolding sequenceHeader headerThen
-  header-bad e = rw e
+  module _ (h : List ℕ) (e : fixedFields s ≡ value h) where
+    intra-refused : {n p c x : ℕ} → readMatrix s 94 ≡ refused n p c x → sequenceHeader s ≡ refused n p c x
+    unfolding sequenceHeader
+    intra-refused f = rw (e, f)
 
-  module _ (h : List ℕ) (e : fixedFields s ≡ got h) where
-    pub intra-short : readMatrix s 94 ≡ short → sequenceHeader s ≡ refusedHeader ShortHeader
-    unfolding sequenceHeader headerThen
-    intra-short f = rw (e, f)
+    module _ (intra : List ℕ) (f : readMatrix s 94 ≡ value intra) where
+      non-intra-refused : {n p c x : ℕ} → readMatrix s (95 + 512 * getD intra 0 0) ≡ refused n p c x → sequenceHeader s ≡ refused n p c x
+      unfolding sequenceHeader
+      non-intra-refused g = rw (e, f, g)
 
-    module _ (intra : List ℕ) (f : readMatrix s 94 ≡ got intra) where
-      pub non-intra-short : readMatrix s (95 + 512 * getD intra 0 0) ≡ short → sequenceHeader s ≡ refusedHeader ShortHeader
-      unfolding sequenceHeader headerThen
-      non-intra-short g = rw (e, f, g)
-
-      pub header-parsed : (nonIntra : List ℕ) → readMatrix s (95 + 512 * getD intra 0 0) ≡ got nonIntra
-          → sequenceHeader s ≡ record { answer = Accepted; header = headerOf h intra nonIntra }
-      unfolding sequenceHeader headerThen
+      pub header-parsed : (nonIntra : List ℕ) → readMatrix s (95 + 512 * getD intra 0 0) ≡ value nonIntra
+          → sequenceHeader s ≡ value (headerOf h intra nonIntra)
+      unfolding sequenceHeader
       header-parsed nonIntra g = rw (e, f, g)
 
 -- all of them: the bytes are too short; a field is bad; or the fields and both matrices are read
-pub data Seen (s : List ℕ) : SequenceHeaderRead → Type 0 where
-  cut : Seen s (refusedHeader ShortHeader)
-  broken : fixedFields s ≡ bad → Seen s (refusedHeader InvalidBitstream)
-  whole : (h intra nonIntra : List ℕ) → fixedFields s ≡ got h → readMatrix s 94 ≡ got intra
-      → readMatrix s (95 + 512 * getD intra 0 0) ≡ got nonIntra → Seen s (record { answer = Accepted; header = headerOf h intra nonIntra })
+pub data Seen (s : List ℕ) : Answer Mpeg2SequenceHeader → Type 0 where
+  cut : Seen s (refused 1 0 0 0)
+  broken : fixedFields s ≡ refused 2 0 0 0 → Seen s (refused 2 0 0 0)
+  whole : (h intra nonIntra : List ℕ) → fixedFields s ≡ value h → readMatrix s 94 ≡ value intra
+      → readMatrix s (95 + 512 * getD intra 0 0) ≡ value nonIntra → Seen s (value (headerOf h intra nonIntra))
 
 pub header-seen : (s : List ℕ) → Seen s (sequenceHeader s)
-header-seen s = fields (fixedFields s) refl
+header-seen s = fields (rd.header-seen sequenceHeaderCode sequenceHeaderFields s) refl
   where
-    nonIntra : (h i : List ℕ) → fixedFields s ≡ got h → readMatrix s 94 ≡ got i
-        → (p : Parsed) → readMatrix s (95 + 512 * getD i 0 0) ≡ p → Matrix s (95 + 512 * getD i 0 0) p → Seen s (sequenceHeader s)
-    nonIntra h i e f short g m = rw (non-intra-short s h e i f g) cut
-    nonIntra h i e f (got n) g m = rw (header-parsed s h e i f n g) (whole h i n e f g)
+    all : (h i n : List ℕ) → fixedFields s ≡ value h → readMatrix s 94 ≡ value i → readMatrix s (95 + 512 * getD i 0 0) ≡ value n → Seen s (sequenceHeader s)
+    all h i n e f g = rw (header-parsed s h e i f n g) (whole h i n e f g)
 
-    intra : (h : List ℕ) → fixedFields s ≡ got h
-        → (p : Parsed) → readMatrix s 94 ≡ p → Matrix s 94 p → Seen s (sequenceHeader s)
-    intra h e short f m = rw (intra-short s h e f) cut
-    intra h e (got i) f m = nonIntra h i e f (readMatrix s (95 + 512 * getD i 0 0)) refl (matrix-seen s (95 + 512 * getD i 0 0))
+    nonIntra : (h i : List ℕ) → fixedFields s ≡ value h → readMatrix s 94 ≡ value i
+        → {p : Answer (List ℕ)} → Matrix s (95 + 512 * getD i 0 0) p → readMatrix s (95 + 512 * getD i 0 0) ≡ p → Seen s (sequenceHeader s)
+    nonIntra h i e f missing g = rw (non-intra-refused s h e i f g) cut
+    nonIntra h i e f (none r) g = all h i _ e f g
+    nonIntra h i e f (one bytes l r) g = all h i _ e f g
 
-    fields : (p : Parsed) → fixedFields s ≡ p → Seen s (sequenceHeader s)
-    fields short e = rw (header-short s e) cut
-    fields bad e = rw (header-bad s e) (broken e)
-    fields (got h) e = intra h e (readMatrix s 94) refl (matrix-seen s 94)
+    behind : (h i : List ℕ) → fixedFields s ≡ value h → readMatrix s 94 ≡ value i → Seen s (sequenceHeader s)
+    behind h i e f = nonIntra h i e f (matrix-seen s (95 + 512 * getD i 0 0)) refl
+
+    intra : (h : List ℕ) → fixedFields s ≡ value h → {p : Answer (List ℕ)} → Matrix s 94 p → readMatrix s 94 ≡ p → Seen s (sequenceHeader s)
+    intra h e missing f = rw (intra-refused s h e f) cut
+    intra h e (none r) f = behind h _ e f
+    intra h e (one bytes l r) f = behind h _ e f
+
+    fields : {p : Answer (List ℕ)} → rd.Seen p → fixedFields s ≡ p → Seen s (sequenceHeader s)
+    fields rd.cut e = rw (fields-refused s e) cut
+    fields rd.broken e = rw (fields-refused s e) (broken e)
+    fields (rd.whole h) e = intra h e (matrix-seen s 94) refl
+
+-- what the code answers: its number, and the header or none
+abbrev Told : SequenceHeaderRead → Answer Mpeg2SequenceHeader → Type 0
+Told r a = (headerAnswer r ≡ a) × (r .header ≡ orElse noHeader a)
+
+pub told-refused : (r : SequenceHeaderRead) {a : Answer Mpeg2SequenceHeader} (e : Error) → (headerAnswer r ≡ refusal e) × (r .header ≡ noHeader) → a ≡ refusal e → Told r a
+told-refused r e t q = (t .0 ∙ sym q, rw q (t .1))
+
+told-parsed : (h : Mpeg2SequenceHeader) {a : Answer Mpeg2SequenceHeader} → a ≡ value h → Told (record { answer = Parsed; header = h }) a
+told-parsed h q = (sym q, rw q)
 
 -- the ways of parse, with what its calls of read_matrix answer
-module _ (s h : List ℕ) (e : fixedFields s ≡ got h) (first second : MatrixRead)
-    (f : first ≡ matrixRead (readMatrix s 94)) (g : second ≡ matrixRead (readMatrix s (95 + 512 * flagOf (first .matrix .load)))) where
-  at-second : (i : List ℕ) → readMatrix s 94 ≡ got i → first .matrix ≡ matrixOf i → second ≡ matrixRead (readMatrix s (95 + 512 * getD i 0 0))
+module _ (s h : List ℕ) (e : fixedFields s ≡ value h) (first second : MatrixRead)
+    (f : matrixAnswer first ≡ matrixAt s 94) (g : matrixAnswer second ≡ matrixAt s (95 + 512 * flagOf (first .matrix .load))) where
+  at-second : (i : List ℕ) → readMatrix s 94 ≡ value i → first .matrix ≡ matrixOf i → matrixAnswer second ≡ matrixAt s (95 + 512 * getD i 0 0)
   at-second i p m = rw (← matrix-flag s 94 i p, ← m) g
 
-  pub matrices-cut : first .there && second .there ≡ false → refusedHeader ShortHeader ≡ sequenceHeader s
+  pub matrices-cut : first .there && second .there ≡ false → sequenceHeader s ≡ refused 1 0 0 0
   matrices-cut t = case (first .there) refl
     where
-      case : (b : Bool) → first .there ≡ b → refusedHeader ShortHeader ≡ sequenceHeader s
-      case false a = sym (intra-short s h e (matrix-missing s 94 first f a))
+      case : (b : Bool) → first .there ≡ b → sequenceHeader s ≡ refused 1 0 0 0
+      case false a = intra-refused s h e (matrix-missing s 94 first f a)
       case true a =
           let i = matrix-there s 94 first f a in
-          sym (non-intra-short s h e (i .0) (i .1) (matrix-missing s _ second (at-second (i .0) (i .1) (i .2)) (rw a at (t))))
+          non-intra-refused s h e (i .0) (i .1) (matrix-missing s _ second (at-second (i .0) (i .1) (i .2)) (rw a at (t)))
 
   pub matrices-there : first .there && second .there ≡ true
-      → record {
-        answer = Accepted;
+      → Told (record {
+        answer = Parsed;
         header = record {
           width = getD h 0 0;
           height = getD h 1 0;
@@ -103,44 +119,53 @@ module _ (s h : List ℕ) (e : fixedFields s ≡ got h) (first second : MatrixRe
           «intra_quant» = first .matrix;
           «non_intra_quant» = second .matrix;
         };
-      }
-      ≡ sequenceHeader s
+      }) (sequenceHeader s)
   unfolding headerOf
   matrices-there t =
       let b = both-true (first .there) (second .there) t in
       let i = matrix-there s 94 first f (b .0) in
       let n = matrix-there s _ second (at-second (i .0) (i .1) (i .2)) (b .1) in
-      let p = header-parsed s h e (i .0) (i .1) (n .0) (n .1) in
-      cc
+      told-parsed _ (header-parsed s h e (i .0) (i .1) (n .0) (n .1) ∙ made (i .0) (n .0) (first .matrix) (second .matrix) (i .2) (n .2))
+    where
+      made : (i n : List ℕ) (a b : QuantiserMatrix) → a ≡ matrixOf i → b ≡ matrixOf n
+          → value (headerOf h i n)
+          ≡ value (record {
+            width = getD h 0 0;
+            height = getD h 1 0;
+            «aspect_ratio» = aspectRatio (getD h 2 0);
+            «frame_rate_code» = getD h 3 0;
+            «bit_rate» = getD h 4 0;
+            «vbv_buffer_size» = getD h 6 0;
+            «constrained_parameters» = eqb (getD h 7 0) 1;
+            «intra_quant» = a;
+            «non_intra_quant» = b;
+          })
+      made i n a b p q = rw (p, q)
 
 -- what a parsed header is
-pub record Parts (s : List ℕ) : Type 0 where
+pub record Parts (s : List ℕ) (h : Mpeg2SequenceHeader) : Type 0 where
   pub fields : List ℕ
   pub intra : List ℕ
   pub nonIntra : List ℕ
-  pub fields-read : fixedFields s ≡ got fields
-  pub intra-read : readMatrix s 94 ≡ got intra
-  pub non-intra-read : readMatrix s (95 + 512 * getD intra 0 0) ≡ got nonIntra
-  pub header-is : sequenceHeader s .header ≡ headerOf fields intra nonIntra
+  pub fields-read : fixedFields s ≡ value fields
+  pub intra-read : readMatrix s 94 ≡ value intra
+  pub non-intra-read : readMatrix s (95 + 512 * getD intra 0 0) ≡ value nonIntra
+  pub header-is : h ≡ headerOf fields intra nonIntra
 
-pub header-parts : (s : List ℕ) → sequenceHeader s .answer ≡ Accepted → Parts s
-unfolding refusedHeader
-header-parts s a = case (header-seen s) refl a
+pub header-parts : (s : List ℕ) (h : Mpeg2SequenceHeader) → sequenceHeader s ≡ value h → Parts s h
+header-parts s h a = case (header-seen s) a
   where
-    never : {e : Error} → Refused e ≡ Accepted → ⊥
-    never q = let z : _≡_ {A = ℕ} 0 1 = cc in omega arith
-
-    case : {r : SequenceHeaderRead} → Seen s r → sequenceHeader s ≡ r → r .answer ≡ Accepted → Parts s
-    case cut q b = absurd (never b)
-    case (broken e) q b = absurd (never b)
-    case (whole h i n e f g) q b = record {
-      fields = h;
+    case : {r : Answer Mpeg2SequenceHeader} → Seen s r → r ≡ value h → Parts s h
+    case cut q = let n = ap number q in absurd (omega arith)
+    case (broken e) q = let n = ap number q in absurd (omega arith)
+    case (whole f i n e u v) q = record {
+      fields = f;
       intra = i;
       nonIntra = n;
       fields-read = e;
-      intra-read = f;
-      non-intra-read = g;
-      header-is = ap (λ (x : SequenceHeaderRead). x .header) q;
+      intra-read = u;
+      non-intra-read = v;
+      header-is = cc;
     }
 
 -- the bounds of its fields
@@ -155,10 +180,10 @@ pub record HeaderBounds (h : Mpeg2SequenceHeader) : Type 0 where
   pub rate-high : h .«bit_rate» ≤ 262143
   pub buffer-high : h .«vbv_buffer_size» ≤ 1023
 
-pub sequence-header-bounds : (s : List ℕ) → sequenceHeader s .answer ≡ Accepted → HeaderBounds (sequenceHeader s .header)
+pub sequence-header-bounds : (s : List ℕ) (h : Mpeg2SequenceHeader) → sequenceHeader s ≡ value h → HeaderBounds h
 unfolding headerOf
-sequence-header-bounds s a =
-    let p = header-parts s a in
+sequence-header-bounds s h a =
+    let p = header-parts s h a in
     let r = read-range sequenceHeaderFields s 32 (p .fields) (header-got sequenceHeaderCode sequenceHeaderFields s (p .fields) (p .fields-read) .fields-read) in
     rw (p .header-is) (record {
       width-low = r 0 .0;
@@ -173,29 +198,27 @@ sequence-header-bounds s a =
     })
 
 -- what stands behind the bytes does not matter, unless they are too short
-pub sequence-header-append : (s t : List ℕ) → (sequenceHeader s .answer ≡ Refused ShortHeader → ⊥) → sequenceHeader (s ++ t) ≡ sequenceHeader s
-unfolding refusedHeader
+pub sequence-header-append : HeaderStays
 sequence-header-append s t k = case (header-seen s) refl
   where
-    same : {p : Parsed} → fixedFields s ≡ p → (short ≡ p → ⊥) → fixedFields (s ++ t) ≡ p
+    same : {p : Answer (List ℕ)} → fixedFields s ≡ p → (refused 1 0 0 0 ≡ p → ⊥) → fixedFields (s ++ t) ≡ p
     same e n = header-append sequenceHeaderCode sequenceHeaderFields s t (λ z. n (sym z ∙ e)) ∙ e
 
-    case : {r : SequenceHeaderRead} → Seen s r → sequenceHeader s ≡ r → sequenceHeader (s ++ t) ≡ sequenceHeader s
-    case cut q = absurd (k (ap (λ (x : SequenceHeaderRead). x .answer) q))
-    case (broken e) q = header-bad (s ++ t) (same e (λ z. let n : _≡_ {A = ℕ} 0 1 = cc in omega arith)) ∙ sym q
+    case : {r : Answer Mpeg2SequenceHeader} → Seen s r → sequenceHeader s ≡ r → sequenceHeader (s ++ t) ≡ sequenceHeader s
+    case cut q = absurd (k q)
+    case (broken e) q = fields-refused (s ++ t) (same e (λ z. let n = ap number z in omega arith)) ∙ sym q
     case (whole h i n e f g) q =
-        header-parsed (s ++ t) h (same e (λ z. let n : _≡_ {A = ℕ} 0 1 = cc in omega arith)) i (matrix-append s t 94 i f) n (matrix-append s t _ n g)
+        header-parsed (s ++ t) h (same e (λ z. let n = ap number z in omega arith)) i (matrix-append s t 94 i f) n (matrix-append s t _ n g)
         ∙ sym q
 
 -- so what is too short with more behind it is too short
-pub sequence-header-short-cut : (s t : List ℕ) → sequenceHeader (s ++ t) .answer ≡ Refused ShortHeader → sequenceHeader s .answer ≡ Refused ShortHeader
-unfolding refusedHeader
+pub sequence-header-short-cut : (s t : List ℕ) → sequenceHeader (s ++ t) ≡ refused 1 0 0 0 → sequenceHeader s ≡ refused 1 0 0 0
 sequence-header-short-cut s t e = case (header-seen s) refl
   where
-    same : (sequenceHeader s .answer ≡ Refused ShortHeader → ⊥) → sequenceHeader s .answer ≡ Refused ShortHeader
-    same k = ap (λ (x : SequenceHeaderRead). x .answer) (sym (sequence-header-append s t k)) ∙ e
+    same : (sequenceHeader s ≡ refused 1 0 0 0 → ⊥) → sequenceHeader s ≡ refused 1 0 0 0
+    same k = sym (sequence-header-append s t k) ∙ e
 
-    case : {r : SequenceHeaderRead} → Seen s r → sequenceHeader s ≡ r → sequenceHeader s .answer ≡ Refused ShortHeader
-    case cut q = ap (λ (x : SequenceHeaderRead). x .answer) q
-    case (broken b) q = same (λ k. let n : _≡_ {A = ℕ} 0 1 = cc in omega arith)
-    case (whole h i n b f g) q = same (λ k. let n : _≡_ {A = ℕ} 0 1 = cc in omega arith)
+    case : {r : Answer Mpeg2SequenceHeader} → Seen s r → sequenceHeader s ≡ r → sequenceHeader s ≡ refused 1 0 0 0
+    case cut q = q
+    case (broken b) q = same (λ k. let n = ap number (sym q ∙ k) in omega arith)
+    case (whole h i n b f g) q = same (λ k. let n = ap number (sym q ∙ k) in omega arith)

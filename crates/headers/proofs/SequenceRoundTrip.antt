@@ -9,7 +9,8 @@ use lib.Dec.{eqb}
 use lib.ListN.{getD, take}
 use borrow.Author.Tests.{eqb-true, eqb-false}
 use Rattle.bits.specs.Bits.{pick}
-use Rattle.bits.specs.Fields.{Field, got, readFields, writeHeader, total}
+use Rattle.bits.specs.Fields.{Field, readFields, writeHeader, total}
+use Rattle.bits.specs.Refusals.{value}
 use Rattle.bits.proofs.Reading.{read-both, read-split, read-range, read-length, header-got, header-of}
 use Rattle.bits.proofs.Appending.{Below}
 use Rattle.bits.proofs.Putting.{total-append}
@@ -22,7 +23,6 @@ use Rattle.headers.specs.RoundTrips.{sequenceWritten, Writable, WrittenR
 use Rattle.headers.specs.declared.quant_matrix_extension.QuantiserMatrix.{QuantiserMatrix}
 use Rattle.headers.specs.declared.sequence_header.AspectRatio.{AspectRatio}
 use Rattle.headers.specs.declared.sequence_header.AspectRatio.the-variants.{Reserved}
-use Rattle.headers.specs.declared.sequence_header.SequenceHeaderRead.{SequenceHeaderRead}
 use Rattle.headers.proofs.Answers.{spread, spread-is}
 use Rattle.headers.proofs.QuantMatrix.{matrix-flag, matrix-fields-back, matrix-values-back, matrix-read-back, matrix-of-values, matrix-count, matrix-places, matrix-total}
 use Rattle.headers.proofs.SequenceHeader.{fixedFields, header-parsed, header-parts}
@@ -59,7 +59,7 @@ aspect-back c =
     (choose c (eqb c 4) _ (Reserved c) (λ e. sym (eqb-true c 4 e)) refl)))
 
 -- the fixed fields of what was read
-fixed-back : (s h intra nonIntra : List ℕ) → fixedFields s ≡ got h → eqb (getD h 7 0) 1 ≡ false
+fixed-back : (s h intra nonIntra : List ℕ) → fixedFields s ≡ value h → eqb (getD h 7 0) 1 ≡ false
     → baseValues (paramsOf (headerOf h intra nonIntra)) ≡ h
 unfolding baseValues paramsOf headerOf
 fixed-back s h intra nonIntra e c =
@@ -72,8 +72,8 @@ fixed-back s h intra nonIntra e c =
     x ∙ spread-is 8 h (read-length sequenceHeaderFields s 32 h f)
 
 -- what was read is written again, byte for byte
-module _ (s h i n : List ℕ) (b : Below 256 s) (e : fixedFields s ≡ got h) (f : readMatrix s 94 ≡ got i)
-    (g : readMatrix s (95 + 512 * getD i 0 0) ≡ got n) (c : eqb (getD h 7 0) 1 ≡ false) where
+module _ (s h i n : List ℕ) (b : Below 256 s) (e : fixedFields s ≡ value h) (f : readMatrix s 94 ≡ value i)
+    (g : readMatrix s (95 + 512 * getD i 0 0) ≡ value n) (c : eqb (getD h 7 0) 1 ≡ false) where
   abbrev mi : QuantiserMatrix
   mi = matrixOf i
 
@@ -84,7 +84,7 @@ module _ (s h i n : List ℕ) (b : Below 256 s) (e : fixedFields s ≡ got h) (f
   fs = sequenceHeaderFields ++ (matrixFields mi ++ matrixFields mn)
 
   -- the whole table was read
-  all-read : readFields fs s 32 ≡ got (h ++ (i ++ n))
+  all-read : readFields fs s 32 ≡ value (h ++ (i ++ n))
   all-read =
       let x : 94 ≡ 32 + total sequenceHeaderFields = omega (arith, total-fixed) in
       let y : 95 + 512 * getD i 0 0 ≡ 32 + total sequenceHeaderFields + total (matrixFields mi) = omega (arith, total-fixed, matrix-total mi, matrix-flag s 94 i f) in
@@ -121,9 +121,8 @@ module _ (s h i n : List ℕ) (b : Below 256 s) (e : fixedFields s ≡ got h) (f
 pub sequence-write-back : ReadWrites
 unfolding headerOf
 sequence-write-back s h b e c =
-    let p = header-parts s (ap (λ (r : SequenceHeaderRead). r .answer) e) in
-    let x : h ≡ headerOf (p .fields) (p .intra) (p .nonIntra) = sym (ap (λ (r : SequenceHeaderRead). r .header) e) ∙ p .header-is in
-    rw x (
-      writable s (p .fields) (p .intra) (p .nonIntra) b (p .fields-read) (p .intra-read) (p .non-intra-read) (rw x at (c)),
-      written s (p .fields) (p .intra) (p .nonIntra) b (p .fields-read) (p .intra-read) (p .non-intra-read) (rw x at (c)),
+    let p = header-parts s h e in
+    rw (p .header-is) (
+      writable s (p .fields) (p .intra) (p .nonIntra) b (p .fields-read) (p .intra-read) (p .non-intra-read) (rw (p .header-is) at (c)),
+      written s (p .fields) (p .intra) (p .nonIntra) b (p .fields-read) (p .intra-read) (p .non-intra-read) (rw (p .header-is) at (c)),
     )

@@ -2,7 +2,7 @@
 -- Assumes nothing.
 use mathlib.Core.Path.{_≡_, refl, ap, _∙_}
 use mathlib.Core.List.{List, [], _∷_, _++_}
-use mathlib.Core.Bool.{Bool, true, false}
+use mathlib.Core.Bool.{Bool, true, false, not}
 use Prim.Native.Nat.{ℕ, zero, suc, _+_, _-_, _≤_, _<_}
 use native.Mathlib.Numerals.{add-one}
 use native.Mathlib.Omega.{arith}
@@ -11,10 +11,12 @@ use lib.ListN.{length, getD, take, drop, length-drop, drop-of-length-le}
 use lib.Seq.{drop-cons, drop-append-le, take-append-le}
 use borrow.Author.Tests.{eqb-true, eqb-false}
 use Rattle.bits.specs.Bits.{pick}
+use Rattle.bits.specs.Refusals.{Answer, value, refused}
 use Rattle.bits.specs.Fields.{sameBytes, startCodePrefix}
 use Rattle.bits.proofs.Reading.{same-bytes, same-self, rest-is}
 use Rattle.headers.specs.StartCode.{zeros, prefixAt, nextStartCode}
-use Rattle.headers.specs.declared.NextStartCode.the-variants.{At, Missing}
+use Rattle.headers.specs.Answers.{nextAnswer}
+use Rattle.headers.specs.declared.NextStartCode.{NextStartCode}
 
 -- the first byte from byte k on that is not zero: k itself past the end or where it is not zero, else the first from k + 1 on
 module _ (s : List ℕ) (k : ℕ) where
@@ -98,26 +100,30 @@ prefix-early s k h = case (prefixAt s 0) refl
 
 -- the three ways that next_start_code() goes; e is the first byte that is not zero
 module _ (s : List ℕ) (k e : ℕ) (h : e ≡ k + zeros (drop k s)) where
-  pub next-early : e < 2 → nextStartCode s k ≡ Missing
+  pub next-early : e < 2 → nextStartCode s k ≡ refused 2 0 0 0
   unfolding nextStartCode pick
   next-early l =
       let z : k + zeros (drop k s) - 2 ≡ 0 = omega arith in
       rw (z, prefix-early s k (omega arith))
 
-  pub next-missing : prefixAt s (e - 2) ≡ false → nextStartCode s k ≡ Missing
+  pub next-missing : prefixAt s (e - 2) ≡ false → nextStartCode s k ≡ refused 2 0 0 0
   unfolding nextStartCode pick
   next-missing q = rw (← h, q)
 
-  pub next-at : prefixAt s (e - 2) ≡ true → nextStartCode s k ≡ At (e - 2)
+  pub next-at : prefixAt s (e - 2) ≡ true → nextStartCode s k ≡ value (e - 2)
   unfolding nextStartCode pick
   next-at q = rw (← h, q)
+
+-- a case of the answer, by what it tells
+pub next-case : {r x : NextStartCode} {a : Answer ℕ} → r ≡ x → nextAnswer r ≡ a → nextAnswer x ≡ a
+next-case e f = rw (← e) f
 
 -- what a prefix that was found says: it stands there, and ends with the first byte that is not zero
 pub record Found (s : List ℕ) (k p : ℕ) : Type 0 where
   pub prefix : Prefix s p
   pub ends : p + 2 ≡ k + zeros (drop k s)
 
-pub next-found : (s : List ℕ) (k p : ℕ) → nextStartCode s k ≡ At p → Found s k p
+pub next-found : (s : List ℕ) (k p : ℕ) → nextStartCode s k ≡ value p → Found s k p
 unfolding nextStartCode pick
 next-found s k p e = case (prefixAt s (k + zeros (drop k s) - 2)) refl e
   where
@@ -125,7 +131,7 @@ next-found s k p e = case (prefixAt s (k + zeros (drop k s) - 2)) refl e
     late zero x r = omega (arith, first-zeros s k (r .is))
     late (suc q) x r = omega arith
 
-    case : (b : Bool) → prefixAt s (k + zeros (drop k s) - 2) ≡ b → pick b (At (k + zeros (drop k s) - 2)) Missing ≡ At p → Found s k p
+    case : (b : Bool) → prefixAt s (k + zeros (drop k s) - 2) ≡ b → pick (not b) (refused 2 0 0 0) (value (k + zeros (drop k s) - 2)) ≡ value p → Found s k p
     case true t q =
         let x : p ≡ k + zeros (drop k s) - 2 = cc in
         let r = prefix-true s p (rw x t) in
@@ -133,7 +139,7 @@ next-found s k p e = case (prefixAt s (k + zeros (drop k s) - 2)) refl e
     case false t q = let z : _≡_ {A = ℕ} 0 1 = cc in absurd (omega arith)
 
 -- it is the same in a list with the same bytes from k on and from it on
-pub next-same : (s t : List ℕ) (k p : ℕ) → drop k t ≡ drop k s → drop p t ≡ drop p s → nextStartCode s k ≡ At p → nextStartCode t k ≡ At p
+pub next-same : (s t : List ℕ) (k p : ℕ) → drop k t ≡ drop k s → drop p t ≡ drop p s → nextStartCode s k ≡ value p → nextStartCode t k ≡ value p
 unfolding nextStartCode prefixAt
 next-same s t k p a b e =
     let f = next-found s k p e in
@@ -142,7 +148,7 @@ next-same s t k p a b e =
     rw (a, g) e
 
 -- what stands behind does not move it
-pub next-append : (s t : List ℕ) (k p : ℕ) → nextStartCode s k ≡ At p → nextStartCode (s ++ t) k ≡ At p
+pub next-append : (s t : List ℕ) (k p : ℕ) → nextStartCode s k ≡ value p → nextStartCode (s ++ t) k ≡ value p
 unfolding prefixAt
 next-append s t k p e =
     let f = next-found s k p e in
@@ -154,4 +160,4 @@ next-append s t k p e =
     let w : k + zeros (drop k s) - 2 ≡ p = omega arith in
     let q : prefixAt (s ++ t) (k + zeros (drop k s) - 2) ≡ true =
     rw (w, drop-append-le p s t (omega arith), take-append-le 3 (drop p s) t m, f .prefix .is) (same-self startCodePrefix) in
-    next-at (s ++ t) k (k + zeros (drop k s)) (rw z) q ∙ ap At w
+    next-at (s ++ t) k (k + zeros (drop k s)) (rw z) q ∙ ap value w

@@ -17,7 +17,7 @@ use Rattle.bits.proofs.Checking.{Fits, fits-none, fits-more, fits-all, fits-len
 use Rattle.bits.proofs.Putting.{total-append, field-bits-bytes, wrote-there}
 use Rattle.bits.proofs.Writing.{write-unfit, write-full}
 use Rattle.bits.proofs.Joining.{field-bits-more, field-bits-none, fits-append, fits-bytes, write-on, write-over}
-use Rattle.headers.specs.Answers.{written, flagOf}
+use Rattle.headers.specs.Answers.{writtenAnswer, flagOf}
 use Rattle.headers.specs.QuantMatrix.{matrixBytes, matrixFields, matrixValues}
 use Rattle.headers.specs.SequenceHeader.{sequenceHeaderCode, sequenceHeaderFields}
 use Rattle.headers.specs.SequenceExtension.{extensionValues, chromaCode}
@@ -133,15 +133,14 @@ params-laid p out {q = q} a b f h x y z =
 -- what `write_sequence_header` promises of its answer and of the bytes that it leaves
 abbrev Promised : SequenceHeaderParams → List ℕ → Written → List ℕ → Type 0
 Promised p out r o =
-    (r ≡ written (writeAnswer sequenceHeaderCode (paramsFields p) (paramsValues p) out))
+    (writtenAnswer r ≡ writeAnswer sequenceHeaderCode (paramsFields p) (paramsValues p) out)
     × (o ≡ writeResult sequenceHeaderCode (paramsFields p) (paramsValues p) out)
 
 pub params-unfit : (p : SequenceHeaderParams) (out : List ℕ) → fitsAll sequenceHeaderFields (baseValues p) ≡ false
     → Promised p out (Refused FieldToWrite) out
 unfolding paramsFields paramsValues baseValues
 params-unfit p out f =
-    let w = write-unfit sequenceHeaderCode (paramsFields p) (paramsValues p) out (fits-append sequenceHeaderFields _ (baseValues p) _ refl ∙ rw f) in
-    (ap written (w .0), w .1)
+    write-unfit sequenceHeaderCode (paramsFields p) (paramsValues p) out (fits-append sequenceHeaderFields _ (baseValues p) _ refl ∙ rw f)
 
 -- a matrix as the code holds it
 pub record Held (m : QuantiserMatrix) : Type 0 where
@@ -169,14 +168,12 @@ module _ {p : SequenceHeaderParams} {k : ℕ} (d : Sized p k) (out : List ℕ) w
 
   pub params-full : length out < k → Promised p out (Refused ShortOutput) out
   params-full h =
-      let w = write-full sequenceHeaderCode (paramsFields p) (paramsValues p) out refl params-fit (omega (arith, params-bytes d)) in
-      (ap written (w .0), w .1)
+      write-full sequenceHeaderCode (paramsFields p) (paramsValues p) out refl params-fit (omega (arith, params-bytes d))
 
   pub params-written : {r : List ℕ} → k ≤ length out → r ≡ over (writeHeader sequenceHeaderCode (paramsFields p) (paramsValues p)) out
       → Promised p out (Bytes k) r
   params-written h x =
-      let w = write-over sequenceHeaderCode (paramsFields p) (paramsValues p) out refl params-fit (params-bytes d) h x in
-      (ap written (w .0), w .1)
+      write-over sequenceHeaderCode (paramsFields p) (paramsValues p) out refl params-fit (params-bytes d) h x
 
 -- the values that the code lists
 pub base-values-are : (p : SequenceHeaderParams) → baseValues p

@@ -1,18 +1,19 @@
--- The round trips of paper 01 ('Headers read and written'), as statements: what is owed of the sequence header and of its extension.
+-- The round trips of paper 01 ('Headers read and written'), as statements: what is owed of the sequence header and of its extension; and that bytes behind them do not matter.
 -- Assumes nothing.
 use Prim.Native.Nat.{ℕ, _<_}
 use mathlib.Core.Path.{_≡_}
 use mathlib.Core.List.{List, _++_}
 use mathlib.Core.Bool.{true, false}
 use lib.ListN.{length, getD, take}
+use Rattle.bits.specs.Refusals.{value, refused}
 use Rattle.bits.specs.Fields.{fitsAll, writeHeader}
 use Rattle.headers.specs.SequenceHeader.{sequenceHeaderCode, sequenceHeader, sequenceHeaderBytes}
 use Rattle.headers.specs.SequenceExtension.{extensionStartCode, sequenceExtensionFields, extensionValues, sequenceExtension}
+use Rattle.headers.specs.Sequence.{sequence}
 use Rattle.headers.specs.StreamWriter.{paramsFields, paramsValues, headerOfParams, paramsOf}
 use Rattle.headers.specs.declared.sequence_header.Mpeg2SequenceHeader.{Mpeg2SequenceHeader}
-use Rattle.headers.specs.declared.sequence_header.Answer.the-variants.{Parsed}
 use Rattle.headers.specs.declared.sequence_extension.Mpeg2SequenceExtension.{Mpeg2SequenceExtension}
-use Rattle.headers.specs.declared.sequence_extension.SequenceExtensionRead.the-variants.{Parsed as ExtensionParsed}
+use Rattle.headers.specs.declared.sequence_extension.Mpeg2Sequence.{Mpeg2Sequence}
 use Rattle.headers.specs.declared.stream_writer.SequenceHeaderParams.{SequenceHeaderParams}
 
 -- a list of bytes
@@ -35,18 +36,29 @@ pub record Writable (p : SequenceHeaderParams) : Type 0 where
 -- a written sequence header parses to the fields given, whatever stands behind it
 abbrev pub WrittenReads : Type 0
 WrittenReads = (p : SequenceHeaderParams) (behind : List ℕ) → Writable p
-    → sequenceHeader (sequenceWritten p ++ behind) ≡ record { answer = Parsed; header = headerOfParams p }
+    → sequenceHeader (sequenceWritten p ++ behind) ≡ value (headerOfParams p)
 
 -- a parsed one with constrained_parameters_flag 0 is not refused, and writes back to its own bytes
 abbrev pub ReadWrites : Type 0
-ReadWrites = (s : List ℕ) (h : Mpeg2SequenceHeader) → Bytes s → sequenceHeader s ≡ record { answer = Parsed; header = h }
+ReadWrites = (s : List ℕ) (h : Mpeg2SequenceHeader) → Bytes s → sequenceHeader s ≡ value h
     → h .«constrained_parameters» ≡ false → Writable (paramsOf h) × (sequenceWritten (paramsOf h) ≡ take (sequenceHeaderBytes h) s)
 
 -- both of the extension, which has 10 bytes
 abbrev pub ExtensionWrittenReads : Type 0
 ExtensionWrittenReads = (e : Mpeg2SequenceExtension) (behind : List ℕ) → fitsAll sequenceExtensionFields (extensionValues e) ≡ true
-    → sequenceExtension (extensionWritten e ++ behind) ≡ ExtensionParsed e
+    → sequenceExtension (extensionWritten e ++ behind) ≡ value e
 
 abbrev pub ExtensionReadWrites : Type 0
-ExtensionReadWrites = (s : List ℕ) (e : Mpeg2SequenceExtension) → Bytes s → sequenceExtension s ≡ ExtensionParsed e
+ExtensionReadWrites = (s : List ℕ) (e : Mpeg2SequenceExtension) → Bytes s → sequenceExtension s ≡ value e
     → (fitsAll sequenceExtensionFields (extensionValues e) ≡ true) × (extensionWritten e ≡ take 10 s)
+
+-- more bytes behind a header change its answer only where that is 1
+abbrev pub HeaderStays : Type 0
+HeaderStays = (s behind : List ℕ) → (sequenceHeader s ≡ refused 1 0 0 0 → ⊥) → sequenceHeader (s ++ behind) ≡ sequenceHeader s
+
+abbrev pub ExtensionStays : Type 0
+ExtensionStays = (s behind : List ℕ) → (sequenceExtension s ≡ refused 1 0 0 0 → ⊥) → sequenceExtension (s ++ behind) ≡ sequenceExtension s
+
+-- a sequence that parses does so with more bytes behind it; a missing prefix (2) may come with them
+abbrev pub SequenceStays : Type 0
+SequenceStays = (s behind : List ℕ) (q : Mpeg2Sequence) → sequence s ≡ value q → sequence (s ++ behind) ≡ value q

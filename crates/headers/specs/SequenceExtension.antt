@@ -5,14 +5,12 @@ use mathlib.Core.List.{List, [], _∷_}
 use lib.Dec.{eqb}
 use lib.ListN.{getD}
 use Rattle.bits.specs.Bits.{pick}
-use Rattle.bits.specs.Fields.{Field, any, nonzero, exactly, Parsed, short, bad, got, readHeader}
+use Rattle.bits.specs.Fields.{Field, any, nonzero, exactly, readHeader}
+use Rattle.bits.specs.Refusals.{Answer, value, andThen}
 use Rattle.headers.specs.Answers.{flagOf}
-use Rattle.headers.specs.declared.Error.the-variants.{ShortHeader, InvalidBitstream}
 use Rattle.headers.specs.declared.sequence_extension.ChromaFormat.{ChromaFormat}
 use Rattle.headers.specs.declared.sequence_extension.ChromaFormat.the-variants.{Yuv420, Yuv422, Yuv444}
 use Rattle.headers.specs.declared.sequence_extension.Mpeg2SequenceExtension.{Mpeg2SequenceExtension}
-use Rattle.headers.specs.declared.sequence_extension.SequenceExtensionRead.{SequenceExtensionRead}
-use Rattle.headers.specs.declared.sequence_extension.SequenceExtensionRead.the-variants.{Parsed as Accepted, Refused}
 
 -- extension_start_code (Table 6-1)
 abbrev pub extensionStartCode : List ℕ
@@ -56,13 +54,8 @@ extensionOf vs = record {
   «frame_rate_extension_d» = getD vs 11 0;
 }
 
-unfoldable pub extensionRead : Parsed → SequenceExtensionRead
-extensionRead short = Refused ShortHeader
-extensionRead bad = Refused InvalidBitstream
-extensionRead (got vs) = Accepted (extensionOf vs)
-
-unfoldable pub sequenceExtension : List ℕ → SequenceExtensionRead
-sequenceExtension s = extensionRead (readHeader extensionStartCode sequenceExtensionFields s)
+unfoldable pub sequenceExtension : List ℕ → Answer Mpeg2SequenceExtension
+sequenceExtension s = andThen (readHeader extensionStartCode sequenceExtensionFields s) (λ vs. value (extensionOf vs))
 
 -- the other way: the values of the fields
 unfoldable pub extensionValues : Mpeg2SequenceExtension → List ℕ

@@ -6,16 +6,13 @@ use mathlib.Core.Bool.{false}
 use lib.Dec.{eqb}
 use lib.ListN.{getD}
 use Rattle.bits.specs.Bits.{pick}
-use Rattle.bits.specs.Fields.{Field, any, nonzero, exactly, Parsed, short, bad, got, readHeader}
+use Rattle.bits.specs.Fields.{Field, any, nonzero, exactly, readHeader}
+use Rattle.bits.specs.Refusals.{Answer, value, andThen}
 use Rattle.headers.specs.Answers.{flagOf}
 use Rattle.headers.specs.QuantMatrix.{readMatrix, matrixOf, noMatrix}
-use Rattle.headers.specs.declared.Error.{Error}
-use Rattle.headers.specs.declared.Error.the-variants.{ShortHeader, InvalidBitstream}
 use Rattle.headers.specs.declared.sequence_header.AspectRatio.{AspectRatio}
 use Rattle.headers.specs.declared.sequence_header.AspectRatio.the-variants.{Square, Dar3x4, Dar9x16, Dar1x221, Reserved}
 use Rattle.headers.specs.declared.sequence_header.Mpeg2SequenceHeader.{Mpeg2SequenceHeader}
-use Rattle.headers.specs.declared.sequence_header.SequenceHeaderRead.{SequenceHeaderRead}
-use Rattle.headers.specs.declared.sequence_header.Answer.the-variants.{Parsed as Accepted, Refused}
 
 -- sequence_header_code (Table 6-1)
 abbrev pub sequenceHeaderCode : List ℕ
@@ -51,7 +48,15 @@ headerOf h intra nonIntra = record {
   «non_intra_quant» = matrixOf nonIntra;
 }
 
--- what a refusal returns beside its error
+-- the fields up to bit 94; there the intra matrix, and behind it the other
+unfoldable pub sequenceHeader : List ℕ → Answer Mpeg2SequenceHeader
+sequenceHeader s =
+    andThen (readHeader sequenceHeaderCode sequenceHeaderFields s) (λ h.
+    andThen (readMatrix s 94) (λ intra.
+    andThen (readMatrix s (95 + 512 * getD intra 0 0)) (λ nonIntra.
+    value (headerOf h intra nonIntra))))
+
+-- what stands beside a refusal
 unfoldable pub noHeader : Mpeg2SequenceHeader
 noHeader = record {
   width = 0;
@@ -64,23 +69,6 @@ noHeader = record {
   «intra_quant» = noMatrix;
   «non_intra_quant» = noMatrix;
 }
-
-unfoldable pub refusedHeader : Error → SequenceHeaderRead
-refusedHeader e = record { answer = Refused e; header = noHeader }
-
--- one read after another
-unfoldable pub headerThen : Parsed → (List ℕ → SequenceHeaderRead) → SequenceHeaderRead
-headerThen short f = refusedHeader ShortHeader
-headerThen bad f = refusedHeader InvalidBitstream
-headerThen (got vs) f = f vs
-
--- the fields up to bit 94; there the intra matrix, and behind it the other
-unfoldable pub sequenceHeader : List ℕ → SequenceHeaderRead
-sequenceHeader s =
-    headerThen (readHeader sequenceHeaderCode sequenceHeaderFields s) (λ h.
-    headerThen (readMatrix s 94) (λ intra.
-    headerThen (readMatrix s (95 + 512 * getD intra 0 0)) (λ nonIntra.
-    record { answer = Accepted; header = headerOf h intra nonIntra })))
 
 -- the bytes that it occupies
 unfoldable pub sequenceHeaderBytes : Mpeg2SequenceHeader → ℕ

@@ -2,12 +2,10 @@
 -- Assumes nothing.
 use Prim.Native.Nat.{ℕ, zero, suc, _+_, _-_}
 use mathlib.Core.List.{List, [], _∷_}
-use mathlib.Core.Bool.{Bool}
+use mathlib.Core.Bool.{Bool, not}
 use lib.ListN.{take, drop}
-use Rattle.bits.specs.Bits.{pick}
+use Rattle.bits.specs.Refusals.{Answer, value, refuse}
 use Rattle.bits.specs.Fields.{sameBytes, startCodePrefix}
-use Rattle.headers.specs.declared.NextStartCode.{NextStartCode}
-use Rattle.headers.specs.declared.NextStartCode.the-variants.{At, Missing}
 
 -- how many zero bytes come first
 unfoldable pub zeros : List ℕ → ℕ
@@ -20,5 +18,5 @@ unfoldable pub prefixAt : List ℕ → ℕ → Bool
 prefixAt s p = sameBytes (take 3 (drop p s)) startCodePrefix
 
 -- the prefix that ends with the first byte, from byte k on, that is not zero; its two zeros may lie before byte k (docs/DIFFERENCES.md), and no byte need follow it
-unfoldable pub nextStartCode : List ℕ → ℕ → NextStartCode
-nextStartCode s k = pick (prefixAt s (k + zeros (drop k s) - 2)) (At (k + zeros (drop k s) - 2)) Missing
+unfoldable pub nextStartCode : List ℕ → ℕ → Answer ℕ
+nextStartCode s k = refuse 2 (not (prefixAt s (k + zeros (drop k s) - 2))) (value (k + zeros (drop k s) - 2))

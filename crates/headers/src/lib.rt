@@ -3,7 +3,7 @@
 ghost use mathlib.Core.Path.{_≡_};
 ghost use Prim.Native.Nat.{_+_, _*_, _≤_};
 ghost use lib.ListN.{drop};
-ghost use Rattle.headers.specs.Answers.{errorNumber, flagOf};
+ghost use Rattle.headers.specs.Answers.{errorNumber, nextAnswer, flagOf};
 ghost use Rattle.headers.specs.StartCode.{zeros, prefixAt, nextStartCode};
 
 pub mod quant_matrix_extension; // the 64-byte matrices
@@ -17,8 +17,6 @@ pub enum Error {
     ShortHeader,
     // A value or a code that the header must not have.
     InvalidBitstream,
-    // A frame rate code other than 1 to 8.
-    FrameRateCode,
     // A field to write that is 0 where it must not be, or too wide.
     FieldToWrite,
     // An output part shorter than the bytes to write.
@@ -33,7 +31,6 @@ impl Error {
         match self {
             Error::ShortHeader => 1,
             Error::InvalidBitstream => 2,
-            Error::FrameRateCode => 6,
             Error::FieldToWrite => 16,
             Error::ShortOutput => 19,
         }
@@ -79,7 +76,7 @@ pub fn prefix_at(buf: &[u8], at: usize) -> bool
 // next_start_code() (5.2.3): zero bytes are passed over; the byte after them must be 01, with two zero bytes before it,
 // which may lie before `from`.
 pub fn next_start_code(buf: &[u8], from: usize) -> NextStartCode
-    ensures { λ r. ⌜ r ≡ nextStartCode (now (buf .entry)) from ⌝ }
+    ensures { λ r. ⌜ nextAnswer r ≡ nextStartCode (now (buf .entry)) from ⌝ }
 {
     let end = past_zeros(buf, from);
     if end < 2 {

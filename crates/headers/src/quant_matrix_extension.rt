@@ -1,8 +1,9 @@
 // The 64-byte quantiser matrix of a sequence header, with its load flag (6.2.2.1, 6.3.11).
 ghost use mathlib.Core.Path.{_≡_};
 ghost use Prim.Native.Nat.{_+_, _≤_};
-ghost use Rattle.bits.specs.Fields.{readFields};
-ghost use Rattle.headers.specs.QuantMatrix.{noMatrix, matrixBytes, matrixRead, loadedRead, readMatrix};
+ghost use Rattle.bits.specs.Refusals.{orElse};
+ghost use Rattle.headers.specs.Answers.{matrixAnswer};
+ghost use Rattle.headers.specs.QuantMatrix.{noMatrix, matrixAt, loadedAt};
 use bits::Bits;
 
 // A matrix in zigzag order, where its flag loads one. Where it does not, a parser gives 64 zeros and a writer looks at no
@@ -30,7 +31,8 @@ pub fn no_matrix() -> QuantiserMatrix
 // The 64 bytes from bit `at` on.
 fn read_bytes(buf: &[u8], at: usize) -> MatrixRead
     requires { ⌜ at ≤ 4294967296 ⌝ }
-    ensures { λ r. ⌜ r ≡ loadedRead (readFields (matrixBytes 1) (now (buf .entry)) at) ⌝ }
+    ensures { λ r. ⌜ matrixAnswer r ≡ loadedAt (now (buf .entry)) at ⌝ }
+    ensures { λ r. ⌜ r .matrix ≡ orElse noMatrix (loadedAt (now (buf .entry)) at) ⌝ }
 {
     let mut bytes = [0u8; 64];
     let mut k: usize = 0;
@@ -54,7 +56,8 @@ fn read_bytes(buf: &[u8], at: usize) -> MatrixRead
 
 // The load flag at bit `at` and, where it is 1, the 64 bytes behind it.
 pub(crate) fn read_matrix(buf: &[u8], at: u32) -> MatrixRead
-    ensures { λ r. ⌜ r ≡ matrixRead (readMatrix (now (buf .entry)) at) ⌝ }
+    ensures { λ r. ⌜ matrixAnswer r ≡ matrixAt (now (buf .entry)) at ⌝ }
+    ensures { λ r. ⌜ r .matrix ≡ orElse noMatrix (matrixAt (now (buf .entry)) at) ⌝ }
 {
     let first = at as usize;
     let read = bits::read_bits(buf, first, 1);

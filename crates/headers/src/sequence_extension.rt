@@ -1,9 +1,11 @@
 // sequence_extension() (ISO/IEC 13818-2 6.2.2.3), and the sequence header with it.
 ghost use mathlib.Core.Path.{_≡_};
 ghost use Prim.Native.Nat.{_≤_};
+ghost use Rattle.bits.specs.Refusals.{value, andThen, orElse};
+ghost use Rattle.headers.specs.Answers.{refusal, extensionAnswer, sequenceAnswer};
 ghost use Rattle.headers.specs.SequenceExtension.{chromaFormat, sequenceExtension};
 ghost use Rattle.headers.specs.SequenceHeader.{sequenceHeaderBytes};
-ghost use Rattle.headers.specs.Sequence.{noExtension, refusedSequence, withExtension, sequence};
+ghost use Rattle.headers.specs.Sequence.{sequenceOf, noExtension, noSequence, sequence};
 use crate::Error;
 use crate::NextStartCode;
 use crate::matrix_bytes;
@@ -77,7 +79,7 @@ fn chroma_format_of(code: u32) -> ChromaFormat
 impl Mpeg2SequenceExtension {
     // From a slice that begins at the extension's start code.
     pub fn parse(buf: &[u8]) -> SequenceExtensionRead
-        ensures { λ r. ⌜ r ≡ sequenceExtension (now (buf .entry)) ⌝ }
+        ensures { λ r. ⌜ extensionAnswer r ≡ sequenceExtension (now (buf .entry)) ⌝ }
     {
         let read = bits::read_header(buf, EXTENSION_START_CODE, &SEQUENCE_EXTENSION_TABLE);
         let outcome = read.outcome;
@@ -131,7 +133,7 @@ fn no_extension() -> Mpeg2SequenceExtension
 }
 
 fn refused(error: Error) -> SequenceRead
-    ensures { λ r. ⌜ r ≡ refusedSequence error ⌝ }
+    ensures { λ r. ⌜ (sequenceAnswer r ≡ refusal error) × (r .sequence ≡ noSequence) ⌝ }
 {
     let none = sequence_header::refused(error);
     let header = none.header;
@@ -161,7 +163,8 @@ fn sequence_header_byte_length(header: Mpeg2SequenceHeader) -> usize
 // The header with the extension that the slice begins with: the extension's bits stand above the header's.
 fn with_extension(header: Mpeg2SequenceHeader, buf: &[u8]) -> SequenceRead
     requires { ⌜ (header .width ≤ 4095) × (header .height ≤ 4095) × (header .«bit_rate» ≤ 262143) ⌝ }
-    ensures { λ r. ⌜ r ≡ withExtension header (sequenceExtension (now (buf .entry))) ⌝ }
+    ensures { λ r. ⌜ sequenceAnswer r ≡ andThen (sequenceExtension (now (buf .entry))) (λ x. value (sequenceOf header x)) ⌝ }
+    ensures { λ r. ⌜ r .sequence ≡ orElse noSequence (andThen (sequenceExtension (now (buf .entry))) (λ x. value (sequenceOf header x))) ⌝ }
 {
     let read = Mpeg2SequenceExtension::parse(buf);
     match read {
@@ -190,7 +193,8 @@ fn with_extension(header: Mpeg2SequenceHeader, buf: &[u8]) -> SequenceRead
 impl Mpeg2Sequence {
     // From a slice that begins at the sequence header's start code.
     pub fn from_buf(buf: &[u8]) -> SequenceRead
-        ensures { λ r. ⌜ r ≡ sequence (now (buf .entry)) ⌝ }
+        ensures { λ r. ⌜ sequenceAnswer r ≡ sequence (now (buf .entry)) ⌝ }
+        ensures { λ r. ⌜ r .sequence ≡ orElse noSequence (sequence (now (buf .entry))) ⌝ }
     {
         let read = Mpeg2SequenceHeader::parse(buf);
         let answer = read.answer;

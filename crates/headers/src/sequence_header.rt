@@ -1,8 +1,9 @@
 // sequence_header() (ISO/IEC 13818-2 6.2.2.1, 11172-2 2.4.2.3).
 ghost use mathlib.Core.Path.{_≡_};
 ghost use Prim.Native.Nat.{_≤_, _+_, _*_};
-ghost use Rattle.headers.specs.Answers.{flagOf};
-ghost use Rattle.headers.specs.SequenceHeader.{aspectRatio, refusedHeader, sequenceHeader};
+ghost use Rattle.bits.specs.Refusals.{orElse};
+ghost use Rattle.headers.specs.Answers.{refusal, headerAnswer, flagOf};
+ghost use Rattle.headers.specs.SequenceHeader.{aspectRatio, noHeader, sequenceHeader};
 use crate::Error;
 use crate::quant_matrix_extension::QuantiserMatrix;
 use crate::quant_matrix_extension::no_matrix;
@@ -69,7 +70,7 @@ fn aspect_ratio_of(code: u32) -> AspectRatio
 }
 
 pub(crate) fn refused(error: Error) -> SequenceHeaderRead
-    ensures { λ r. ⌜ r ≡ refusedHeader error ⌝ }
+    ensures { λ r. ⌜ (headerAnswer r ≡ refusal error) × (r .header ≡ noHeader) ⌝ }
 {
     let intra_quant = no_matrix();
     let non_intra_quant = no_matrix();
@@ -99,7 +100,8 @@ fn behind(load: bool) -> u32
 impl Mpeg2SequenceHeader {
     // From a slice that begins at the header's start code.
     pub fn parse(buf: &[u8]) -> SequenceHeaderRead
-        ensures { λ r. ⌜ r ≡ sequenceHeader (now (buf .entry)) ⌝ }
+        ensures { λ r. ⌜ headerAnswer r ≡ sequenceHeader (now (buf .entry)) ⌝ }
+        ensures { λ r. ⌜ r .header ≡ orElse noHeader (sequenceHeader (now (buf .entry))) ⌝ }
     {
         let read = bits::read_header(buf, SEQUENCE_HEADER_CODE, &SEQUENCE_HEADER_TABLE);
         let outcome = read.outcome;

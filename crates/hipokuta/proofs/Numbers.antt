@@ -24,15 +24,15 @@ use Rattle.scan.specs.Pictures.{Pic, pictures}
 use Rattle.scan.specs.declared.Found.{Found}
 use Rattle.scan.specs.declared.Found.the-variants.{At, Nothing}
 use Rattle.verify.specs.Sequence.{rated, ifParsed, declaredBy, declaredAt, declared}
-use Rattle.verify.specs.Coded.{behind, headers, codedPictures}
+use Rattle.verify.specs.Coded.{codedAt, headers, codedPictures}
 use Rattle.verify.specs.Run.{removal, run}
 use Rattle.verify.specs.Check.{accepted, withPictures, verdict}
 use Rattle.verify.specs.declared.CodedPicture.{CodedPicture}
-use Rattle.verify.specs.declared.Told.{Told as ToldBy}
-use Rattle.verify.specs.declared.Told.the-variants.{Delay, Refused as Unread}
 use Rattle.verify.specs.declared.VbvPictureRecord.{VbvPictureRecord}
 use Rattle.verify.specs.declared.VbvStandard.{VbvStandard}
 use Rattle.verify.specs.declared.VbvStandard.the-variants.{Mpeg1, Mpeg2}
+use Rattle.picture_header.proofs.Following.{Seen, cut, broken, whole}
+use Rattle.verify.proofs.Coding.{coded-seen}
 use Rattle.rate_control.specs.Answers.{refusalOf as sentRefusal}
 use Rattle.rate_control.specs.declared.CbrError.{CbrError}
 use Rattle.rate_control.specs.declared.CbrError.the-variants as s
@@ -53,7 +53,6 @@ model-range m.DelayTooLong = (omega arith, λ h. omega arith, omega arith)
 model-range m.Params = (omega arith, λ h. omega arith, omega arith)
 model-range m.Order = (omega arith, λ h. omega arith, omega arith)
 model-range m.Range = (omega arith, λ h. omega arith, omega arith)
-model-range m.NotAPicture = (omega arith, λ h. omega arith, omega arith)
 
 pub model-number : (e : VbvError) → 1 ≤ modelNumber e
 model-number e = model-range e .0
@@ -119,15 +118,18 @@ declared-told Mpeg1 s (At o c) = parsed-told _ _ _ _
 declared-told Mpeg2 s (At o c) = parsed-told _ _ _ _
 declared-told standard s Nothing = omega arith
 
-behind-told : (q : Pic) (t : ToldBy) (rest : Answer (List CodedPicture)) → Told rest → Told (behind q t rest)
-unfolding behind
-behind-told q (Delay d i) rest h = and-then rest _ h (λ cs. tt)
-behind-told q (Unread e) rest h = header-number e
+seen-told : {X : Type 0} {a : Answer X} → Seen a → Told a
+seen-told cut = omega arith
+seen-told broken = omega arith
+seen-told (whole x) = tt
 
 headers-told : (standard : VbvStandard) (s : List ℕ) (qs : List Pic) → Told (headers standard s qs)
 unfolding headers
 headers-told standard s [] = tt
-headers-told standard s (q ∷ qs) = behind-told q _ _ (headers-told standard s qs)
+headers-told standard s (q ∷ qs) =
+    and-then (codedAt standard s q) _ (seen-told (coded-seen standard s q)) λ c.
+    and-then (headers standard s qs) _ (headers-told standard s qs) λ cs.
+    tt
 
 removal-told : (p : VbvParams) (n previous d : ℕ) (c : CodedPicture) → Told (removal p n previous d c)
 unfolding removal

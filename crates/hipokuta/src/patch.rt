@@ -13,6 +13,6 @@ pub extern "C" fn vbv_patch_delay(picture: &mut [u8], vbv_delay: u16) -> u64
 {
     match patch_vbv_delay(picture, vbv_delay) {
         VbvPatch::Done => 0,
-        VbvPatch::Refused(error) => error.number() as u64,
+        VbvPatch::NotAPicture => 20,
     }
 }

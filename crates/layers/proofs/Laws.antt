@@ -19,16 +19,13 @@ use Rattle.bits.proofs.Appending.{Below}
 use Rattle.headers.specs.StartCode.{zeros}
 use Rattle.picture_header.specs.Picture.{picture}
 use Rattle.headers.specs.Sequence.{sequence}
-use Rattle.headers.specs.declared.sequence_header.Answer.{Answer}
-use Rattle.headers.specs.declared.sequence_header.Answer.the-variants.{Parsed as SequenceParsed, Refused as SequenceRefused}
 use Rattle.headers.specs.declared.sequence_extension.Mpeg2Sequence.{Mpeg2Sequence}
-use Rattle.picture_header.specs.declared.PictureRead.the-variants.{Parsed}
 use Rattle.picture_header.proofs.Picture.{picture-append}
 use Rattle.headers.proofs.StartCode.{prefix-true}
 use Rattle.headers.proofs.Sequence.{sequence-append}
 use Rattle.picture_header.proofs.OtherDelay.{OtherDelay, delayed, delayed-delay, picture-delayed}
 use Rattle.vbv.specs.Patch.{startsPicture, patched}
-use Rattle.bits.specs.Refusals.{Answer as Told, value, refused}
+use Rattle.bits.specs.Refusals.{Answer, value, refused, andThen, orElse}
 use Rattle.vbv.specs.Answers.{frameRate}
 use Rattle.vbv.specs.declared.VbvParams.{VbvParams}
 use Rattle.vbv.specs.declared.RemovalInterval.{RemovalInterval}
@@ -45,10 +42,9 @@ use Rattle.verify.proofs.Telling.{told-parsed, declared-parsed}
 use Rattle.verify.specs.Coded.{told}
 use Rattle.verify.specs.Sequence.{declared}
 use Rattle.verify.specs.declared.VbvStandard.the-variants.{Mpeg2}
-use Rattle.verify.specs.declared.Told.the-variants.{Delay}
 use Rattle.layers.specs.declared.PictureKind.{PictureKind}
 use Rattle.layers.specs.Layer.{slices, isExtension, layerCodes, layerFits}
-use Rattle.layers.specs.Headers.{opensHeaders, headerCode, sameRate, sameParams, parsed, sequenceFirst, sequenceFits, headersFit}
+use Rattle.layers.specs.Headers.{opensHeaders, headerCode, sameRate, sameParams, declares, sequenceFirst, sequenceFits, headersFit}
 use Rattle.layers.proofs.Layers.{LayerFits, layer-fits, LowBits, picture-head, layer-header, layer-twelve, layer-low}
 
 -- the bytes that a list begins with, and those behind them
@@ -170,10 +166,10 @@ module _ (k : PictureKind) (i : RemovalInterval) (s : List ℕ) (fits : layerFit
     }
 
     -- and tells the delay that was put in, and the interval that was offered
-    pub layer-told : (t : List ℕ) → told Mpeg2 (patched s d ++ t) ≡ Delay d i
+    pub layer-told : (t : List ℕ) → told Mpeg2 (patched s d ++ t) ≡ value (d, i)
     layer-told t =
         let h = delayed (f .header) (bitsAt (patched s d) 45 16) in
-        let p : picture (patched s d ++ t) ≡ Parsed h (f .extension) =
+        let p : picture (patched s d ++ t) ≡ value (h, f .extension) =
         picture-append (patched s d) t h (f .extension) (picture-delayed s (patched s d) other (f .header) (f .extension) (f .parsed) (f .zeros-behind)) in
         told-parsed (patched s d ++ t) h (f .extension) p
         ∙ rw (delayed-delay (f .header) (bitsAt (patched s d) 45 16), patched-delay s d layer-starts small, f .interval)
@@ -252,17 +248,24 @@ module _ (p : VbvParams) (placed : Bool) where
       piece-behind (b ∷ s) x at (headers-open f) (every-by headerCode notPicture header-no-picture (codes (b ∷ s)) (f .all-codes)) q
 
 -- the first headers declare the parameters
-rate-is : (p : VbvParams) (r : Told (ℕ × ℕ)) → sameRate p r ≡ true → r ≡ value (p .frn, p .frd)
+rate-is : (p : VbvParams) (code : ℕ) → sameRate p code ≡ true → frameRate code ≡ value (p .frn, p .frd)
 unfolding sameRate
-rate-is p (value f) e =
-    let b = both-true (eqb (f .0) (p .frn)) (eqb (f .1) (p .frd)) e in
-    rw (← eqb-true (f .0) (p .frn) (b .0), ← eqb-true (f .1) (p .frd) (b .1))
-rate-is p (refused n k c x) e = cc
+rate-is p code e = case (frameRate code) e
+  where
+    case : (r : Answer (ℕ × ℕ)) → orElse false (andThen r (λ f. value (eqb (f .0) (p .frn) && eqb (f .1) (p .frd)))) ≡ true → r ≡ value (p .frn, p .frd)
+    case (value f) q =
+        let b = both-true (eqb (f .0) (p .frn)) (eqb (f .1) (p .frd)) q in
+        rw (← eqb-true (f .0) (p .frn) (b .0), ← eqb-true (f .1) (p .frd) (b .1))
+    case (refused n k c x) q = cc
 
-parsed-is : (a : Answer) → parsed a ≡ true → a ≡ SequenceParsed
-unfolding parsed
-parsed-is SequenceParsed e = refl
-parsed-is (SequenceRefused x) e = cc
+declares-is : (p : VbvParams) (h : List ℕ) → declares p h ≡ true → (q : Mpeg2Sequence) × (sequence h ≡ value q) × (sameParams p q ≡ true)
+unfolding declares
+declares-is p h e = case (sequence h) refl e
+  where
+    case : (r : Answer Mpeg2Sequence) → sequence h ≡ r → orElse false (andThen r (λ q. value (sameParams p q))) ≡ true
+        → (q : Mpeg2Sequence) × (sequence h ≡ value q) × (sameParams p q ≡ true)
+    case (value q) s z = (q, s, z)
+    case (refused n k c x) s z = absurd (let y : _≡_ {A = ℕ} 0 1 = cc in omega arith)
 
 record SameParams (p : VbvParams) (q : Mpeg2Sequence) : Type 0 where
   rate : 400 * q .«bit_rate» ≡ p .«bit_rate»
@@ -274,7 +277,7 @@ unfolding sameParams
 params-are p q e =
     let a = both-true (eqb (400 * q .«bit_rate») (p .«bit_rate»)) _ e in
     let b = both-true (eqb (16384 * q .«vbv_buffer_size») (p .«buffer_size_bits»)) _ (a .1) in
-    let c = both-true (sameRate p (frameRate (q .header .«frame_rate_code»))) _ (b .1) in
+    let c = both-true (sameRate p (q .header .«frame_rate_code»)) _ (b .1) in
     record { rate = eqb-true _ _ (a .0); buffer = eqb-true _ _ (b .0); frames = rate-is p _ (c .0) }
 
 sequence-first : (c : Code) (cs : List Code) → sequenceFirst (c ∷ cs) ≡ true → c .code ≡ 0xB3
@@ -294,13 +297,10 @@ headers-declared p (b ∷ s) e x =
     let f = fit-of p false b s e in
     let c = conditions p false (b ∷ s) e .3 in
     let d1 = both-true (sequenceFirst (codes (b ∷ s))) _ c in
-    let d2 = both-true (parsed (sequence (b ∷ s) .answer)) _ (d1 .1) in
+    let q = declares-is p (b ∷ s) (d1 .1) in
     let o = ap codes (f .opens) ∙ codes-opened (f .first) (f .rest) in
     let y : f .first ≡ 0xB3 = sequence-first (record { offset = 0; code = f .first }) (codesFrom 4 0 (f .rest)) (rw o at (d1 .0)) in
-    let a : sequence (b ∷ s) .answer ≡ SequenceParsed = parsed-is (sequence (b ∷ s) .answer) (d2 .0) in
-    let m = params-are p (sequence (b ∷ s) .sequence) (d2 .1) in
-    let q : sequence (b ∷ s ++ x) ≡ sequence (b ∷ s) = sequence-append (b ∷ s) x a in
+    let m = params-are p (q .0) (q .2) in
     let z : codes (b ∷ s ++ x) ≡ record { offset = 0; code = 0xB3 } ∷ codesFrom 4 0 (f .rest ++ x) =
     ap (λ (l : List ℕ). codes (l ++ x)) (f .opens) ∙ codes-opened (f .first) (f .rest ++ x) ∙ rw y in
-    declared-parsed (b ∷ s ++ x) _ z (rw q a) (p .frn) (p .frd) (rw q (m .frames))
-    ∙ rw (q, m .rate, m .buffer)
+    declared-parsed (b ∷ s ++ x) _ z (q .0) (sequence-append (b ∷ s) x (q .0) (q .1)) (p .frn) (p .frd) (m .frames) ∙ rw (m .rate, m .buffer)

@@ -11,6 +11,7 @@ use lib.ListN.{length, take, drop}
 use lib.Seq.{getD-drop}
 use borrow.Author.Tests.{not-true, leb-true, eqb-true}
 use Rattle.bits.specs.Bits.{bitsAt}
+use Rattle.bits.specs.Refusals.{Answer, value, refused, andThen, orElse}
 use Rattle.bits.proofs.Laws.{bits-bound, bits-split}
 use Rattle.bits.proofs.Reading.{both-true}
 use Rattle.bits.proofs.Appending.{Below}
@@ -23,10 +24,7 @@ use Rattle.picture_header.specs.declared.PictureCodingType.the-variants.{Intra,
 use Rattle.picture_header.specs.declared.OptionCode.{OptionCode}
 use Rattle.picture_header.specs.declared.OptionCode.the-variants.{Some as SomeCode, None as NoCode}
 use Rattle.picture_header.specs.declared.Mpeg2PictureHeader.{Mpeg2PictureHeader}
-use Rattle.picture_header.specs.declared.PictureHeaderRead.the-variants.{Parsed as HeaderParsed}
 use Rattle.picture_header.specs.declared.PictureCodingExtension.{PictureCodingExtension}
-use Rattle.picture_header.specs.declared.PictureRead.{PictureRead}
-use Rattle.picture_header.specs.declared.PictureRead.the-variants.{Parsed, Refused}
 use Rattle.headers.proofs.StartCode.{zeros-zero}
 use Rattle.picture_header.proofs.PictureHeader.{PictureHeaderParsed, picture-header-parsed, header-least}
 use Rattle.picture_header.proofs.Picture.{picture-parsed, extension-placed}
@@ -39,12 +37,12 @@ use Rattle.verify.specs.Coded.{intervalOf}
 use Rattle.scan.specs.Codes.{codes, endsPrefix}
 use Rattle.scan.proofs.PictureCodes.{PictureHead}
 use Rattle.layers.specs.declared.PictureKind.{PictureKind}
-use Rattle.layers.specs.Layer.{sameKind, sameInterval, flagClear, codeSeven, padding, headerFits, layerCodes, layerFits}
+use Rattle.layers.specs.Layer.{sameKind, sameInterval, flagClear, codeSeven, padding, headersTell, headerFits, layerCodes, layerFits}
 
 pub record LayerFits (k : PictureKind) (i : RemovalInterval) (s : List ℕ) : Type 0 where
   pub header : Mpeg2PictureHeader
   pub extension : PictureCodingExtension
-  pub parsed : picture s ≡ Parsed header extension
+  pub parsed : picture s ≡ value (header, extension)
   pub interval : intervalOf (extension .«picture_structure») ≡ i
   pub seven : codeSeven (header .«fwd_f_code») ≡ true
   pub zeros-behind : 2 ≤ zeros (drop (pictureHeaderBytes header) s)
@@ -59,18 +57,21 @@ interval-is Field Frame e = cc
 interval-is Field Field e = refl
 
 pub layer-fits : (k : PictureKind) (i : RemovalInterval) (s : List ℕ) → layerFits k i s ≡ true → LayerFits k i s
-unfolding layerFits headerFits
+unfolding layerFits headerFits headersTell
 layer-fits k i s f = case (picture s) refl (a .0)
   where
-    a : (headerFits k i s (picture s) ≡ true) × ((layerCodes (codes s) && not (endsPrefix s)) ≡ true)
-    a = both-true (headerFits k i s (picture s)) (layerCodes (codes s) && not (endsPrefix s)) f
+    a : (headerFits k i s ≡ true) × ((layerCodes (codes s) && not (endsPrefix s)) ≡ true)
+    a = both-true (headerFits k i s) (layerCodes (codes s) && not (endsPrefix s)) f
 
     b : (layerCodes (codes s) ≡ true) × (not (endsPrefix s) ≡ true)
     b = both-true (layerCodes (codes s)) (not (endsPrefix s)) (a .1)
 
-    case : (r : PictureRead) → picture s ≡ r → headerFits k i s r ≡ true → LayerFits k i s
-    case (Refused e) p q = absurd (let z : _≡_ {A = ℕ} 0 1 = cc in omega arith)
-    case (Parsed h x) p q =
+    case : (r : Answer (Mpeg2PictureHeader × PictureCodingExtension)) → picture s ≡ r
+        → orElse false (andThen r (λ p. value (headersTell k i s (p .0) (p .1)))) ≡ true → LayerFits k i s
+    case (refused n c e x) p q = absurd (let z : _≡_ {A = ℕ} 0 1 = cc in omega arith)
+    case (value r) p q =
+        let h = r .0 in
+        let x = r .1 in
         let c1 = both-true (sameKind k (h .«picture_coding_type»)) _ q in
         let c2 = both-true (sameInterval i (intervalOf (x .«picture_structure»))) _ (c1 .1) in
         let c3 = both-true (not (x .«repeat_first_field»)) _ (c2 .1) in
@@ -101,7 +102,7 @@ unfolding codeSeven
 seven-is NoCode v e q = cc
 seven-is (SomeCode w) v e q = let z : w ≡ v = cc in rw (← z) (eqb-true w 7 q)
 
-low-bits : (s : List ℕ) (h : Mpeg2PictureHeader) → pictureHeader s ≡ HeaderParsed h → (h .«picture_coding_type» ≡ DcIntra → ⊥)
+low-bits : (s : List ℕ) (h : Mpeg2PictureHeader) → pictureHeader s ≡ value h → (h .«picture_coding_type» ≡ DcIntra → ⊥)
     → codeSeven (h .«fwd_f_code») ≡ true → 2 ≤ zeros (drop (pictureHeaderBytes h) s) → LowBits s
 low-bits s h e n q z = type (h .«picture_coding_type») refl
   where

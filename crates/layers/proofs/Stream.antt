@@ -20,7 +20,6 @@ use Rattle.bits.specs.Refusals.{value}
 use Rattle.verify.specs.Sequence.{declared}
 use Rattle.verify.specs.declared.VbvStandard.the-variants.{Mpeg2}
 use Rattle.verify.specs.declared.CodedPicture.{CodedPicture}
-use Rattle.verify.specs.declared.Told.the-variants.{Delay}
 use Rattle.verify.proofs.Coding.{read-none, read-more, coded-read}
 use Rattle.layers.specs.declared.PictureKind.{PictureKind}
 use Rattle.layers.specs.Headers.{headersFit}
@@ -126,7 +125,7 @@ stream-laid (part {x} f fs) t =
 
 -- what a part's picture tells, wherever the part stands
 part-told : {p : VbvParams} {placed : Bool} {x : Part} → PartFits p placed x → (before t : List ℕ)
-    → told Mpeg2 (drop (length before + length (x .headers)) (before ++ (bytesOf x ++ t))) ≡ Delay (x .delay) (x .interval)
+    → told Mpeg2 (drop (length before + length (x .headers)) (before ++ (bytesOf x ++ t))) ≡ value (x .delay, x .interval)
 part-told {p} {placed} {x} f before t =
     rw (
       drop-append-add before (bytesOf x ++ t) (length (x .headers)),

@@ -10,8 +10,7 @@ use lib.ListN.{length, getD, take, drop}
 use borrow.Author.Tests.{le-leb, lt-leb, leb-true, leb-false}
 use Rattle.bits.specs.Bits.{there}
 use Rattle.bits.specs.Answers.{readBits}
-use Rattle.bits.specs.declared.Bits.{Bits}
-use Rattle.bits.specs.declared.Bits.the-variants.{Value, Short}
+use Rattle.bits.specs.Refusals.{Answer, value, refused}
 use Rattle.bits.proofs.Laws.{bits-drop}
 use Rattle.bits.proofs.Reading.{there-is, there-drop, found as read-found, missed, rest-is}
 use Rattle.headers.specs.StartCode.{zeros, prefixAt}
@@ -19,8 +18,6 @@ use Rattle.picture_header.specs.Picture.{picture}
 use Rattle.picture_header.specs.PictureHeader.{pictureHeader, pictureHeaderBits, pictureHeaderBytes}
 use Rattle.picture_header.specs.declared.Mpeg2PictureHeader.{Mpeg2PictureHeader}
 use Rattle.picture_header.specs.declared.PictureCodingExtension.{PictureCodingExtension}
-use Rattle.picture_header.specs.declared.PictureRead.the-variants.{Parsed}
-use Rattle.picture_header.specs.declared.PictureHeaderRead.the-variants.{Parsed as HeaderParsed}
 use Rattle.headers.proofs.StartCode.{zeros-past, zeros-none, zeros-more, prefix-is}
 use Rattle.picture_header.proofs.PictureHeader.{picture-header-parsed}
 use Rattle.picture_header.proofs.Extent.{header-bits, header-bytes}
@@ -34,7 +31,7 @@ use Rattle.scan.proofs.Search.{codes-from-zero, every-more}
 use Rattle.scan.proofs.Prefix.{ends-last-three}
 use Rattle.layers.specs.Headers.{opensHeaders, sequenceFirst}
 use Rattle.layers.specs.declared.PictureKind.{PictureKind}
-use Rattle.layers.specs.Layer.{sameKind, sameInterval, flagClear, codeSeven, headerFits, padding, slices, isExtension, layerCodes}
+use Rattle.layers.specs.Layer.{sameKind, sameInterval, flagClear, codeSeven, headersTell, headerFits, padding, slices, isExtension, layerCodes}
 
 -- ---- 00 00 01
 
@@ -103,7 +100,7 @@ zeros-test s k h = case (eqb (getD s k 0) 0) refl (eqb (getD s (k + 1) 0) 0) ref
 
 -- ---- behind a picture header
 
-module _ (s : List ℕ) (h : Mpeg2PictureHeader) (e : pictureHeader s ≡ HeaderParsed h) where
+module _ (s : List ℕ) (h : Mpeg2PictureHeader) (e : pictureHeader s ≡ value h) where
   abbrev n : ℕ
   n = h .«extra_information_bytes»
 
@@ -125,10 +122,10 @@ module _ (s : List ℕ) (h : Mpeg2PictureHeader) (e : pictureHeader s ≡ Header
   width-by = omega (arith, header-bytes h, header-bits h)
 
   -- the padding as it is read, of the slice from byte n on
-  abbrev read : Bits
+  abbrev read : Answer ℕ
   read = readBits (take (length s - n) (drop n s)) (last + 1) (7 - last % 8)
 
-  pub padding-read : (v : ℕ) → Value v ≡ read → eqb v 0 ≡ eqb (padding s h) 0
+  pub padding-read : (v : ℕ) → value v ≡ read → eqb v 0 ≡ eqb (padding s h) 0
   unfolding padding
   padding-read v q = rw (read-found (drop n s) (last + 1) (7 - last % 8) v (rw rest-is at (q)) .1, bits-drop n s (last + 1) (7 - last % 8), bits-by, width-by)
 
@@ -138,19 +135,24 @@ module _ (s : List ℕ) (h : Mpeg2PictureHeader) (e : pictureHeader s ≡ Header
       (there-is s (8 * n + (last + 1)) (7 - last % 8) (omega arith) (omega (arith, extra-room)))
 
   -- it lies in the header's last byte
-  pub padding-missed : Short ≡ read → false ≡ eqb (padding s h) 0
+  pub padding-missed : refused 1 0 0 0 ≡ read → false ≡ eqb (padding s h) 0
   padding-missed q =
       let m : there (drop n s) (last + 1) (7 - last % 8) ≡ false = missed (drop n s) (last + 1) (7 - last % 8) (rw rest-is at (q)) in
       let z : true ≡ false = sym padding-there ∙ m in
       cc
 
+-- headers that do not parse
+pub tests-none : (k : PictureKind) (i : RemovalInterval) (s : List ℕ) (n : ℕ) → refused n 0 0 0 ≡ picture s → false ≡ headerFits k i s
+unfolding headerFits
+tests-none k i s n e = rw (← e)
+
 -- both headers' tests, the vectors' four in one
-pub tests-are : (k : PictureKind) (i : RemovalInterval) (s : List ℕ) (h : Mpeg2PictureHeader) (x : PictureCodingExtension) → picture s ≡ Parsed h x
+pub tests-are : (k : PictureKind) (i : RemovalInterval) (s : List ℕ) (h : Mpeg2PictureHeader) (x : PictureCodingExtension) → value (h, x) ≡ picture s
     → (sameKind k (h .«picture_coding_type»)
     && (sameInterval i (intervalOf (x .«picture_structure»))
     && (not (x .«repeat_first_field»)
     && ((flagClear (h .«full_pel_forward_vector») && (codeSeven (h .«fwd_f_code») && (flagClear (h .«full_pel_backward_vector») && codeSeven (h .«bwd_f_code»))))
     && (eqb (padding s h) 0 && leb 2 (zeros (drop (pictureHeaderBytes h) s)))))))
-    ≡ headerFits k i s (picture s)
-unfolding headerFits
-tests-are k i s h x e = rw e (simp and-assoc)
+    ≡ headerFits k i s
+unfolding headerFits headersTell
+tests-are k i s h x e = rw (← e) (simp and-assoc)

@@ -6,10 +6,8 @@ use mathlib.Core.Bool.{Bool, true, false, not, _&&_, _||_}
 use lib.Dec.{eqb}
 use Rattle.headers.specs.StartCode.{prefixAt}
 use Rattle.headers.specs.Sequence.{sequence}
-use Rattle.headers.specs.declared.sequence_header.Answer.{Answer}
-use Rattle.headers.specs.declared.sequence_header.Answer.the-variants.{Parsed, Refused as HeaderRefused}
 use Rattle.headers.specs.declared.sequence_extension.Mpeg2Sequence.{Mpeg2Sequence}
-use Rattle.bits.specs.Refusals.{Answer as Told, value, refused}
+use Rattle.bits.specs.Refusals.{value, andThen, orElse}
 use Rattle.vbv.specs.Answers.{frameRate}
 use Rattle.vbv.specs.declared.VbvParams.{VbvParams}
 use Rattle.scan.specs.Codes.{Code, codes, every, endsPrefix}
@@ -25,22 +23,21 @@ unfoldable pub headerCode : ℕ → Bool
 headerCode c = eqb c 0xB2 || (eqb c 0xB3 || (eqb c 0xB5 || eqb c 0xB8))
 
 -- this frame rate
-unfoldable pub sameRate : VbvParams → Told (ℕ × ℕ) → Bool
-sameRate p (value f) = eqb (f .0) (p .frn) && eqb (f .1) (p .frd)
-sameRate p (refused n k c e) = false
+unfoldable pub sameRate : VbvParams → ℕ → Bool
+sameRate p code = orElse false (andThen (frameRate code) (λ f. value (eqb (f .0) (p .frn) && eqb (f .1) (p .frd))))
 
 -- this R, B and rate, frame rate extensions 0
 unfoldable pub sameParams : VbvParams → Mpeg2Sequence → Bool
 sameParams p q =
     eqb (400 * q .«bit_rate») (p .«bit_rate»)
     && (eqb (16384 * q .«vbv_buffer_size») (p .«buffer_size_bits»)
-    && (sameRate p (frameRate (q .header .«frame_rate_code»))
+    && (sameRate p (q .header .«frame_rate_code»)
     && (eqb (q .extension .«frame_rate_extension_n») 0
     && eqb (q .extension .«frame_rate_extension_d») 0)))
 
-unfoldable pub parsed : Answer → Bool
-parsed Parsed = true
-parsed (HeaderRefused e) = false
+-- parsing to these
+unfoldable pub declares : VbvParams → List ℕ → Bool
+declares p h = orElse false (andThen (sequence h) (λ q. value (sameParams p q)))
 
 -- B3 exactly once, at byte 0
 unfoldable pub sequenceFirst : List Code → Bool
@@ -49,7 +46,7 @@ sequenceFirst (c ∷ cs) = eqb (c .offset) 0 && (eqb (c .code) 0xB3 && every not
 
 -- before the first picture that is placed, and before any other
 unfoldable pub sequenceFits : VbvParams → Bool → List ℕ → Bool
-sequenceFits p false h = sequenceFirst (codes h) && (parsed (sequence h .answer) && sameParams p (sequence h .sequence))
+sequenceFits p false h = sequenceFirst (codes h) && declares p h
 sequenceFits p true h = every notSequence (codes h)
 
 unfoldable pub headersFit : VbvParams → Bool → List ℕ → Bool

@@ -6,6 +6,7 @@ use mathlib.Core.Bool.{Bool, true, false, not, _&&_, _||_}
 use lib.Dec.{eqb, leb}
 use lib.ListN.{drop}
 use Rattle.bits.specs.Bits.{bitsAt}
+use Rattle.bits.specs.Refusals.{value, andThen, orElse}
 use Rattle.headers.specs.StartCode.{zeros}
 use Rattle.picture_header.specs.PictureHeader.{pictureHeaderBits, pictureHeaderBytes}
 use Rattle.picture_header.specs.Picture.{picture}
@@ -16,8 +17,7 @@ use Rattle.picture_header.specs.declared.OptionFlag.the-variants.{Some as SomeF
 use Rattle.picture_header.specs.declared.OptionCode.{OptionCode}
 use Rattle.picture_header.specs.declared.OptionCode.the-variants.{Some as SomeCode, None as NoCode}
 use Rattle.picture_header.specs.declared.Mpeg2PictureHeader.{Mpeg2PictureHeader}
-use Rattle.picture_header.specs.declared.PictureRead.{PictureRead}
-use Rattle.picture_header.specs.declared.PictureRead.the-variants.{Parsed, Refused}
+use Rattle.picture_header.specs.declared.PictureCodingExtension.{PictureCodingExtension}
 use Rattle.vbv.specs.declared.RemovalInterval.{RemovalInterval}
 use Rattle.vbv.specs.declared.RemovalInterval.the-variants.{Frame, Field}
 use Rattle.verify.specs.Coded.{intervalOf}
@@ -62,9 +62,8 @@ unfoldable pub padding : List ℕ → Mpeg2PictureHeader → ℕ
 padding s h = bitsAt s (pictureHeaderBits h) (8 * pictureHeaderBytes h - pictureHeaderBits h)
 
 -- what the two headers tell; two zero bytes behind the picture header: the extension's prefix lies there, with only zeros between
-unfoldable pub headerFits : PictureKind → RemovalInterval → List ℕ → PictureRead → Bool
-headerFits k i s (Refused e) = false
-headerFits k i s (Parsed h x) =
+unfoldable pub headersTell : PictureKind → RemovalInterval → List ℕ → Mpeg2PictureHeader → PictureCodingExtension → Bool
+headersTell k i s h x =
     sameKind k (h .«picture_coding_type»)
     && (sameInterval i (intervalOf (x .«picture_structure»))
     && (not (x .«repeat_first_field»)
@@ -74,6 +73,10 @@ headerFits k i s (Parsed h x) =
     && (codeSeven (h .«bwd_f_code»)
     && (eqb (padding s h) 0
     && leb 2 (zeros (drop (pictureHeaderBytes h) s)))))))))
+
+-- both headers parse, and tell this
+unfoldable pub headerFits : PictureKind → RemovalInterval → List ℕ → Bool
+headerFits k i s = orElse false (andThen (picture s) (λ p. value (headersTell k i s (p .0) (p .1))))
 
 -- at least one slice and only slices
 unfoldable pub slices : List Code → Bool
@@ -90,4 +93,4 @@ layerCodes [] = false
 layerCodes (c ∷ cs) = eqb (c .offset) 0 && (eqb (c .code) 0 && slices (skip isExtension cs))
 
 unfoldable pub layerFits : PictureKind → RemovalInterval → List ℕ → Bool
-layerFits k i s = headerFits k i s (picture s) && (layerCodes (codes s) && not (endsPrefix s))
+layerFits k i s = headerFits k i s && (layerCodes (codes s) && not (endsPrefix s))

@@ -3,15 +3,12 @@ ghost use mathlib.Core.Path.{_≡_};
 ghost use mathlib.Core.Bool.{_&&_};
 ghost use lib.Dec.{eqb, leb};
 ghost use lib.ListN.{drop};
+ghost use Rattle.bits.specs.Refusals.{value};
 ghost use Rattle.headers.specs.StartCode.{zeros};
-ghost use Rattle.headers.specs.Sequence.{sequence as sequenceIn};
 ghost use Rattle.picture_header.specs.PictureHeader.{pictureHeader, pictureHeaderBytes};
-ghost use Rattle.picture_header.specs.Picture.{picture};
-ghost use Rattle.picture_header.specs.declared.PictureHeaderRead.the-variants.{Parsed as HeaderParsed};
-ghost use Rattle.vbv.specs.Answers.{frameRate};
 ghost use Rattle.scan.specs.Codes.{codes, codesAt, every, endsPrefix, found};
 ghost use Rattle.scan.specs.Pictures.{skip};
-ghost use Rattle.layers.specs.Headers.{opensHeaders, sameRate, sameParams, parsed, sequenceFirst, sequenceFits, headersFit};
+ghost use Rattle.layers.specs.Headers.{opensHeaders, sameRate, sameParams, declares as declaresThem, sequenceFirst, sequenceFits, headersFit};
 ghost use Rattle.layers.specs.Layer.{sameKind, sameInterval, flagClear, codeSeven, padding, headerFits, slices, isExtension, layerCodes, layerFits};
 ghost use Rattle.layers.specs.Steps.{inSet};
 use bits::Bits;
@@ -121,7 +118,7 @@ fn sequence_first(headers: &[u8]) -> bool
 
 // Whether a frame rate code is that of the parameters.
 fn same_rate(params: VbvParams, code: u8) -> bool
-    ensures { λ r. ⌜ r ≡ sameRate params (frameRate code) ⌝ }
+    ensures { λ r. ⌜ r ≡ sameRate params code ⌝ }
 {
     match vbv::frame_rate_value(code) {
         FrameRate::Rate(frn, frd) => (frn == params.frn) & (frd == params.frd),
@@ -146,7 +143,7 @@ fn same_params(params: VbvParams, sequence: Mpeg2Sequence) -> bool
 
 // Whether the sequence that headers begin with declares the parameters.
 fn declares(headers: &[u8], params: VbvParams) -> bool
-    ensures { λ r. ⌜ r ≡ (parsed (sequenceIn (now (headers .entry)) .answer) && sameParams params (sequenceIn (now (headers .entry)) .sequence)) ⌝ }
+    ensures { λ r. ⌜ r ≡ declaresThem params (now (headers .entry)) ⌝ }
 {
     let read = Mpeg2Sequence::from_buf(headers);
     let answer = read.answer;
@@ -241,7 +238,7 @@ fn code_seven(code: OptionCode) -> bool
 
 // Whether the bits that pad a picture header to a byte are zero. Its last bit is bit `last` of the slice from byte n on.
 fn padding_clear(layer: &[u8], header: Mpeg2PictureHeader) -> bool
-    requires { ⌜ pictureHeader (now layer) ≡ HeaderParsed header ⌝ }
+    requires { ⌜ pictureHeader (now layer) ≡ value header ⌝ }
     ensures { λ r. ⌜ r ≡ eqb (padding (now (layer .entry)) header) 0 ⌝ }
 {
     let n = header.extra_information_bytes;
@@ -269,7 +266,7 @@ fn two_zeros(s: &[u8], at: usize) -> bool
 
 // Whether two zero bytes follow a picture header.
 fn zeros_behind(layer: &[u8], header: Mpeg2PictureHeader) -> bool
-    requires { ⌜ pictureHeader (now layer) ≡ HeaderParsed header ⌝ }
+    requires { ⌜ pictureHeader (now layer) ≡ value header ⌝ }
     ensures { λ r. ⌜ r ≡ leb 2 (zeros (drop (pictureHeaderBytes header) (now (layer .entry)))) ⌝ }
 {
     let n = header.extra_information_bytes;
@@ -290,7 +287,7 @@ fn vectors_fit(header: Mpeg2PictureHeader) -> bool
 
 // What the picture header and its extension tell.
 fn header_fits(layer: &[u8], kind: PictureKind, interval: RemovalInterval) -> bool
-    ensures { λ r. ⌜ r ≡ headerFits kind interval (now (layer .entry)) (picture (now (layer .entry))) ⌝ }
+    ensures { λ r. ⌜ r ≡ headerFits kind interval (now (layer .entry)) ⌝ }
 {
     match Mpeg2PictureHeader::parse_with_extension(layer) {
         PictureRead::Refused(_) => false,

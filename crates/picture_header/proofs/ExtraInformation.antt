@@ -12,12 +12,18 @@ use lib.ListN.{length, getD, take, drop, length-drop, drop-of-length-le}
 use lib.Seq.{drop-cons, drop-drop, drop-append-le}
 use borrow.Author.Tests.{leb-true, leb-false}
 use Rattle.bits.specs.Bits.{bitAt, bitsAt, bitList, there}
+use Rattle.bits.specs.Refusals.{Answer, value, refused, andThen}
 use Rattle.bits.specs.Answers.{readBits}
-use Rattle.bits.specs.declared.Bits.the-variants.{Value, Short as NoBits}
 use Rattle.bits.proofs.Laws.{bits-none, bits-more, bits-drop, bit-list-length, bit-list-append, bit-list-at}
 use Rattle.bits.proofs.Reading.{found, missed, there-is, there-true, rest-is, there-drop}
-use Rattle.picture_header.specs.PictureHeader.{Extra, cut, bytes, oneMore, extra, extraAnswer, extraAt}
-use Rattle.picture_header.specs.declared.ExtraRead.the-variants.{Bytes as ExtraBytes, Cut}
+use Rattle.picture_header.specs.PictureHeader.{extra, extraAt}
+use Rattle.picture_header.specs.Answers.{extraAnswer}
+use Rattle.picture_header.specs.declared.ExtraRead.{ExtraRead}
+use Rattle.picture_header.proofs.Following.{Seen, cut, whole, then-seen, Stays, then-stays}
+
+-- the case, by what is told of it
+pub extra-case : {r x : ExtraRead} {a : Answer ℕ} → r ≡ x → extraAnswer r ≡ a → extraAnswer x ≡ a
+extra-case e f = rw (← e) f
 
 -- the extra information: bits passed over are bits dropped
 pass-over : (k : ℕ) (bs : List ℕ) → extra k bs ≡ extra 0 (drop k bs)
@@ -26,13 +32,16 @@ pass-over zero bs = refl
 pass-over (suc k) [] = refl
 pass-over (suc k) (b ∷ bs) = pass-over k bs
 
+abbrev oneMore : Answer ℕ → Answer ℕ
+oneMore a = andThen a (λ n. value (suc n))
+
 -- a flag at bit p: the bits end before it; it is the last; a byte and another flag follow it
 module _ (bs : List ℕ) (p : ℕ) where
-  flag-cut : length bs ≤ p → extra 0 (drop p bs) ≡ cut
+  flag-cut : length bs ≤ p → extra 0 (drop p bs) ≡ refused 1 0 0 0
   unfolding extra
   flag-cut h = rw (drop-of-length-le bs h)
 
-  flag-last : p < length bs → getD bs p 0 ≡ 0 → extra 0 (drop p bs) ≡ bytes 0
+  flag-last : p < length bs → getD bs p 0 ≡ 0 → extra 0 (drop p bs) ≡ value 0
   unfolding extra
   flag-last h e = rw (drop-cons bs p 0 h, e)
 
@@ -47,19 +56,18 @@ module _ (bs : List ℕ) (p : ℕ) where
       one (suc b) z = refl
 
 -- n bytes before
-unfoldable pub behind : ℕ → Extra → Extra
-behind n cut = cut
-behind n (bytes k) = bytes (n + k)
+unfoldable pub behind : ℕ → Answer ℕ → Answer ℕ
+behind n a = andThen a (λ k. value (n + k))
 
-behind-none : (x : Extra) → x ≡ behind 0 x
+behind-none : (a : Answer ℕ) → a ≡ behind 0 a
 unfolding behind
-behind-none cut = refl
-behind-none (bytes k) = ap bytes (omega arith)
+behind-none (refused n p c e) = refl
+behind-none (value k) = ap value (omega arith)
 
-behind-more : (n : ℕ) (x : Extra) → behind n (oneMore x) ≡ behind (n + 1) x
-unfolding behind oneMore
-behind-more n cut = refl
-behind-more n (bytes k) = ap bytes (omega arith)
+behind-more : (n : ℕ) (a : Answer ℕ) → behind n (oneMore a) ≡ behind (n + 1) a
+unfolding behind
+behind-more n (refused m p c e) = refl
+behind-more n (value k) = ap value (omega arith)
 
 -- the walk over the flags of the bytes s, the first at bit f: n of them are 1, and the next is at bit f + 9 * n
 pub record Walk (s : List ℕ) (f n : ℕ) : Type 0 where
@@ -69,12 +77,12 @@ pub walk-none : (s : List ℕ) (f : ℕ) → Walk s f 0
 walk-none s f = record { so-far = rw (add-zero f) (behind-none _) }
 
 module _ {s : List ℕ} {f n : ℕ} (w : Walk s f n) where
-  pub walk-cut : 8 * length s ≤ f + 9 * n → Cut ≡ extraAnswer (extraAt s f)
-  unfolding behind extraAnswer
+  pub walk-cut : 8 * length s ≤ f + 9 * n → refused 1 0 0 0 ≡ extraAt s f
+  unfolding behind
   walk-cut h = sym (rw (w .so-far, flag-cut (bitList s) (f + 9 * n) (omega (arith, bit-list-length s))))
 
-  pub walk-end : f + 9 * n < 8 * length s → bitAt s (f + 9 * n) ≡ 0 → ExtraBytes n ≡ extraAnswer (extraAt s f)
-  unfolding behind extraAnswer
+  pub walk-end : f + 9 * n < 8 * length s → bitAt s (f + 9 * n) ≡ 0 → value n ≡ extraAt s f
+  unfolding behind
   walk-end h z =
       sym (rw (w .so-far, flag-last (bitList s) (f + 9 * n) (omega (arith, bit-list-length s)) (bit-list-at s (f + 9 * n) ∙ z), add-zero n))
 
@@ -96,7 +104,7 @@ module _ (s : List ℕ) (f n : ℕ) (h : n < length s) where
   there-place : there (drop n s) (f + n) 1 ≡ there s (f + 9 * n) 1
   there-place = there-drop n s (f + n) 1 (omega arith) ∙ ap (λ (i : ℕ). there s i 1) place
 
-  pub flag-read : (v : ℕ) → Value v ≡ readBits (take (length s - n) (drop n s)) (f + n) 1
+  pub flag-read : (v : ℕ) → value v ≡ readBits (take (length s - n) (drop n s)) (f + n) 1
       → (f + 9 * n < 8 * length s) × (v ≡ bitAt s (f + 9 * n))
   flag-read v e =
       let r = found (drop n s) (f + n) 1 v (rw rest-is at (e)) in
@@ -105,7 +113,7 @@ module _ (s : List ℕ) (f n : ℕ) (h : n < length s) where
         r .1 ∙ bits-drop n s (f + n) 1 ∙ ap (λ (i : ℕ). bitsAt s i 1) place ∙ b,
       )
 
-  pub flag-missed : NoBits ≡ readBits (take (length s - n) (drop n s)) (f + n) 1 → 8 * length s ≤ f + 9 * n
+  pub flag-missed : refused 1 0 0 0 ≡ readBits (take (length s - n) (drop n s)) (f + n) 1 → 8 * length s ≤ f + 9 * n
   flag-missed e = case (leb (8 * length s) (f + 9 * n)) refl
     where
       gone : there s (f + 9 * n) 1 ≡ false
@@ -117,37 +125,44 @@ module _ (s : List ℕ) (f n : ℕ) (h : n < length s) where
           let t = there-is s (f + 9 * n) 1 (lit≤ tt) (omega (arith, leb-false (8 * length s) (f + 9 * n) q)) in
           let z : _≡_ {A = ℕ} 0 1 = cc gone in omega arith
 
+-- what it finds
+extra-found : (k : ℕ) (bs : List ℕ) → Seen (extra k bs)
+unfolding extra
+extra-found k [] = cut
+extra-found (suc k) (b ∷ bs) = extra-found k bs
+extra-found zero (zero ∷ bs) = whole 0
+extra-found zero (suc b ∷ bs) = then-seen (extra-found 8 bs) (λ n. whole (suc n))
+
+pub extra-seen : (s : List ℕ) (f : ℕ) → Seen (extraAt s f)
+extra-seen s f = extra-found 0 (drop f (bitList s))
+
 -- an extra information that ends, ends within the bits
-extra-within : (k : ℕ) (bs : List ℕ) (n : ℕ) → extra k bs ≡ bytes n → k + 9 * n + 1 ≤ length bs
-unfolding extra oneMore
+extra-within : (k : ℕ) (bs : List ℕ) (n : ℕ) → extra k bs ≡ value n → k + 9 * n + 1 ≤ length bs
+unfolding extra
 extra-within k [] n e = let z : _≡_ {A = ℕ} 0 1 = cc in omega arith
 extra-within (suc k) (b ∷ bs) n e = omega (arith, extra-within k bs n e)
 extra-within zero (zero ∷ bs) n e = let z : 0 ≡ n = cc in omega arith
 extra-within zero (suc b ∷ bs) n e = case (extra 8 bs) refl e (λ m. extra-within 8 bs m)
   where
-    case : (x : Extra) → extra 8 bs ≡ x → oneMore x ≡ bytes n → ((m : ℕ) → extra 8 bs ≡ bytes m → 8 + 9 * m + 1 ≤ length bs)
+    case : (x : Answer ℕ) → extra 8 bs ≡ x → oneMore x ≡ value n → ((m : ℕ) → extra 8 bs ≡ value m → 8 + 9 * m + 1 ≤ length bs)
         → 0 + 9 * n + 1 ≤ suc (length bs)
-    case cut q y rec = let z : _≡_ {A = ℕ} 0 1 = cc in omega arith
-    case (bytes m) q y rec = let z : suc m ≡ n = cc in omega (arith, rec m q)
+    case (refused a b c d) q y rec = let z : _≡_ {A = ℕ} 0 1 = cc in omega arith
+    case (value m) q y rec = let z : suc m ≡ n = cc in omega (arith, rec m q)
 
--- and bits behind do not matter
-extra-append : (k : ℕ) (bs cs : List ℕ) (n : ℕ) → extra k bs ≡ bytes n → extra k (bs ++ cs) ≡ bytes n
-unfolding extra oneMore
-extra-append k [] cs n e = cc
-extra-append (suc k) (b ∷ bs) cs n e = extra-append k bs cs n e
-extra-append zero (zero ∷ bs) cs n e = e
-extra-append zero (suc b ∷ bs) cs n e = case (extra 8 bs) refl e (λ m. extra-append 8 bs cs m)
+pub extra-inside : (s : List ℕ) (f n : ℕ) → extraAt s f ≡ value n → f + 9 * n + 1 ≤ 8 * length s
+extra-inside s f n e = omega (arith, extra-within 0 (drop f (bitList s)) n e, length-drop f (bitList s), bit-list-length s)
+
+-- and bits behind do not matter, unless the bits end first
+extra-longer : (k : ℕ) (bs cs : List ℕ) → Stays (extra k bs) (extra k (bs ++ cs))
+unfolding extra
+extra-longer k [] cs = λ h. absurd (h refl)
+extra-longer (suc k) (b ∷ bs) cs = extra-longer k bs cs
+extra-longer zero (zero ∷ bs) cs = λ h. refl
+extra-longer zero (suc b ∷ bs) cs = then-stays (extra 8 bs) _ _ _ (extra-longer 8 bs cs) (λ n h. refl)
+
+pub extra-append : (s t : List ℕ) (f : ℕ) → Stays (extraAt s f) (extraAt (s ++ t) f)
+extra-append s t f h = case (leb f (length (bitList s))) refl
   where
-    case : (x : Extra) → extra 8 bs ≡ x → oneMore x ≡ bytes n → ((m : ℕ) → extra 8 bs ≡ bytes m → extra 8 (bs ++ cs) ≡ bytes m)
-        → oneMore (extra 8 (bs ++ cs)) ≡ bytes n
-    case cut q y rec = cc
-    case (bytes m) q y rec = rw (rec m q) y
-
-module _ (s : List ℕ) (f n : ℕ) (e : extraAt s f ≡ bytes n) where
-  pub extra-inside : f + 9 * n + 1 ≤ 8 * length s
-  extra-inside = omega (arith, extra-within 0 (drop f (bitList s)) n e, length-drop f (bitList s), bit-list-length s)
-
-  pub extra-stays : (t : List ℕ) → extraAt (s ++ t) f ≡ bytes n
-  extra-stays t =
-      rw (bit-list-append s t, drop-append-le f (bitList s) (bitList t) (omega (arith, extra-inside, bit-list-length s)))
-      (extra-append 0 (drop f (bitList s)) (bitList t) n e)
+    case : (b : Bool) → leb f (length (bitList s)) ≡ b → extraAt (s ++ t) f ≡ extraAt s f
+    case true e = rw (bit-list-append s t, drop-append-le f (bitList s) (bitList t) (leb-true f (length (bitList s)) e)) (extra-longer 0 (drop f (bitList s)) (bitList t) h)
+    case false e = absurd (h (flag-cut (bitList s) f (omega (arith, leb-false f (length (bitList s)) e))))

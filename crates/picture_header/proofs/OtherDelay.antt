@@ -11,20 +11,20 @@ use lib.Dec.{eqb, lit≤}
 use lib.ListN.{length, getD, take, drop}
 use lib.Seq.{getD-drop, drop-drop}
 use Rattle.bits.specs.Bits.{pick, bitAt, bitsAt, bitList}
-use Rattle.bits.specs.Fields.{Field, field, any, got, readFields, readHeader}
+use Rattle.bits.specs.Refusals.{value}
+use Rattle.bits.specs.Fields.{Field, field, any, readFields, readHeader}
 use Rattle.bits.proofs.Laws.{bits-bound, bit-list-at}
-use Rattle.bits.proofs.Reading.{step, there-is, obeys-is, read-none, read-more, after-got, header-got, header-of}
+use Rattle.bits.proofs.Reading.{step, there-is, obeys-is, read-none, read-more, header-got, header-of}
 use Rattle.bits.proofs.Same.{bits-one, read-same, bit-list-same}
 use Rattle.headers.specs.StartCode.{zeros}
-use Rattle.picture_header.specs.PictureHeader.{pictureStartCode, pictureFields, forward, backward, vectorFields, motionFields, codingType, codeIf, bytes, extra, extraAt, extraBit, pictureOf, pictureEnd, pictureThen, behindDelay, pictureHeader, pictureHeaderBits, pictureHeaderBytes}
-use Rattle.picture_header.specs.Picture.{withCoding, codingAt, behindHeader, picture}
+use Rattle.picture_header.specs.PictureHeader.{pictureStartCode, pictureFields, forward, backward, vectorFields, motionFields, codingType, codeIf, extra, extraAt, extraBit, pictureOf, behindDelay, pictureHeader, pictureHeaderBits, pictureHeaderBytes}
+use Rattle.picture_header.specs.Picture.{picture}
+use Rattle.picture_header.specs.Steps.{behindHeader}
 use Rattle.picture_header.specs.declared.PictureCodingType.{PictureCodingType}
 use Rattle.picture_header.specs.declared.PictureCodingType.the-variants.{Intra, Predictive, Bidirectional, DcIntra}
 use Rattle.picture_header.specs.declared.OptionCode.the-variants.{Some as SomeCode}
 use Rattle.picture_header.specs.declared.Mpeg2PictureHeader.{Mpeg2PictureHeader}
-use Rattle.picture_header.specs.declared.PictureHeaderRead.the-variants.{Parsed as HeaderParsed}
 use Rattle.picture_header.specs.declared.PictureCodingExtension.{PictureCodingExtension}
-use Rattle.picture_header.specs.declared.PictureRead.the-variants.{Parsed as Accepted}
 use Rattle.headers.proofs.StartCode.{next-found, next-same}
 use Rattle.picture_header.proofs.PictureHeader.{picture-header-parsed, header-least, header-inside, extra-bit-type, flag-bit-range, from, fields-are}
 use Rattle.picture_header.proofs.Picture.{picture-parsed, picture-behind}
@@ -65,22 +65,22 @@ delayed-type h d = refl
 
 -- a field that is read
 field-read : (f : Field) (fs : List Field) (t : List ℕ) (i : ℕ) (vs : List ℕ) → f .width ≤ 32 → i + f .width ≤ 8 * length t
-    → f .low ≤ bitsAt t i (f .width) → bitsAt t i (f .width) ≤ f .high → readFields fs t (i + f .width) ≡ got vs
-    → readFields (f ∷ fs) t i ≡ got (bitsAt t i (f .width) ∷ vs)
+    → f .low ≤ bitsAt t i (f .width) → bitsAt t i (f .width) ≤ f .high → readFields fs t (i + f .width) ≡ value vs
+    → readFields (f ∷ fs) t i ≡ value (bitsAt t i (f .width) ∷ vs)
 field-read f fs t i vs w r l h e =
-    read-more f fs t i (there-is t i (f .width) w r) (obeys-is f _ l h) ∙ rw (e, after-got (bitsAt t i (f .width) ∷ []) vs)
+    read-more f fs t i (there-is t i (f .width) w r) (obeys-is f _ l h) ∙ rw e
 
 -- the three fields up to the delay
 three-read : (t : List ℕ) → 8 ≤ length t → 1 ≤ bitsAt t 42 3 → bitsAt t 42 3 ≤ 4
-    → readFields pictureFields t 32 ≡ got (bitsAt t 32 10 ∷ bitsAt t 42 3 ∷ bitsAt t 45 16 ∷ [])
+    → readFields pictureFields t 32 ≡ value (bitsAt t 32 10 ∷ bitsAt t 42 3 ∷ bitsAt t 45 16 ∷ [])
 three-read t l a b =
     field-read (any 10) (field 3 1 4 ∷ any 16 ∷ []) t 32 _ (lit≤ tt) (omega arith) (omega arith) (omega (arith, bits-bound t 32 10))
     (field-read (field 3 1 4) (any 16 ∷ []) t 42 _ (lit≤ tt) (omega arith) a b
     (field-read (any 16) [] t 45 [] (lit≤ tt) (omega arith) (omega arith) (omega (arith, bits-bound t 45 16)) (read-none t 61)))
 
 module _ (s t : List ℕ) (o : OtherDelay s t) (h : Mpeg2PictureHeader) where
-  pub header-delayed : pictureHeader s ≡ HeaderParsed h → pictureHeader t ≡ HeaderParsed (delayed h (bitsAt t 45 16))
-  unfolding pictureHeader pictureThen behindDelay pictureEnd pictureOf delayed
+  pub header-delayed : pictureHeader s ≡ value h → pictureHeader t ≡ value (delayed h (bitsAt t 45 16))
+  unfolding pictureHeader behindDelay pictureOf delayed
   header-delayed e =
       let w = from s h e in
       let p = picture-header-parsed s h e in
@@ -89,7 +89,7 @@ module _ (s t : List ℕ) (o : OtherDelay s t) (h : Mpeg2PictureHeader) where
       let l : 8 ≤ length t = omega (arith, header-least p, header-inside p, o .same-length) in
       let a : bitsAt t 32 10 ≡ getD (w .vs) 0 0 = o .same-before 32 10 (lit≤ tt) ∙ sym (f .0) in
       let b : bitsAt t 42 3 ≡ getD (w .vs) 1 0 = o .same-before 42 3 (lit≤ tt) ∙ sym (f .1) in
-      let r : readHeader pictureStartCode pictureFields t ≡ got (bitsAt t 32 10 ∷ bitsAt t 42 3 ∷ bitsAt t 45 16 ∷ []) =
+      let r : readHeader pictureStartCode pictureFields t ≡ value (bitsAt t 32 10 ∷ bitsAt t 42 3 ∷ bitsAt t 45 16 ∷ []) =
       header-of (record {
         long = omega arith;
         code-first = o .same-code ∙ g .code-first;
@@ -97,10 +97,10 @@ module _ (s t : List ℕ) (o : OtherDelay s t) (h : Mpeg2PictureHeader) where
       }) in
       let k = extraBit (getD (w .vs) 1 0) in
       let low : 61 ≤ k = rw (extra-bit-type (getD (w .vs) 1 0)) (flag-bit-range (codingType (getD (w .vs) 1 0)) .0) in
-      let m : readFields (motionFields (getD (w .vs) 1 0)) t 61 ≡ got (w .m) = read-same s t (o .same-length) _ 61 (o .same-behind) ∙ w .motion-is in
-      let x : extraAt t k ≡ bytes (w .n) =
+      let m : readFields (motionFields (getD (w .vs) 1 0)) t 61 ≡ value (w .m) = read-same s t (o .same-length) _ 61 (o .same-behind) ∙ w .motion-is in
+      let x : extraAt t k ≡ value (w .n) =
       ap (extra 0) (bit-list-same s t (o .same-length) k (λ i n q. o .same-behind i n (omega arith))) ∙ w .extra-is in
-      rw (r, b, m, x, a) (ap (λ (g : Mpeg2PictureHeader). HeaderParsed (delayed g (bitsAt t 45 16))) (sym (w .made)))
+      rw (r, b, m, x, a) (ap (λ (g : Mpeg2PictureHeader). value (delayed g (bitsAt t 45 16))) (sym (w .made)))
 
   -- the bytes from byte 8 on are the same
   drop-same : (k : ℕ) → 8 ≤ k → drop k t ≡ drop k s
@@ -110,9 +110,9 @@ module _ (s t : List ℕ) (o : OtherDelay s t) (h : Mpeg2PictureHeader) where
       ∙ ap (λ (n : ℕ). drop n s) e
 
   -- with its extension, where that stands behind the eight bytes
-  pub picture-delayed : (x : PictureCodingExtension) → picture s ≡ Accepted h x → 2 ≤ zeros (drop (pictureHeaderBytes h) s)
-      → picture t ≡ Accepted (delayed h (bitsAt t 45 16)) x
-  unfolding behindHeader codingAt withCoding
+  pub picture-delayed : (x : PictureCodingExtension) → picture s ≡ value (h, x) → 2 ≤ zeros (drop (pictureHeaderBytes h) s)
+      → picture t ≡ value (delayed h (bitsAt t 45 16), x)
+  unfolding behindHeader
   picture-delayed x e z =
       let r = picture-parsed s h x e in
       let g = header-delayed (r .header) in
@@ -125,11 +125,11 @@ module _ (s t : List ℕ) (o : OtherDelay s t) (h : Mpeg2PictureHeader) where
 -- ---- the bits behind the delay
 
 -- a type with a forward vector has its code in bits 62 to 64
-vector-code : (t : ℕ) (s m : List ℕ) → forward t ≡ true → readFields (motionFields t) s 61 ≡ got m → getD m 1 0 ≡ bitsAt s 62 3
+vector-code : (t : ℕ) (s m : List ℕ) → forward t ≡ true → readFields (motionFields t) s 61 ≡ value m → getD m 1 0 ≡ bitsAt s 62 3
 unfolding motionFields vectorFields
 vector-code t s m f e = go (motionFields t) (rw f) e
   where
-    go : (fs : List Field) → fs ≡ any 1 ∷ any 3 ∷ vectorFields (backward t) → readFields fs s 61 ≡ got m → getD m 1 0 ≡ bitsAt s 62 3
+    go : (fs : List Field) → fs ≡ any 1 ∷ any 3 ∷ vectorFields (backward t) → readFields fs s 61 ≡ value m → getD m 1 0 ≡ bitsAt s 62 3
     go fs q e =
         let a = step (any 1) (any 3 ∷ vectorFields (backward t)) s 61 m (rw q at (e)) in
         let b = step (any 3) (vectorFields (backward t)) s 62 (a .rest) (a .then) in
@@ -151,13 +151,13 @@ forward-type t k = case (eqb t 1) (eqb t 2) (eqb t 3) refl refl refl k
     case false false false x y z u = absurd (⊎-elim (λ v. let z : _≡_ {A = ℕ} 0 1 = cc in omega arith) (λ v. let z : _≡_ {A = ℕ} 0 1 = cc in omega arith) u)
 
 -- a flag that extra information follows is set
-flag-set : (bs : List ℕ) (n : ℕ) → extra 0 bs ≡ bytes n → 1 ≤ n → 1 ≤ getD bs 0 0
+flag-set : (bs : List ℕ) (n : ℕ) → extra 0 bs ≡ value n → 1 ≤ n → 1 ≤ getD bs 0 0
 unfolding extra
 flag-set [] n e l = absurd (let z : _≡_ {A = ℕ} 0 1 = cc in omega arith)
 flag-set (zero ∷ bs) n e l = absurd (let z : 0 ≡ n = cc in omega arith)
 flag-set (suc b ∷ bs) n e l = omega arith
 
-module _ (s : List ℕ) (h : Mpeg2PictureHeader) (e : pictureHeader s ≡ HeaderParsed h) where
+module _ (s : List ℕ) (h : Mpeg2PictureHeader) (e : pictureHeader s ≡ value h) where
   pub forward-code : (h .«picture_coding_type» ≡ Predictive) ⊎ (h .«picture_coding_type» ≡ Bidirectional) → h .«fwd_f_code» ≡ SomeCode (bitsAt s 62 3)
   unfolding pictureOf codeIf pick
   forward-code k =

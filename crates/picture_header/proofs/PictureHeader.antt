@@ -1,7 +1,7 @@
 -- The laws of the picture header: the ways that reading it goes, what a parsed one says of the bytes, and that bytes behind it change
 -- nothing.
 -- Assumes nothing.
-use mathlib.Core.Path.{_≡_, refl, sym, ap, _∙_}
+use mathlib.Core.Path.{_≡_, refl, ap}
 use mathlib.Core.List.{List, [], _∷_, _++_}
 use mathlib.Core.Bool.{Bool, true, false}
 use Prim.Native.Nat.{ℕ, _+_, _*_, _≤_, _<_}
@@ -10,21 +10,22 @@ use lib.Dec.{eqb, lit≤}
 use lib.ListN.{length, getD, take}
 use borrow.Author.Tests.{eqb-true, ne-eqb}
 use Rattle.bits.specs.Bits.{pick, bitsAt}
-use Rattle.bits.specs.Fields.{field, any, Parsed, short, bad, got, readFields, readHeader}
-use Rattle.bits.specs.Answers.{places, fieldsAnswer}
+use Rattle.bits.specs.Refusals.{Answer, value, refused}
+use Rattle.bits.specs.Fields.{field, any, readFields, readHeader}
+use Rattle.bits.specs.Answers.{placed, fieldsAnswer}
 use Rattle.bits.specs.declared.Fields.{Fields}
 use Rattle.bits.specs.declared.Outcome.the-variants.{Done, Short, Bad}
 use Rattle.bits.proofs.Laws.{bits-bound}
-use Rattle.bits.proofs.Reading.{step, obeys-true, read-append, places-at, answer-done, answer-short, answer-bad, fields-done, header-got, header-append}
-use Rattle.picture_header.specs.PictureHeader.{pictureStartCode, pictureFields, forward, backward, vectorFields, motionFields, codingType, Extra, cut, bytes, extraAnswer, extraAt, extraBit, pictureOf, pictureEnd, pictureThen, behindDelay, pictureHeader, pictureHeaderBytes}
-use Rattle.picture_header.proofs.ExtraInformation.{extra-inside, extra-stays}
-use Rattle.headers.specs.declared.Error.the-variants.{ShortHeader, InvalidBitstream, FrameRateCode, FieldToWrite, ShortOutput}
+use Rattle.bits.proofs.Reading.{Read, fields-seen, header-seen, step, obeys-true, read-append, answer-short, answer-bad, fields-done, header-done, header-got, header-append}
+use Rattle.picture_header.specs.PictureHeader.{pictureStartCode, pictureFields, forward, backward, vectorFields, motionFields, codingType, extraAt, extraBit, pictureOf, behindDelay, pictureHeader, pictureHeaderBytes, headerLength}
+use Rattle.picture_header.specs.Answers.{pictureHeaderAnswer}
+use Rattle.picture_header.specs.Stability.{HeaderStays, HeaderCut}
+use Rattle.picture_header.proofs.ExtraInformation.{extra-inside, extra-seen, extra-append}
+use Rattle.picture_header.proofs.Following.{Seen, whole, table-seen, then-value, then-seen, then-stays, short-cut}
 use Rattle.picture_header.specs.declared.PictureCodingType.{PictureCodingType}
 use Rattle.picture_header.specs.declared.PictureCodingType.the-variants.{Intra, Predictive, Bidirectional, DcIntra}
-use Rattle.picture_header.specs.declared.ExtraRead.the-variants.{Bytes as ExtraBytes, Cut}
 use Rattle.picture_header.specs.declared.Mpeg2PictureHeader.{Mpeg2PictureHeader}
 use Rattle.picture_header.specs.declared.PictureHeaderRead.{PictureHeaderRead}
-use Rattle.picture_header.specs.declared.PictureHeaderRead.the-variants.{Parsed as Accepted, Refused}
 
 -- a type other than P and B has no motion vectors
 pub motion-none : (t : ℕ) → (t ≡ 2 → ⊥) → (t ≡ 3 → ⊥) → motionFields t ≡ []
@@ -70,98 +71,89 @@ flag-bit-range Predictive = (lit≤ tt, lit≤ tt)
 flag-bit-range Bidirectional = (lit≤ tt, lit≤ tt)
 flag-bit-range DcIntra = (lit≤ tt, lit≤ tt)
 
--- values in 24 places are the same to a header
-end-places : (h m : List ℕ) (x : Extra) → pictureEnd h (places m) x ≡ pictureEnd h m x
-unfolding pictureEnd pictureOf
-end-places h m cut = refl
-end-places h m (bytes n) = rw (places-at m 0, places-at m 1, places-at m 2, places-at m 3)
+-- the same values make the same header
+behind-same : (s h k : List ℕ) → ((i : ℕ) → getD h i 0 ≡ getD k i 0) → behindDelay s h ≡ behindDelay s k
+unfolding behindDelay pictureOf
+behind-same s h k e = rw (e 0, e 1, e 2)
 
-behind-places : (s vs : List ℕ) → behindDelay s (places vs) ≡ behindDelay s vs
-unfolding behindDelay pictureThen pictureEnd pictureOf
-behind-places s vs = rw (places-at vs 1) (case (readFields (motionFields (getD vs 1 0)) s 61) (extraAt s (extraBit (getD vs 1 0))))
-  where
-    case : (p : Parsed) (x : Extra) → pictureThen p (λ m. pictureEnd (places vs) m x) ≡ pictureThen p (λ m. pictureEnd vs m x)
-    case short x = refl
-    case bad x = refl
-    case (got m) cut = refl
-    case (got m) (bytes n) = rw (places-at vs 0, places-at vs 1, places-at vs 2)
+motion-same : (h m k : List ℕ) (n : ℕ) → ((i : ℕ) → getD m i 0 ≡ getD k i 0) → pictureOf h m n ≡ pictureOf h k n
+unfolding pictureOf
+motion-same h m k n e = rw (e 0, e 1, e 2, e 3)
 
--- the ways that reading goes, from what the code's reads answer
-module _ (r : Fields) (p : Parsed) (f : List ℕ → PictureHeaderRead) (e : r ≡ fieldsAnswer p) where
-  pub then-short : r .outcome ≡ Short → Refused ShortHeader ≡ pictureThen p f
-  unfolding pictureThen
-  then-short o = rw (answer-short r p e o)
+-- the ways of the whole header, from what the code's reads answer
+module _ (r : Fields) (s : List ℕ) (e : fieldsAnswer r ≡ placed (readHeader pictureStartCode pictureFields s)) where
+  pub header-short : r .outcome ≡ Short → refused 1 0 0 0 ≡ pictureHeader s
+  unfolding pictureHeader
+  header-short o = rw (answer-short r (readHeader pictureStartCode pictureFields s) e o)
 
-  pub then-bad : r .outcome ≡ Bad → Refused InvalidBitstream ≡ pictureThen p f
-  unfolding pictureThen
-  then-bad o = rw (answer-bad r p e o)
+  pub header-bad : r .outcome ≡ Bad → refused 2 0 0 0 ≡ pictureHeader s
+  unfolding pictureHeader
+  header-bad o = rw (answer-bad r (readHeader pictureStartCode pictureFields s) e o)
 
-  then-done : r .outcome ≡ Done → ((vs : List ℕ) → f (places vs) ≡ f vs) → f (r .values) ≡ pictureThen p f
-  unfolding pictureThen
-  then-done o same =
-      let d = answer-done r p e o in
-      ap f (d .2) ∙ same (d .0) ∙ sym (ap (λ (q : Parsed). pictureThen q f) (d .1))
+  pub header-behind : r .outcome ≡ Done → behindDelay s (r .values) ≡ pictureHeader s
+  unfolding pictureHeader
+  header-behind o =
+      let d = header-done r pictureStartCode pictureFields s e o in
+      rw (d .parsed) (behind-same s (r .values) (d .vs) (d .same))
 
-pub header-behind : (r : Fields) (s : List ℕ) → r ≡ fieldsAnswer (readHeader pictureStartCode pictureFields s) → r .outcome ≡ Done
-    → behindDelay s (r .values) ≡ pictureHeader s
-unfolding pictureHeader
-header-behind r s e o = then-done r _ (behindDelay s) e o (behind-places s)
-
-module _ (r : Fields) (s h : List ℕ) (e : r ≡ fieldsAnswer (readFields (motionFields (getD h 1 0)) s 61)) (o : r .outcome ≡ Done) where
-  pub motion-codes : (getD (r .values) 1 0 ≤ 7) × (getD (r .values) 3 0 ≤ 7)
-  motion-codes =
-      let d = fields-done r (motionFields (getD h 1 0)) s 61 e o in
-      (omega (arith, d .high 1, motion-small (getD h 1 0) .0), omega (arith, d .high 3, motion-small (getD h 1 0) .1))
-
-  motion-end : pictureEnd h (r .values) (extraAt s (extraBit (getD h 1 0))) ≡ behindDelay s h
+-- the ways behind the delay
+module _ (r : Fields) (s h : List ℕ) (e : fieldsAnswer r ≡ placed (readFields (motionFields (getD h 1 0)) s 61)) where
+  pub motion-short : r .outcome ≡ Short → refused 1 0 0 0 ≡ behindDelay s h
   unfolding behindDelay
-  motion-end = then-done r _ (λ m. pictureEnd h m (extraAt s (extraBit (getD h 1 0)))) e o (λ m. end-places h m _)
+  motion-short o = rw (answer-short r (readFields (motionFields (getD h 1 0)) s 61) e o)
 
-  pub motion-cut : Cut ≡ extraAnswer (extraAt s (extraBit (getD h 1 0))) → Refused ShortHeader ≡ behindDelay s h
-  unfolding extraAnswer pictureEnd
-  motion-cut q = case (extraAt s (extraBit (getD h 1 0))) q ∙ motion-end
-    where
-      case : (x : Extra) → Cut ≡ extraAnswer x → Refused ShortHeader ≡ pictureEnd h (r .values) x
-      case cut y = refl
-      case (bytes n) y = cc
+  pub motion-bad : r .outcome ≡ Bad → refused 2 0 0 0 ≡ behindDelay s h
+  unfolding behindDelay
+  motion-bad o = rw (answer-bad r (readFields (motionFields (getD h 1 0)) s 61) e o)
 
-  pub motion-done : (n : ℕ) → ExtraBytes n ≡ extraAnswer (extraAt s (extraBit (getD h 1 0)))
-      → Accepted (pictureOf h (r .values) n) ≡ behindDelay s h
-  unfolding extraAnswer pictureEnd
-  motion-done n q = case (extraAt s (extraBit (getD h 1 0))) q ∙ motion-end
-    where
-      case : (x : Extra) → ExtraBytes n ≡ extraAnswer x → Accepted (pictureOf h (r .values) n) ≡ pictureEnd h (r .values) x
-      case cut y = cc
-      case (bytes k) y = let z : n ≡ k = cc in rw z
+  module _ (o : r .outcome ≡ Done) where
+    done : Read (motionFields (getD h 1 0)) (readFields (motionFields (getD h 1 0)) s 61) r
+    done = fields-done r (motionFields (getD h 1 0)) s 61 e o
+
+    pub motion-codes : (getD (r .values) 1 0 ≤ 7) × (getD (r .values) 3 0 ≤ 7)
+    motion-codes = (omega (arith, done .high 1, motion-small (getD h 1 0) .0), omega (arith, done .high 3, motion-small (getD h 1 0) .1))
+
+    pub motion-cut : refused 1 0 0 0 ≡ extraAt s (extraBit (getD h 1 0)) → refused 1 0 0 0 ≡ behindDelay s h
+    unfolding behindDelay
+    motion-cut q = rw (done .parsed, ← q)
+
+    pub motion-done : (n : ℕ) → value n ≡ extraAt s (extraBit (getD h 1 0)) → value (pictureOf h (r .values) n) ≡ behindDelay s h
+    unfolding behindDelay
+    motion-done n q = rw (done .parsed, ← q) (ap value (motion-same h (r .values) (done .vs) n (done .same)))
+
+-- the case, by what is told of it
+pub header-case : {r x : PictureHeaderRead} {a : Answer Mpeg2PictureHeader} → r ≡ x → pictureHeaderAnswer r ≡ a → pictureHeaderAnswer x ≡ a
+header-case e f = rw (← e) f
+
+-- the length by the header
+pub length-refused : (s : List ℕ) (n : ℕ) → refused n 0 0 0 ≡ pictureHeader s → refused n 0 0 0 ≡ headerLength s
+unfolding headerLength
+length-refused s n e = rw (← e)
+
+pub length-parsed : (s : List ℕ) (h : Mpeg2PictureHeader) → value h ≡ pictureHeader s → value (pictureHeaderBytes h) ≡ headerLength s
+unfolding headerLength
+length-parsed s h e = rw (← e)
 
 -- what a parsed header comes from
 pub record From (s : List ℕ) (h : Mpeg2PictureHeader) : Type 0 where
   pub vs : List ℕ
   pub m : List ℕ
   pub n : ℕ
-  pub header-is : readHeader pictureStartCode pictureFields s ≡ got vs
-  pub motion-is : readFields (motionFields (getD vs 1 0)) s 61 ≡ got m
-  pub extra-is : extraAt s (extraBit (getD vs 1 0)) ≡ bytes n
+  pub header-is : readHeader pictureStartCode pictureFields s ≡ value vs
+  pub motion-is : readFields (motionFields (getD vs 1 0)) s 61 ≡ value m
+  pub extra-is : extraAt s (extraBit (getD vs 1 0)) ≡ value n
   pub made : h ≡ pictureOf vs m n
 
-pub from : (s : List ℕ) (h : Mpeg2PictureHeader) → pictureHeader s ≡ Accepted h → From s h
-unfolding pictureHeader behindDelay pictureThen pictureEnd
-from s h e = case (readHeader pictureStartCode pictureFields s) refl e
-  where
-    inner : (vs : List ℕ) → readHeader pictureStartCode pictureFields s ≡ got vs → (p : Parsed) (x : Extra) → readFields (motionFields (getD vs 1 0)) s 61 ≡ p
-        → extraAt s (extraBit (getD vs 1 0)) ≡ x → pictureThen p (λ m. pictureEnd vs m x) ≡ Accepted h → From s h
-    inner vs a short x b d q = absurd (let z : _≡_ {A = ℕ} 0 1 = cc in omega arith)
-    inner vs a bad x b d q = absurd (let z : _≡_ {A = ℕ} 0 1 = cc in omega arith)
-    inner vs a (got m) cut b d q = absurd (let z : _≡_ {A = ℕ} 0 1 = cc in omega arith)
-    inner vs a (got m) (bytes n) b d q = record { vs = vs; m = m; n = n; header-is = a; motion-is = b; extra-is = d; made = cc }
-
-    case : (p : Parsed) → readHeader pictureStartCode pictureFields s ≡ p → pictureThen p (behindDelay s) ≡ Accepted h → From s h
-    case short a q = absurd (let z : _≡_ {A = ℕ} 0 1 = cc in omega arith)
-    case bad a q = absurd (let z : _≡_ {A = ℕ} 0 1 = cc in omega arith)
-    case (got vs) a q = inner vs a (readFields (motionFields (getD vs 1 0)) s 61) (extraAt s (extraBit (getD vs 1 0))) refl refl q
+pub from : (s : List ℕ) (h : Mpeg2PictureHeader) → pictureHeader s ≡ value h → From s h
+unfolding pictureHeader behindDelay
+from s h e =
+    let a = then-value (readHeader pictureStartCode pictureFields s) e in
+    let b = then-value (readFields (motionFields (getD (a .0) 1 0)) s 61) (a .2) in
+    let d = then-value (extraAt s (extraBit (getD (a .0) 1 0))) (b .2) in
+    record { vs = a .0; m = b .0; n = d .0; header-is = a .1; motion-is = b .1; extra-is = d .1; made = cc }
 
 -- the three fields before the motion vectors, and the type's range
-pub fields-are : (s vs : List ℕ) → readFields pictureFields s 32 ≡ got vs
+pub fields-are : (s vs : List ℕ) → readFields pictureFields s 32 ≡ value vs
     → (getD vs 0 0 ≡ bitsAt s 32 10) × (getD vs 1 0 ≡ bitsAt s 42 3) × (getD vs 2 0 ≡ bitsAt s 45 16) × (1 ≤ bitsAt s 42 3) × (bitsAt s 42 3 ≤ 4)
 fields-are s vs e =
     let a = step (any 10) (field 3 1 4 ∷ any 16 ∷ []) s 32 vs e in
@@ -181,7 +173,7 @@ pub record PictureHeaderParsed (s : List ℕ) (h : Mpeg2PictureHeader) : Type 0 
   pub first-flag : h .«extra_information_bit» ≡ flagBit (h .«picture_coding_type»)
   pub last-flag : h .«extra_information_bit» + 9 * h .«extra_information_bytes» < 8 * length s
 
-pub picture-header-parsed : (s : List ℕ) (h : Mpeg2PictureHeader) → pictureHeader s ≡ Accepted h → PictureHeaderParsed s h
+pub picture-header-parsed : (s : List ℕ) (h : Mpeg2PictureHeader) → pictureHeader s ≡ value h → PictureHeaderParsed s h
 unfolding pictureOf
 picture-header-parsed s h e =
     let w = from s h e in
@@ -215,41 +207,20 @@ module _ {s : List ℕ} {h : Mpeg2PictureHeader} (p : PictureHeaderParsed s h) w
   header-inside = omega (arith, p .last-flag)
 
 -- bytes behind a header do not matter, unless it is too short
-then-append : (p q : Parsed) (f g : List ℕ → PictureHeaderRead) → ((p ≡ short → ⊥) → q ≡ p)
-    → ((vs : List ℕ) → p ≡ got vs → (f vs ≡ Refused ShortHeader → ⊥) → g vs ≡ f vs)
-    → (pictureThen p f ≡ Refused ShortHeader → ⊥) → pictureThen q g ≡ pictureThen p f
-unfolding pictureThen
-then-append short q f g same more n = absurd (n refl)
-then-append bad q f g same more n = rw (same (λ z. let y : _≡_ {A = ℕ} 0 1 = cc in omega arith))
-then-append (got vs) q f g same more n = rw (same (λ z. let y : _≡_ {A = ℕ} 0 1 = cc in omega arith)) (more vs refl n)
-
-end-append : (h m s t : List ℕ) (k : ℕ) → let x = extraAt s k in
-    (pictureEnd h m x ≡ Refused ShortHeader → ⊥) → pictureEnd h m (extraAt (s ++ t) k) ≡ pictureEnd h m x
-unfolding pictureEnd
-end-append h m s t k n = case (extraAt s k) refl n
-  where
-    case : (x : Extra) → extraAt s k ≡ x → (pictureEnd h m x ≡ Refused ShortHeader → ⊥)
-        → pictureEnd h m (extraAt (s ++ t) k) ≡ pictureEnd h m (extraAt s k)
-    case cut e z = absurd (z refl)
-    case (bytes j) e z = rw (extra-stays s k j e t, e)
-
-pub picture-header-append : (s t : List ℕ) → (pictureHeader s ≡ Refused ShortHeader → ⊥) → pictureHeader (s ++ t) ≡ pictureHeader s
+pub picture-header-append : HeaderStays
 unfolding pictureHeader behindDelay
 picture-header-append s t =
-    then-append _ _ (behindDelay s) (behindDelay (s ++ t)) (header-append pictureStartCode pictureFields s t)
-    (λ h e. then-append _ _ _ _ (read-append (motionFields (getD h 1 0)) s t 61) (λ m d. end-append h m s t (extraBit (getD h 1 0))))
+    then-stays (readHeader pictureStartCode pictureFields s) _ _ _ (header-append pictureStartCode pictureFields s t) (λ h.
+    then-stays (readFields (motionFields (getD h 1 0)) s 61) _ _ _ (read-append (motionFields (getD h 1 0)) s t 61) (λ m.
+    then-stays (extraAt s (extraBit (getD h 1 0))) _ _ _ (extra-append s t (extraBit (getD h 1 0))) (λ n g. refl)))
 
--- so what is short with more behind it is short
-pub picture-header-short : (s t : List ℕ) → pictureHeader (s ++ t) ≡ Refused ShortHeader → pictureHeader s ≡ Refused ShortHeader
-picture-header-short s t e = case (pictureHeader s) refl
-  where
-    other : (r : PictureHeaderRead) → (r ≡ Refused ShortHeader → ⊥) → pictureHeader s ≡ r → pictureHeader s ≡ Refused ShortHeader
-    other r n q = sym (picture-header-append s t (λ z. n (sym q ∙ z))) ∙ e
+pub picture-header-seen : (s : List ℕ) → Seen (pictureHeader s)
+unfolding pictureHeader behindDelay
+picture-header-seen s =
+    then-seen (table-seen (header-seen pictureStartCode pictureFields s)) (λ h.
+    then-seen (table-seen (fields-seen (motionFields (getD h 1 0)) s 61)) (λ m.
+    then-seen (extra-seen s (extraBit (getD h 1 0))) (λ n. whole _)))
 
-    case : (r : PictureHeaderRead) → pictureHeader s ≡ r → pictureHeader s ≡ Refused ShortHeader
-    case (Accepted h) q = other (Accepted h) (λ z. let y : _≡_ {A = ℕ} 0 1 = cc in omega arith) q
-    case (Refused ShortHeader) q = q
-    case (Refused InvalidBitstream) q = other (Refused InvalidBitstream) (λ z. let y : _≡_ {A = ℕ} 0 1 = cc in omega arith) q
-    case (Refused FrameRateCode) q = other (Refused FrameRateCode) (λ z. let y : _≡_ {A = ℕ} 0 1 = cc in omega arith) q
-    case (Refused FieldToWrite) q = other (Refused FieldToWrite) (λ z. let y : _≡_ {A = ℕ} 0 1 = cc in omega arith) q
-    case (Refused ShortOutput) q = other (Refused ShortOutput) (λ z. let y : _≡_ {A = ℕ} 0 1 = cc in omega arith) q
+-- so what is too short with more behind it is too short
+pub picture-header-short : HeaderCut
+picture-header-short s t = short-cut (picture-header-seen s) (picture-header-append s t)

@@ -2,18 +2,16 @@
 -- Assumes nothing.
 use Prim.Native.Nat.{ℕ}
 use mathlib.Core.List.{List, [], _∷_}
-use mathlib.Core.Bool.{Bool, _&&_}
+use mathlib.Core.Bool.{Bool, not, _&&_}
 use lib.Dec.{eqb, leb}
 use lib.ListN.{getD}
 use Rattle.bits.specs.Bits.{pick}
-use Rattle.bits.specs.Fields.{Field, any, nonzero, exactly, Parsed, short, bad, got, readFields, readHeader}
+use Rattle.bits.specs.Refusals.{Answer, value, refuse, andThen}
+use Rattle.bits.specs.Fields.{Field, any, nonzero, exactly, readFields, readHeader}
 use Rattle.headers.specs.SequenceExtension.{extensionStartCode}
-use Rattle.headers.specs.declared.Error.the-variants.{ShortHeader, InvalidBitstream}
 use Rattle.picture_header.specs.declared.PictureStructure.{PictureStructure}
 use Rattle.picture_header.specs.declared.PictureStructure.the-variants.{TopField, BottomField, Frame}
 use Rattle.picture_header.specs.declared.PictureCodingExtension.{PictureCodingExtension}
-use Rattle.picture_header.specs.declared.PictureCodingExtensionRead.{PictureCodingExtensionRead}
-use Rattle.picture_header.specs.declared.PictureCodingExtensionRead.the-variants.{Parsed as Accepted, Refused}
 
 -- up to bit 52
 abbrev pub motionCodeFields : List Field
@@ -67,17 +65,12 @@ codingExtensionOf h vs = record {
   «composite_display_flag» = eqb (getD vs 11 0) 1;
 }
 
--- one read after another
-unfoldable pub codingThen : Parsed → (List ℕ → PictureCodingExtensionRead) → PictureCodingExtensionRead
-codingThen short f = Refused ShortHeader
-codingThen bad f = Refused InvalidBitstream
-codingThen (got vs) f = f vs
-
 -- behind the f_codes, at bit 52
-unfoldable pub behindCodes : List ℕ → List ℕ → PictureCodingExtensionRead
-behindCodes s h = codingThen (readFields codingFields s 52) (λ vs. Accepted (codingExtensionOf h vs))
+unfoldable pub behindCodes : List ℕ → List ℕ → Answer PictureCodingExtension
+behindCodes s h = andThen (readFields codingFields s 52) (λ vs. value (codingExtensionOf h vs))
 
-unfoldable pub pictureCodingExtension : List ℕ → PictureCodingExtensionRead
+unfoldable pub pictureCodingExtension : List ℕ → Answer PictureCodingExtension
 pictureCodingExtension s =
-    codingThen (readHeader extensionStartCode motionCodeFields s)
-    (λ h. pick (motionCodesFit h) (behindCodes s h) (Refused InvalidBitstream))
+    andThen (readHeader extensionStartCode motionCodeFields s) (λ h.
+    refuse 2 (not (motionCodesFit h))
+    (behindCodes s h))

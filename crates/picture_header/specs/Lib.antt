@@ -1,3 +1,6 @@
 pub mod PictureHeader
 pub mod CodingExtension
 pub mod Picture
+pub mod Answers
+pub mod Steps
+pub mod Stability

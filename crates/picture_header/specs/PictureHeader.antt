@@ -6,9 +6,9 @@ use mathlib.Core.Bool.{Bool, true, false, _||_}
 use lib.Dec.{eqb}
 use lib.ListN.{getD, drop}
 use Rattle.bits.specs.Bits.{pick, bitList}
-use Rattle.bits.specs.Fields.{Field, field, any, Parsed, short, bad, got, readFields, readHeader}
+use Rattle.bits.specs.Refusals.{Answer, value, refused, andThen}
+use Rattle.bits.specs.Fields.{Field, field, any, readFields, readHeader}
 use Rattle.headers.specs.Answers.{flagOf}
-use Rattle.headers.specs.declared.Error.the-variants.{ShortHeader, InvalidBitstream}
 use Rattle.picture_header.specs.declared.PictureCodingType.{PictureCodingType}
 use Rattle.picture_header.specs.declared.PictureCodingType.the-variants.{Intra, Predictive, Bidirectional, DcIntra}
 use Rattle.picture_header.specs.declared.OptionFlag.{OptionFlag}
@@ -16,12 +16,6 @@ use Rattle.picture_header.specs.declared.OptionFlag.the-variants.{Some a
 use Rattle.picture_header.specs.declared.OptionCode.{OptionCode}
 use Rattle.picture_header.specs.declared.OptionCode.the-variants.{Some as SomeCode, None as NoCode}
 use Rattle.picture_header.specs.declared.Mpeg2PictureHeader.{Mpeg2PictureHeader}
-use Rattle.picture_header.specs.declared.PictureHeaderRead.{PictureHeaderRead}
-use Rattle.picture_header.specs.declared.PictureHeaderRead.the-variants.{Parsed as Accepted, Refused}
-use Rattle.picture_header.specs.declared.ExtraRead.{ExtraRead}
-use Rattle.picture_header.specs.declared.ExtraRead.the-variants.{Bytes as ExtraBytes, Cut}
-use Rattle.picture_header.specs.declared.HeaderLength.{HeaderLength}
-use Rattle.picture_header.specs.declared.HeaderLength.the-variants.{Bytes, Refused as NoLength}
 
 -- picture_start_code (Table 6-1)
 abbrev pub pictureStartCode : List ℕ
@@ -54,30 +48,16 @@ motionFields t = vectorFields (forward t) ++ vectorFields (backward t)
 unfoldable pub codingType : ℕ → PictureCodingType
 codingType t = pick (eqb t 1) Intra (pick (eqb t 2) Predictive (pick (eqb t 3) Bidirectional DcIntra))
 
--- how many bytes of extra information the bits have, or that the bits end first
-pub data Extra : Type 0 where
-  cut : Extra
-  bytes : ℕ → Extra
-
-unfoldable pub oneMore : Extra → Extra
-oneMore cut = cut
-oneMore (bytes n) = bytes (suc n)
-
--- while extra_bit_picture is 1, eight bits of extra_information_picture follow; k of them are still to be passed over
-unfoldable pub extra : ℕ → List ℕ → Extra
-extra k [] = cut
+-- while extra_bit_picture is 1, eight bits of extra_information_picture follow; k of them are still to be passed over. How many bytes that is; or the bits end first (1)
+unfoldable pub extra : ℕ → List ℕ → Answer ℕ
+extra k [] = refused 1 0 0 0
 extra (suc k) (b ∷ bs) = extra k bs
-extra zero (zero ∷ bs) = bytes 0
-extra zero (suc b ∷ bs) = oneMore (extra 8 bs)
+extra zero (zero ∷ bs) = value 0
+extra zero (suc b ∷ bs) = andThen (extra 8 bs) (λ n. value (suc n))
 
 -- the extra information of the bytes s whose first flag is bit i
-abbrev pub extraAt : List ℕ → ℕ → Extra
+abbrev pub extraAt : List ℕ → ℕ → Answer ℕ
 extraAt s i = extra 0 (drop i (bitList s))
-
--- the same as the code answers it
-unfoldable pub extraAnswer : Extra → ExtraRead
-extraAnswer cut = Cut
-extraAnswer (bytes n) = ExtraBytes n
 
 -- the bit at which the first extra_bit_picture stands: a vector's fields are four bits
 unfoldable pub extraBit : ℕ → ℕ
@@ -103,24 +83,15 @@ pictureOf h m n = record {
   «extra_information_bit» = extraBit (getD h 1 0);
 }
 
-unfoldable pub pictureEnd : List ℕ → List ℕ → Extra → PictureHeaderRead
-pictureEnd h m cut = Refused ShortHeader
-pictureEnd h m (bytes n) = Accepted (pictureOf h m n)
-
--- one read after another
-unfoldable pub pictureThen : Parsed → (List ℕ → PictureHeaderRead) → PictureHeaderRead
-pictureThen short f = Refused ShortHeader
-pictureThen bad f = Refused InvalidBitstream
-pictureThen (got vs) f = f vs
-
 -- behind vbv_delay: at bit 61 what the type has of motion vectors' fields, and behind it the extra information
-unfoldable pub behindDelay : List ℕ → List ℕ → PictureHeaderRead
+unfoldable pub behindDelay : List ℕ → List ℕ → Answer Mpeg2PictureHeader
 behindDelay s h =
-    pictureThen (readFields (motionFields (getD h 1 0)) s 61) (λ m.
-    pictureEnd h m (extraAt s (extraBit (getD h 1 0))))
+    andThen (readFields (motionFields (getD h 1 0)) s 61) (λ m.
+    andThen (extraAt s (extraBit (getD h 1 0))) (λ n.
+    value (pictureOf h m n)))
 
-unfoldable pub pictureHeader : List ℕ → PictureHeaderRead
-pictureHeader s = pictureThen (readHeader pictureStartCode pictureFields s) (behindDelay s)
+unfoldable pub pictureHeader : List ℕ → Answer Mpeg2PictureHeader
+pictureHeader s = andThen (readHeader pictureStartCode pictureFields s) (behindDelay s)
 
 -- its bits: up to the first flag, nine for each extra byte and one for the last flag
 unfoldable pub pictureHeaderBits : Mpeg2PictureHeader → ℕ
@@ -131,6 +102,5 @@ unfoldable pub pictureHeaderBytes : Mpeg2PictureHeader → ℕ
 unfolding pictureHeaderBits
 pictureHeaderBytes h = (pictureHeaderBits h + 7) / 8
 
-unfoldable pub lengthOf : PictureHeaderRead → HeaderLength
-lengthOf (Accepted h) = Bytes (pictureHeaderBytes h)
-lengthOf (Refused e) = NoLength e
+unfoldable pub headerLength : List ℕ → Answer ℕ
+headerLength s = andThen (pictureHeader s) (λ h. value (pictureHeaderBytes h))

@@ -3,10 +3,13 @@ ghost use mathlib.Core.Path.{_≡_};
 ghost use Prim.Native.Nat.{_^_, _≤_, _<_};
 ghost use lib.ListN.{getD};
 ghost use Rattle.bits.specs.Fields.{readFields};
-ghost use Rattle.bits.specs.Answers.{fieldsAnswer};
-ghost use Rattle.picture_header.specs.PictureHeader.{codingType, motionFields, extraBit, extraAt, extraAnswer, flagIf, codeIf, pictureOf, behindDelay, pictureHeader, pictureHeaderBytes, lengthOf};
+ghost use Rattle.bits.specs.Refusals.{value, andThen};
+ghost use Rattle.bits.specs.Answers.{placed, fieldsAnswer};
+ghost use Rattle.picture_header.specs.PictureHeader.{codingType, motionFields, extraBit, extraAt, flagIf, codeIf, pictureOf, behindDelay, pictureHeader, pictureHeaderBytes, headerLength};
 ghost use Rattle.picture_header.specs.CodingExtension.{pictureStructure, behindCodes, pictureCodingExtension};
-ghost use Rattle.picture_header.specs.Picture.{withCoding, behindHeader, picture};
+ghost use Rattle.picture_header.specs.Picture.{picture};
+ghost use Rattle.picture_header.specs.Steps.{behindHeader};
+ghost use Rattle.picture_header.specs.Answers.{extraAnswer, pictureHeaderAnswer, codingAnswer, pictureAnswer, lengthAnswer};
 use bits::Bits;
 use bits::Fields;
 use bits::Outcome;
@@ -133,7 +136,7 @@ fn coding_type_of(code: u32) -> PictureCodingType
 
 // The fields that a picture type has of its motion vectors, at bit 61.
 fn read_motion(buf: &[u8], code: u32) -> Fields
-    ensures { λ r. ⌜ r ≡ fieldsAnswer (readFields (motionFields code) (now (buf .entry)) 61) ⌝ }
+    ensures { λ r. ⌜ fieldsAnswer r ≡ placed (readFields (motionFields code) (now (buf .entry)) 61) ⌝ }
 {
     if code == 2 {
         return bits::read_fields(buf, 61, &FORWARD_TABLE);
@@ -164,7 +167,7 @@ enum ExtraRead {
 
 // Flag n stands at bit first + 9 * n, which is bit first + n of the slice from byte n on.
 fn read_extra(buf: &[u8], first: u8) -> ExtraRead
-    ensures { λ r. ⌜ r ≡ extraAnswer (extraAt (now (buf .entry)) first) ⌝ }
+    ensures { λ r. ⌜ extraAnswer r ≡ extraAt (now (buf .entry)) first ⌝ }
 {
     let offset = first as usize;
     let mut n: usize = 0;
@@ -231,7 +234,7 @@ fn header_of(h: [u32; 24], m: [u32; 24], n: usize) -> Mpeg2PictureHeader
 impl Mpeg2PictureHeader {
     // From a slice that begins at the picture's start code; D pictures pass.
     pub fn parse(buf: &[u8]) -> PictureHeaderRead
-        ensures { λ r. ⌜ r ≡ pictureHeader (now (buf .entry)) ⌝ }
+        ensures { λ r. ⌜ pictureHeaderAnswer r ≡ pictureHeader (now (buf .entry)) ⌝ }
     {
         let read = bits::read_header(buf, PICTURE_START_CODE, &PICTURE_TABLE);
         let outcome = read.outcome;
@@ -247,7 +250,7 @@ impl Mpeg2PictureHeader {
 
     // With the picture coding extension, which must follow; D pictures are refused (Table 6-12).
     pub fn parse_with_extension(buf: &[u8]) -> PictureRead
-        ensures { λ r. ⌜ r ≡ picture (now (buf .entry)) ⌝ }
+        ensures { λ r. ⌜ pictureAnswer r ≡ picture (now (buf .entry)) ⌝ }
     {
         let read = Mpeg2PictureHeader::parse(buf);
         match read {
@@ -266,7 +269,7 @@ impl Mpeg2PictureHeader {
 // What stands behind vbv_delay, where the fields before are h.
 fn behind_delay(buf: &[u8], h: [u32; 24]) -> PictureHeaderRead
     requires { ⌜ (getD h 0 0 ≤ 1023) × (getD h 2 0 ≤ 65535) ⌝ }
-    ensures { λ r. ⌜ r ≡ behindDelay (now (buf .entry)) h ⌝ }
+    ensures { λ r. ⌜ pictureHeaderAnswer r ≡ behindDelay (now (buf .entry)) h ⌝ }
 {
     let code = h[1];
     let motion = read_motion(buf, code);
@@ -299,7 +302,7 @@ fn byte_length(header: Mpeg2PictureHeader) -> usize
 
 // The bytes that the picture header occupies.
 pub fn picture_header_byte_length(buf: &[u8]) -> HeaderLength
-    ensures { λ r. ⌜ r ≡ lengthOf (pictureHeader (now (buf .entry))) ⌝ }
+    ensures { λ r. ⌜ lengthAnswer r ≡ headerLength (now (buf .entry)) ⌝ }
 {
     let read = Mpeg2PictureHeader::parse(buf);
     match read {
@@ -311,7 +314,7 @@ pub fn picture_header_byte_length(buf: &[u8]) -> HeaderLength
 // What stands behind a header: the next start code must be the extension's.
 fn behind_header(buf: &[u8], header: Mpeg2PictureHeader) -> PictureRead
     requires { ⌜ pictureHeaderBytes header < 2 ^ 64 ⌝ }
-    ensures { λ r. ⌜ r ≡ behindHeader (now (buf .entry)) header ⌝ }
+    ensures { λ r. ⌜ pictureAnswer r ≡ behindHeader (now (buf .entry)) header ⌝ }
 {
     let next = next_start_code(buf, byte_length(header));
     match next {
@@ -321,7 +324,7 @@ fn behind_header(buf: &[u8], header: Mpeg2PictureHeader) -> PictureRead
 }
 
 fn with_coding(header: Mpeg2PictureHeader, read: PictureCodingExtensionRead) -> PictureRead
-    ensures { λ r. ⌜ r ≡ withCoding header read ⌝ }
+    ensures { λ r. ⌜ pictureAnswer r ≡ andThen (codingAnswer read) (λ x. value (header, x)) ⌝ }
 {
     match read {
         PictureCodingExtensionRead::Refused(error) => PictureRead::Refused(error),
@@ -344,7 +347,7 @@ fn picture_structure_of(code: u32) -> PictureStructure
 impl PictureCodingExtension {
     // From a slice that begins at the extension's start code. No f_code may be 0.
     pub fn parse(buf: &[u8]) -> PictureCodingExtensionRead
-        ensures { λ r. ⌜ r ≡ pictureCodingExtension (now (buf .entry)) ⌝ }
+        ensures { λ r. ⌜ codingAnswer r ≡ pictureCodingExtension (now (buf .entry)) ⌝ }
     {
         let read = bits::read_header(buf, EXTENSION_START_CODE, &MOTION_CODE_TABLE);
         let outcome = read.outcome;
@@ -366,7 +369,7 @@ impl PictureCodingExtension {
 // What stands behind the f_codes h.
 fn behind_codes(buf: &[u8], h: [u32; 24]) -> PictureCodingExtensionRead
     requires { ⌜ (getD h 1 0 ≤ 15) × (getD h 2 0 ≤ 15) × (getD h 3 0 ≤ 15) × (getD h 4 0 ≤ 15) ⌝ }
-    ensures { λ r. ⌜ r ≡ behindCodes (now (buf .entry)) h ⌝ }
+    ensures { λ r. ⌜ codingAnswer r ≡ behindCodes (now (buf .entry)) h ⌝ }
 {
     let read = bits::read_fields(buf, 52, &CODING_TABLE);
     let outcome = read.outcome;

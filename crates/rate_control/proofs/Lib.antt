@@ -4,6 +4,7 @@ pub mod Ways
 pub mod Steering
 pub mod Chain
 pub mod Numbers
+pub mod Cases
 pub mod Retries
 pub mod Fitting
 pub mod Placing

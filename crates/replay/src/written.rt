@@ -105,7 +105,7 @@ pub(crate) fn time_code(s: &[u8], out: &mut [u8]) -> usize {
     }
     let answer = TimeCode::from_display_index(number64(s, 0), byte(s, 8));
     match answer {
-        TimeCodeAnswer::Refused(e) => put(out, 0, e.number()),
+        TimeCodeAnswer::Refused => put(out, 0, 6),
         TimeCodeAnswer::Code(code) => {
             let at = put(out, 0, 0);
             let numbers = [
@@ -126,7 +126,7 @@ pub(crate) fn nominal_rate(s: &[u8], out: &mut [u8]) -> usize {
     }
     let rate = writers::gop_header::nominal_pictures_per_second(byte(s, 0));
     match rate {
-        NominalRate::Refused(e) => put(out, 0, e.number()),
+        NominalRate::Refused => put(out, 0, 6),
         NominalRate::PicturesPerSecond(n) => {
             let at = put(out, 0, 0);
             put32(out, at, n as u32)

@@ -8,7 +8,7 @@ use Rattle.vbv.specs.Answers.{errorNumber, modelAnswer, removalAnswer, d
 use Rattle.vbv.specs.Steps.{errorOf, modelOf, delayOf, bitsOf, removalOf, rateOf}
 use Rattle.vbv.specs.declared.VbvCbrModel.{VbvCbrModel}
 use Rattle.vbv.specs.declared.VbvError.{VbvError}
-use Rattle.vbv.specs.declared.VbvError.the-variants.{FrameRateCode, Early, DelayTooLong, Params, Order, Range, NotAPicture}
+use Rattle.vbv.specs.declared.VbvError.the-variants.{FrameRateCode, Early, DelayTooLong, Params, Order, Range}
 use Rattle.vbv.specs.declared.VbvViolation.{VbvViolation}
 use Rattle.vbv.specs.declared.VbvViolation.the-variants.{Overflow, Underflow, DelayMismatch}
 use Rattle.vbv.specs.declared.FrameRate.{FrameRate}
@@ -30,7 +30,6 @@ error-back DelayTooLong = refl
 error-back Params = refl
 error-back Order = refl
 error-back Range = refl
-error-back NotAPicture = refl
 
 model-back : (r : VbvModel) → modelOf (modelAnswer r) ≡ r
 unfolding modelOf
@@ -61,7 +60,6 @@ refusal-back DelayTooLong = refl
 refusal-back Params = refl
 refusal-back Order = refl
 refusal-back Range = refl
-refusal-back NotAPicture = refl
 
 removal-back : (r : VbvRemoval) → removalOf (removalAnswer r) ≡ r
 unfolding removalOf

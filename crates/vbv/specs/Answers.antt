@@ -5,7 +5,7 @@ use lib.Dec.{eqb}
 use Rattle.bits.specs.Bits.{pick}
 use Rattle.bits.specs.Refusals.{Answer, value, refused}
 use Rattle.vbv.specs.declared.VbvError.{VbvError}
-use Rattle.vbv.specs.declared.VbvError.the-variants.{FrameRateCode, Early, DelayTooLong, Params, Order, Range, NotAPicture}
+use Rattle.vbv.specs.declared.VbvError.the-variants.{FrameRateCode, Early, DelayTooLong, Params, Order, Range}
 use Rattle.vbv.specs.declared.VbvViolation.{VbvViolation}
 use Rattle.vbv.specs.declared.VbvViolation.the-variants.{Overflow, Underflow, DelayMismatch}
 use Rattle.vbv.specs.declared.FrameRate.{FrameRate}
@@ -29,7 +29,6 @@ errorNumber DelayTooLong = 8
 errorNumber Params = 12
 errorNumber Order = 13
 errorNumber Range = 14
-errorNumber NotAPicture = 20
 
 -- a violation's number, and the picture, coded and expected delay that it carries
 abbrev pub violationNumber : VbvViolation → ℕ
@@ -78,7 +77,7 @@ bitsAnswer (bt.Refused e) = refusal e
 
 abbrev pub patchAnswer : VbvPatch → Answer (Unit {0})
 patchAnswer pt.Done = value tt
-patchAnswer (pt.Refused e) = refusal e
+patchAnswer pt.NotAPicture = refused 20 0 0 0
 
 abbrev pub rateAnswer : FrameRate → Answer (ℕ × ℕ)
 rateAnswer (Rate n d) = value (n, d)

@@ -5,7 +5,7 @@ use lib.Dec.{eqb}
 use Rattle.bits.specs.Bits.{pick}
 use Rattle.bits.specs.Refusals.{Answer, value, refused}
 use Rattle.vbv.specs.declared.VbvError.{VbvError}
-use Rattle.vbv.specs.declared.VbvError.the-variants.{FrameRateCode, Early, DelayTooLong, Params, Order, Range, NotAPicture}
+use Rattle.vbv.specs.declared.VbvError.the-variants.{FrameRateCode, Early, DelayTooLong, Params, Order, Range}
 use Rattle.vbv.specs.declared.VbvViolation.the-variants.{Overflow, Underflow, DelayMismatch}
 use Rattle.vbv.specs.declared.FrameRate.{FrameRate}
 use Rattle.vbv.specs.declared.FrameRate.the-variants as fr
@@ -51,8 +51,7 @@ errorOf n =
     (pick (eqb n 8) DelayTooLong
     (pick (eqb n 12) Params
     (pick (eqb n 13) Order
-    (pick (eqb n 14) Range
-    NotAPicture)))))
+    Range))))
 
 unfoldable pub modelOf : Answer VbvCbrModel → VbvModel
 modelOf (value m) = md.Model m

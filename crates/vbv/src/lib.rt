@@ -24,8 +24,6 @@ pub enum VbvError {
     Order,
     // A position, an end or the removals out of range, or an end below the previous one.
     Range,
-    // No picture header of 8 bytes.
-    NotAPicture,
 }
 
 // A removal that Annex C forbids, or a coded delay unlike the expected one: the picture, counted from 0, and the delays,
@@ -100,7 +98,8 @@ pub enum VbvBits {
 
 pub enum VbvPatch {
     Done,
-    Refused(VbvError),
+    // No picture header of 8 bytes.
+    NotAPicture,
 }
 
 impl VbvError {
@@ -115,7 +114,6 @@ impl VbvError {
             VbvError::Params => 12,
             VbvError::Order => 13,
             VbvError::Range => 14,
-            VbvError::NotAPicture => 20,
         }
     }
 }
@@ -451,5 +449,5 @@ pub fn patch_vbv_delay(picture: &mut [u8], vbv_delay: u16) -> VbvPatch
         picture[7] = (vbv_delay % 32 * 8) as u8 + picture[7] % 8;
         return VbvPatch::Done;
     }
-    VbvPatch::Refused(VbvError::NotAPicture)
+    VbvPatch::NotAPicture
 }

@@ -12,3 +12,4 @@ pub mod Accepting
 pub mod Telling
 pub mod Uncut
 pub mod Bounds
+pub mod Cases

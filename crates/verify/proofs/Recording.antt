@@ -8,7 +8,6 @@ use lib.ListN.{length}
 use borrow.Author.Tests.{lt-leb, le-leb}
 use Rattle.bits.specs.Bits.{pick}
 use Rattle.bits.specs.Refusals.{Answer, value, refused}
-use Rattle.headers.specs.declared.Error.{Error}
 use Rattle.vbv.specs.declared.VbvParams.{VbvParams}
 use Rattle.vbv.specs.declared.VbvCbrModel.{VbvCbrModel}
 use Rattle.scan.specs.declared.Next.{Next}
@@ -27,7 +26,8 @@ use Rattle.verify.specs.Check.{Accepted, verdict, reportOf, reported, re
 use Rattle.verify.specs.Answers.{verifiedAnswer}
 use Rattle.verify.specs.declared.VbvVerified.{VbvVerified}
 use Rattle.verify.specs.declared.VbvVerified.the-variants.{Report, Refused}
-use Rattle.verify.specs.Walk.{codedAt, advanced, ifCoded}
+use Rattle.verify.specs.Coded.{codedAt}
+use Rattle.verify.specs.Walk.{advanced}
 use Rattle.verify.specs.Recorder.{recorderOf, recordCount, noRecord, lastOf, stayed, wentOn, recordedBy, nextRecord}
 use Rattle.scan.proofs.Pictures.{picturesAt, walked as walked-on, pictures-done, pictures-walk}
 use Rattle.verify.proofs.Fold.{lastsAll, Reads, none, good}
@@ -59,14 +59,14 @@ module _ (s : List ℕ) (w : VbvRecorder) where
     next-done e = rw (short-is, e)
 
     module _ (a b k : ℕ) (e : nextPicture s (w .at) ≡ Picture a b k) where
-      pub next-unread : (err : Error) → codedAt (w .standard) s (record { start = a; end = b }) ≡ cd.Refused err → stayed w ≡ nextRecord s w
-      unfolding recordedBy ifCoded
-      next-unread err d = rw (short-is, e, d)
+      pub next-unread : (n : ℕ) → refused n 0 0 0 ≡ codedAt (w .standard) s (record { start = a; end = b }) → stayed w ≡ nextRecord s w
+      unfolding recordedBy
+      next-unread n d = rw (short-is, e, ← d)
 
-      pub next-read : (c : CodedPicture) → codedAt (w .standard) s (record { start = a; end = b }) ≡ cd.Picture c
+      pub next-read : (c : CodedPicture) → value c ≡ codedAt (w .standard) s (record { start = a; end = b })
           → wentOn w k (advanced (w .params) (w .progress) c) ≡ nextRecord s w
-      unfolding recordedBy ifCoded
-      next-read c d = rw (short-is, e, d)
+      unfolding recordedBy
+      next-read c d = rw (short-is, e, ← d)
 
 -- ---- the records
 
@@ -92,7 +92,7 @@ yields {standard} {s} short p i st l (good {q} {qs} {c} {cs} t r) = go (λ k x. 
         let x = sym (walked-on s i a b k h .list) ∙ l in
         let y : _≡_ {A = Pic} q (record { start = a; end = b }) = cc in
         let z : picturesAt s k ≡ qs = cc in
-        let e = next-read s (standing standard p i st) short a b k h c (rw y at t) in
+        let e = next-read s (standing standard p i st) short a b k h c (sym (rw y at t)) in
         one-more {w = standing standard p i st} {r = lastOf (advanced p st c)} {rs = lastsAll p (advanced p st c) cs} (rw (← e)) (rw (← e) (ih k z))
 
 -- what the walk of the check by value gives: each record, and no more than there are places

@@ -8,34 +8,26 @@ use Rattle.picture_header.specs.Picture.{picture}
 use Rattle.headers.specs.Sequence.{sequence}
 use Rattle.picture_header.specs.declared.Mpeg2PictureHeader.{Mpeg2PictureHeader}
 use Rattle.picture_header.specs.declared.PictureCodingExtension.{PictureCodingExtension}
-use Rattle.picture_header.specs.declared.PictureRead.the-variants.{Parsed as PictureParsed}
-use Rattle.headers.specs.declared.sequence_header.Answer.the-variants.{Parsed}
+use Rattle.headers.specs.declared.sequence_extension.Mpeg2Sequence.{Mpeg2Sequence}
 use Rattle.vbv.specs.Answers.{frameRate}
 use Rattle.scan.specs.Codes.{Code, codes, found}
 use Rattle.scan.specs.Pictures.{skip, notSequence}
 use Rattle.scan.specs.declared.Found.the-variants.{At}
 use Rattle.scan.proofs.Sorts.{sequence-code, skip-stops, found-first}
-use Rattle.verify.specs.Coded.{intervalOf, toldByPicture, told}
-use Rattle.verify.specs.Sequence.{rated, ifParsed, declaredBy, declaredAt, declared}
+use Rattle.verify.specs.Coded.{intervalOf, told}
+use Rattle.verify.specs.Sequence.{rated, declaredBy, declaredAt, declared}
 use Rattle.verify.specs.declared.VbvStandard.the-variants.{Mpeg2}
-use Rattle.verify.specs.declared.Told.the-variants.{Delay}
 
-pub told-parsed : (s : List ℕ) (h : Mpeg2PictureHeader) (x : PictureCodingExtension) → picture s ≡ PictureParsed h x
-    → told Mpeg2 s ≡ Delay (h .«vbv_delay») (intervalOf (x .«picture_structure»))
-unfolding told toldByPicture
+pub told-parsed : (s : List ℕ) (h : Mpeg2PictureHeader) (x : PictureCodingExtension) → picture s ≡ value (h, x)
+    → told Mpeg2 s ≡ value (h .«vbv_delay», intervalOf (x .«picture_structure»))
+unfolding told
 told-parsed s h x e = rw e
 
 module _ (s : List ℕ) (cs : List Code) (c : codes s ≡ record { offset = 0; code = 0xB3 } ∷ cs) where
   first-sequence : found (skip notSequence (codes s)) ≡ At 0 0xB3
   first-sequence = rw (c, skip-stops notSequence (record { offset = 0; code = 0xB3 }) cs sequence-code, found-first)
 
-  pub declared-parsed : sequence s .answer ≡ Parsed → (n d : ℕ) → frameRate (sequence s .sequence .header .«frame_rate_code») ≡ value (n, d)
-      → declared Mpeg2 s
-      ≡ value (record {
-        «bit_rate» = 400 * sequence s .sequence .«bit_rate»;
-        «buffer_size_bits» = 16384 * sequence s .sequence .«vbv_buffer_size»;
-        frn = n;
-        frd = d;
-      })
-  unfolding declared declaredAt declaredBy ifParsed rated
-  declared-parsed a n d r = rw (first-sequence, a, r)
+  pub declared-parsed : (q : Mpeg2Sequence) → sequence s ≡ value q → (n d : ℕ) → frameRate (q .header .«frame_rate_code») ≡ value (n, d)
+      → declared Mpeg2 s ≡ value (record { «bit_rate» = 400 * q .«bit_rate»; «buffer_size_bits» = 16384 * q .«vbv_buffer_size»; frn = n; frd = d })
+  unfolding declared declaredAt declaredBy rated
+  declared-parsed q a n d r = rw (first-sequence, a, r)

@@ -11,9 +11,8 @@ use lib.Seq.{sets}
 use borrow.Author.Tests.{lt-ltb, le-ltb, lt-leb, le-leb, ltb-true, ltb-false}
 use Rattle.bits.specs.Bits.{pick}
 use Rattle.bits.specs.Answers.{over}
-use Rattle.bits.specs.Refusals.{Answer, value, refused, refuse, andThen}
+use Rattle.bits.specs.Refusals.{Answer, value, refused, refuse, andThen, orElse}
 use Rattle.bits.proofs.Over.{over-none}
-use Rattle.headers.specs.declared.Error.{Error}
 use Rattle.vbv.specs.Annex.{firstDelivered}
 use Rattle.vbv.specs.Model.{paramsFit, delivered, atDelivered}
 use Rattle.vbv.specs.declared.VbvParams.{VbvParams}
@@ -30,20 +29,20 @@ use Rattle.verify.specs.declared.VbvStreamReport.{VbvStreamReport}
 use Rattle.verify.specs.declared.VbvVerified.{VbvVerified}
 use Rattle.verify.specs.declared.VbvVerified.the-variants as vf
 use Rattle.verify.specs.declared.CodedPicture.{CodedPicture}
-use Rattle.verify.specs.declared.Coded.{Coded}
-use Rattle.verify.specs.declared.Coded.the-variants as cd
+use Rattle.verify.specs.declared.Walked.{Walked}
+use Rattle.verify.specs.declared.Walked.the-variants.{Unread, Read}
 use Rattle.verify.specs.declared.Progress.{Progress}
 use Rattle.verify.specs.declared.Progress.the-variants.{Fresh, Unmodelled, Running, Stopped}
 use Rattle.verify.specs.Layout.{recordsBytes}
 use Rattle.scan.specs.Pictures.{Pic, pictures}
 use Rattle.verify.specs.Sequence.{declared}
-use Rattle.verify.specs.Coded.{headers, codedPictures}
+use Rattle.verify.specs.Coded.{codedAt, headers, codedPictures}
 use Rattle.verify.specs.Run.{run, occupancyAfter, leastAfter, greatestBefore}
 use Rattle.verify.specs.Check.{Accepted, accepted, withPictures, verdict, reportOf, reported, records}
 use Rattle.verify.specs.Answers.{refusal, refusalOf, verifiedAnswer, declaredAnswer}
 use Rattle.verify.specs.declared.Declared.{Declared}
 use Rattle.verify.specs.declared.Declared.the-variants.{Params, Refused as NotDeclared}
-use Rattle.verify.specs.Walk.{codedAt, removed, onward, begun, first, advanced, putAt, ifCoded, walked, stored, placed, judgedAs, judgement}
+use Rattle.verify.specs.Walk.{removed, onward, begun, first, advanced, putAt, walked, walkedAnswer, stored, placed, judgedAs, judgement}
 use Rattle.verify.specs.Walk.{made as madeBy}
 use Rattle.verify.proofs.Storing.{records-cons, records-over}
 use Rattle.verify.specs.Recorder.{noRecord, lastOf}
@@ -312,15 +311,23 @@ module _ (standard : VbvStandard) (s : List ℕ) (short : 8 * length s ≤ 2 ^ 4
   abbrev pub behindHeaders : Answer (List CodedPicture) → Answer Accepted
   behindHeaders h = andThen h (λ cs. withPictures places p cs)
 
-  pub judgement-is : verifiedAnswer (judgement p places (walked standard s p 0 Fresh (pictures s))) ≡ reported (behindHeaders (codedPictures standard s))
-  unfolding codedPictures judgement
-  judgement-is = go (headers standard s (pictures s)) (reads standard s (pictures s))
+  -- by what a walk answers
+  abbrev walkJudged : Answer (ℕ × Progress) → Answer VbvStreamReport
+  walkJudged a = andThen a (λ z. verifiedAnswer (judgedAs p places (z .0) (z .1)))
+
+  judged-by : (w : Walked) → verifiedAnswer (judgement p places w) ≡ walkJudged (walkedAnswer w)
+  unfolding judgement
+  judged-by (Unread e) = refl
+  judged-by (Read n st) = refl
+
+  pub judgement-is : (w : Walked) → walkedAnswer w ≡ walked standard s p 0 Fresh (pictures s)
+      → verifiedAnswer (judgement p places w) ≡ reported (behindHeaders (codedPictures standard s))
+  unfolding codedPictures
+  judgement-is w t = judged-by w ∙ ap walkJudged t ∙ go (headers standard s (pictures s)) (reads standard s (pictures s))
     where
       go : (h : Answer (List CodedPicture)) → Reads standard s (pictures s) h
-          → verifiedAnswer (judgement p places (walked standard s p 0 Fresh (pictures s))) ≡ reported (behindHeaders h)
-      go (refused n k x y) r =
-          let u = walked-unread p r 0 Fresh in
-          rw (u .is-unread) (ap (λ (a : Answer (List CodedPicture)). reported (behindHeaders a)) (u .told))
+          → walkJudged (walked standard s p 0 Fresh (pictures s)) ≡ reported (behindHeaders h)
+      go (refused n k x y) r = rw (walked-unread p r 0 Fresh)
       go (value cs) r =
           let e : 0 + length cs ≡ length cs = omega arith in
           rw (walked-read p r 0 Fresh, e) (judges p places cs (rising short r) .answer)
@@ -346,14 +353,14 @@ put-none n (Stopped e) out = refl
 
 stored-none : (standard : VbvStandard) (s : List ℕ) (p : VbvParams) (n : ℕ) (st : Progress) (qs : List Pic) (out : List ℕ)
     → stored standard s p 0 n st qs out ≡ out
-unfolding stored ifCoded
+unfolding stored
 stored-none standard s p n st [] out = refl
 stored-none standard s p n st (q ∷ qs) out = go (λ k t. stored-none standard s p k t qs out) (codedAt standard s q)
   where
-    go : ((k : ℕ) (t : Progress) → stored standard s p 0 k t qs out ≡ out) → (o : Coded)
-        → ifCoded o (λ (e : Error). out) (λ (c : CodedPicture). stored standard s p 0 (n + 1) (advanced p st c) qs (putAt 0 n (advanced p st c) out)) ≡ out
-    go ih (cd.Picture c) = rw (put-none n (advanced p st c) out) (ih (n + 1) (advanced p st c))
-    go ih (cd.Refused e) = refl
+    go : ((k : ℕ) (t : Progress) → stored standard s p 0 k t qs out ≡ out) → (o : Answer CodedPicture)
+        → orElse out (andThen o (λ c. value (stored standard s p 0 (n + 1) (advanced p st c) qs (putAt 0 n (advanced p st c) out)))) ≡ out
+    go ih (value c) = rw (put-none n (advanced p st c) out) (ih (n + 1) (advanced p st c))
+    go ih (refused m k x y) = refl
 
 -- ---- the ways that the check goes
 
@@ -376,8 +383,9 @@ module _ (standard : VbvStandard) (s : List ℕ) (places : ℕ) where
       by-pictures : verdict standard s places ≡ andThen (codedPictures standard s) (λ cs. withPictures places p cs)
       by-pictures = rw (within, ← d, g)
 
-      pub checked-declared : verifiedAnswer (judgement p places (walked standard s p 0 Fresh (pictures s))) ≡ reported (verdict standard s places)
-      checked-declared = rw by-pictures (judgement-is standard s (omega arith) p places)
+      pub checked-declared : (w : Walked) → walkedAnswer w ≡ walked standard s p 0 Fresh (pictures s)
+          → verifiedAnswer (judgement p places w) ≡ reported (verdict standard s places)
+      checked-declared w t = rw by-pictures (judgement-is standard s (omega arith) p places w t)
 
 -- and the bytes of the record places
 no-records : (v : Answer Accepted) (e : VbvVerifyError) → reported v ≡ refusal e → records v ≡ []
@@ -400,11 +408,11 @@ module _ (standard : VbvStandard) (s out : List ℕ) where
         × (out ≡ over (recordsBytes (records (verdict standard s (length out / 32)))) out)
     undeclared {e = e} g d = let a = checked-undeclared standard s (length out / 32) h g d in (a, unstored (verdict standard s (length out / 32)) e out (sym a))
 
-    module _ {r : Declared} {p : VbvParams} (g : r ≡ Params p) (d : declaredAnswer r ≡ declared standard s) {answer : VbvVerified}
-        (a : answer ≡ judgement p (length out / 32) (walked standard s p 0 Fresh (pictures s)))
+    module _ {r : Declared} {p : VbvParams} (g : r ≡ Params p) (d : declaredAnswer r ≡ declared standard s)
+        (w : Walked) (t : walkedAnswer w ≡ walked standard s p 0 Fresh (pictures s)) {answer : VbvVerified} (a : answer ≡ judgement p (length out / 32) w)
         {first : List ℕ} (f : first ≡ stored standard s p 0 0 Fresh (pictures s) out) where
       answer-is : verifiedAnswer answer ≡ reported (verdict standard s (length out / 32))
-      answer-is = ap verifiedAnswer a ∙ checked-declared standard s (length out / 32) h g d
+      answer-is = ap verifiedAnswer a ∙ checked-declared standard s (length out / 32) h g d w t
 
       untouched : first ≡ out
       untouched = f ∙ stored-none standard s p 0 Fresh (pictures s) out

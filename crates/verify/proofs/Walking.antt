@@ -9,21 +9,20 @@ use lib.Dec.{ltb}
 use lib.ListN.{length}
 use lib.Seq.{sets, length-sets}
 use Rattle.bits.specs.Bits.{pick}
-use Rattle.headers.specs.declared.Error.{Error}
+use Rattle.bits.specs.Refusals.{value, refused}
 use Rattle.vbv.specs.declared.VbvParams.{VbvParams}
 use Rattle.vbv.specs.declared.VbvCbrModel.{VbvCbrModel}
 use Rattle.scan.specs.declared.Next.the-variants.{Picture, Done}
 use Rattle.verify.specs.declared.VbvStandard.{VbvStandard}
 use Rattle.verify.specs.declared.VbvPictureRecord.{VbvPictureRecord}
 use Rattle.verify.specs.declared.CodedPicture.{CodedPicture}
-use Rattle.verify.specs.declared.Coded.the-variants as cd
 use Rattle.verify.specs.declared.Progress.{Progress}
 use Rattle.verify.specs.declared.Progress.the-variants.{Fresh, Unmodelled, Running, Stopped}
-use Rattle.verify.specs.declared.Walked.the-variants.{Unread, Read}
 use Rattle.verify.specs.Layout.{recordBytes}
 use Rattle.scan.specs.Pictures.{pictures}
 use Rattle.scan.specs.Walk.{nextPicture}
-use Rattle.verify.specs.Walk.{codedAt, advanced, putAt, ifCoded, walked, stored}
+use Rattle.verify.specs.Coded.{codedAt}
+use Rattle.verify.specs.Walk.{advanced, putAt, walked, stored}
 use Rattle.scan.proofs.Pictures.{picturesAt, walked as walked-on, pictures-done, pictures-walk}
 
 -- a record goes to its place, nothing else to any
@@ -60,22 +59,22 @@ walking-none standard s p places out =
 module _ {standard : VbvStandard} {s : List ℕ} {p : VbvParams} {places : ℕ} {out₀ out : List ℕ} {i n : ℕ} {st : Progress}
     (w : Walking standard s p places out₀ out i n st) where
   pub walking-done : nextPicture s i ≡ Done
-      → (Read n st ≡ walked standard s p 0 Fresh (pictures s)) × (out ≡ stored standard s p places 0 Fresh (pictures s) out₀)
+      → (value (n, st) ≡ walked standard s p 0 Fresh (pictures s)) × (out ≡ stored standard s p places 0 Fresh (pictures s) out₀)
   unfolding walked stored
   walking-done e = (rw (pictures-done s i e) at (w .answer), rw (pictures-done s i e) at (w .bytes))
 
   module _ (a b k : ℕ) (e : nextPicture s i ≡ Picture a b k) where
-    pub walking-unread : (err : Error) → codedAt standard s (record { start = a; end = b }) ≡ cd.Refused err
-        → (Unread err ≡ walked standard s p 0 Fresh (pictures s)) × (out ≡ stored standard s p places 0 Fresh (pictures s) out₀)
-    unfolding walked stored ifCoded
-    walking-unread err q =
+    pub walking-unread : (m : ℕ) → refused m 0 0 0 ≡ codedAt standard s (record { start = a; end = b })
+        → (refused m 0 0 0 ≡ walked standard s p 0 Fresh (pictures s)) × (out ≡ stored standard s p places 0 Fresh (pictures s) out₀)
+    unfolding walked stored
+    walking-unread m q =
         let l = walked-on s i a b k e .list in
-        (rw (l, q) at (w .answer), rw (l, q) at (w .bytes))
+        (rw (l, ← q) at (w .answer), rw (l, ← q) at (w .bytes))
 
-    pub walking-more : (c : CodedPicture) → codedAt standard s (record { start = a; end = b }) ≡ cd.Picture c
+    pub walking-more : (c : CodedPicture) → value c ≡ codedAt standard s (record { start = a; end = b })
         → {next : Progress} → next ≡ advanced p st c → {bytes : List ℕ} → bytes ≡ putAt places n next out
         → Walking standard s p places out₀ bytes k (n + 1) next
-    unfolding walked stored ifCoded
+    unfolding walked stored
     walking-more c q {next} x {bytes} y =
         let o = walked-on s i a b k e in
         rw (y, x)
@@ -83,6 +82,6 @@ module _ {standard : VbvStandard} {s : List ℕ} {p : VbvParams} {places : ℕ} 
           few = omega (arith, o .from, o .low, w .few);
           inside = omega (arith, o .on, o .high);
           as-long = length-put places n (advanced p st c) out ∙ w .as-long;
-          answer = rw (o .list, q) at (w .answer);
-          bytes = rw (o .list, q) at (w .bytes);
+          answer = rw (o .list, ← q) at (w .answer);
+          bytes = rw (o .list, ← q) at (w .bytes);
         })

@@ -5,15 +5,14 @@ use mathlib.Core.List.{List}
 use lib.Dec.{leb}
 use lib.ListN.{length}
 use Rattle.bits.specs.Bits.{pick}
-use Rattle.bits.specs.Refusals.{Answer, value, refused}
+use Rattle.bits.specs.Refusals.{Answer, value, refused, andThen, orElse}
 use Rattle.vbv.specs.declared.VbvParams.{VbvParams}
-use Rattle.headers.specs.declared.Error.{Error}
 use Rattle.scan.specs.Walk.{nextPicture}
-use Rattle.verify.specs.Walk.{codedAt, advanced, ifCoded}
+use Rattle.verify.specs.Coded.{codedAt}
+use Rattle.verify.specs.Walk.{advanced}
 use Rattle.scan.specs.declared.Next.{Next}
 use Rattle.scan.specs.declared.Next.the-variants.{Picture, Done}
 use Rattle.verify.specs.declared.VbvStandard.{VbvStandard}
-use Rattle.verify.specs.declared.CodedPicture.{CodedPicture}
 use Rattle.verify.specs.declared.VbvPictureRecord.{VbvPictureRecord}
 use Rattle.verify.specs.declared.VbvVerifyError.the-variants.{NoSequenceHeader}
 use Rattle.verify.specs.declared.Progress.{Progress}
@@ -52,8 +51,8 @@ wentOn w next st =
 unfoldable pub recordedBy : List ℕ → VbvRecorder → Next → VbvRecorded
 recordedBy s w Done = stayed w
 recordedBy s w (Picture a b next) =
-    ifCoded (codedAt (w .standard) s (record { start = a; end = b })) (λ (e : Error). stayed w) (λ (c : CodedPicture).
-    wentOn w next (advanced (w .params) (w .progress) c))
+    orElse (stayed w) (andThen (codedAt (w .standard) s (record { start = a; end = b })) (λ c.
+    value (wentOn w next (advanced (w .params) (w .progress) c))))
 
 unfoldable pub nextRecord : List ℕ → VbvRecorder → VbvRecorded
 nextRecord s w = pick (leb (8 * length s) (2 ^ 48)) (recordedBy s w (nextPicture s (w .at))) (stayed w)

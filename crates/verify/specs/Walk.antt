@@ -3,12 +3,13 @@
 use Prim.Native.Nat.{ℕ, _+_, _-_, _*_, min, max}
 use mathlib.Core.List.{List, [], _∷_}
 use lib.Dec.{eqb, leb, ltb}
-use lib.ListN.{drop}
 use lib.Seq.{sets}
 use Rattle.bits.specs.Bits.{pick}
-use Rattle.headers.specs.declared.Error.{Error}
+use Rattle.bits.specs.Refusals.{Answer, value, andThen, orElse}
+use Rattle.headers.specs.Answers.{refusal}
 use Rattle.vbv.specs.Model.{newModel, startModel, delayForPicture, removePicture, occupancyBeforeRemoval}
 use Rattle.vbv.specs.Steps.{modelOf, delayOf, bitsOf, removalOf}
+use Rattle.vbv.specs.declared.RemovalInterval.{RemovalInterval}
 use Rattle.vbv.specs.declared.VbvParams.{VbvParams}
 use Rattle.vbv.specs.declared.VbvCbrModel.{VbvCbrModel}
 use Rattle.vbv.specs.declared.VbvViolation.{VbvViolation}
@@ -22,7 +23,7 @@ use Rattle.vbv.specs.declared.VbvDelay.the-variants as dl
 use Rattle.vbv.specs.declared.VbvBits.{VbvBits}
 use Rattle.vbv.specs.declared.VbvBits.the-variants as bt
 use Rattle.scan.specs.Pictures.{Pic}
-use Rattle.verify.specs.Coded.{told, codedOf}
+use Rattle.verify.specs.Coded.{codedAt}
 use Rattle.verify.specs.Run.{apart, occupancyAfter}
 use Rattle.verify.specs.Layout.{recordBytes}
 use Rattle.verify.specs.declared.VbvStandard.{VbvStandard}
@@ -43,12 +44,14 @@ use Rattle.verify.specs.declared.Walked.the-variants.{Unread, Read}
 
 -- ---- a picture
 
-unfoldable pub codedBy : Pic → Told → Coded
-codedBy q (tl.Delay d i) = cd.Picture (codedOf q d i)
-codedBy q (tl.Refused e) = cd.Refused e
+-- what the functions answer, by its number and values
+abbrev pub toldAnswer : Told → Answer (ℕ × RemovalInterval)
+toldAnswer (tl.Delay d i) = value (d, i)
+toldAnswer (tl.Refused e) = refusal e
 
-unfoldable pub codedAt : VbvStandard → List ℕ → Pic → Coded
-codedAt standard s q = codedBy q (told standard (drop (q .start) s))
+abbrev pub codedAnswer : Coded → Answer CodedPicture
+codedAnswer (cd.Picture c) = value c
+codedAnswer (cd.Refused e) = refusal e
 
 -- ---- a removal, by what the model answers
 
@@ -120,20 +123,20 @@ putAt places n (Stopped e) out = out
 
 -- ---- the walk
 
-unfoldable pub ifCoded {ℓ} : {A : Type ℓ} → Coded → (Error → A) → (CodedPicture → A) → A
-ifCoded (cd.Picture c) f g = g c
-ifCoded (cd.Refused e) f g = f e
+-- the number of pictures and the progress behind them, or the first header refused
+unfoldable pub walked : VbvStandard → List ℕ → VbvParams → ℕ → Progress → List Pic → Answer (ℕ × Progress)
+walked standard s p n st [] = value (n, st)
+walked standard s p n st (q ∷ qs) = andThen (codedAt standard s q) (λ c. walked standard s p (n + 1) (advanced p st c) qs)
 
-unfoldable pub walked : VbvStandard → List ℕ → VbvParams → ℕ → Progress → List Pic → Walked
-walked standard s p n st [] = Read n st
-walked standard s p n st (q ∷ qs) =
-    ifCoded (codedAt standard s q) Unread (λ (c : CodedPicture). walked standard s p (n + 1) (advanced p st c) qs)
+abbrev pub walkedAnswer : Walked → Answer (ℕ × Progress)
+walkedAnswer (Unread e) = refusal e
+walkedAnswer (Read n st) = value (n, st)
 
 unfoldable pub stored : VbvStandard → List ℕ → VbvParams → ℕ → ℕ → Progress → List Pic → List ℕ → List ℕ
 stored standard s p places n st [] out = out
 stored standard s p places n st (q ∷ qs) out =
-    ifCoded (codedAt standard s q) (λ (e : Error). out) (λ (c : CodedPicture).
-    stored standard s p places (n + 1) (advanced p st c) qs (putAt places n (advanced p st c) out))
+    orElse out (andThen (codedAt standard s q) (λ c.
+    value (stored standard s p places (n + 1) (advanced p st c) qs (putAt places n (advanced p st c) out))))
 
 -- ---- the answer
 

@@ -88,7 +88,7 @@ pub struct CodedPicture {
 }
 
 // What a picture's headers tell.
-pub enum Told {
+enum Told {
     Delay(u16, RemovalInterval),
     Refused(Error),
 }

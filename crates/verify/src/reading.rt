@@ -2,11 +2,10 @@
 ghost use mathlib.Core.Path.{_≡_};
 ghost use Prim.Native.Nat.{_+_, _*_, _^_, _≤_};
 ghost use lib.ListN.{length};
-ghost use Rattle.vbv.specs.Answers.{frameRate};
 ghost use Rattle.verify.specs.Answers.{declaredAnswer};
 ghost use Rattle.verify.specs.Sequence.{rated, declaredBy, declared};
-ghost use Rattle.verify.specs.Coded.{intervalOf, told};
-ghost use Rattle.verify.specs.Walk.{codedAt};
+ghost use Rattle.verify.specs.Coded.{intervalOf, told, codedAt};
+ghost use Rattle.verify.specs.Walk.{toldAnswer, codedAnswer};
 use crate::Coded;
 use crate::CodedPicture;
 use crate::Declared;
@@ -30,7 +29,7 @@ use vbv::VbvParams;
 fn rated_by(rate: u64, buffer: u64, code: u8) -> Declared
     requires { ⌜ rate ≤ 4294967295 ⌝ }
     requires { ⌜ buffer ≤ 4294967295 ⌝ }
-    ensures { λ r. ⌜ declaredAnswer r ≡ rated rate buffer (frameRate code) ⌝ }
+    ensures { λ r. ⌜ declaredAnswer r ≡ rated rate buffer code ⌝ }
 {
     match vbv::frame_rate_value(code) {
         FrameRate::Rate(frn, frd) => Declared::Params(VbvParams {
@@ -105,7 +104,7 @@ pub fn interval(structure: PictureStructure) -> RemovalInterval
 
 // What the picture that begins a part of the stream tells.
 fn told_at(part: &[u8], standard: VbvStandard) -> Told
-    ensures { λ r. ⌜ r ≡ told standard (now (part .entry)) ⌝ }
+    ensures { λ r. ⌜ toldAnswer r ≡ told standard (now (part .entry)) ⌝ }
 {
     match standard {
         VbvStandard::Mpeg1 => match Mpeg2PictureHeader::parse(part) {
@@ -130,7 +129,7 @@ pub(crate) fn coded_at(stream: &[u8], standard: VbvStandard, at: usize, end: usi
     requires { ⌜ at + 4 ≤ length (now stream) ⌝ }
     requires { ⌜ end ≤ length (now stream) ⌝ }
     requires { ⌜ 8 * length (now stream) ≤ 2 ^ 48 ⌝ }
-    ensures { λ r. ⌜ r ≡ codedAt standard (now (stream .entry)) (record { start = at; end = end }) ⌝ }
+    ensures { λ r. ⌜ codedAnswer r ≡ codedAt standard (now (stream .entry)) (record { start = at; end = end }) ⌝ }
 {
     match told_at(&stream[at..], standard) {
         Told::Delay(vbv_delay, interval) => {

@@ -8,7 +8,7 @@ ghost use Rattle.scan.specs.Pictures.{pictures};
 ghost use Rattle.verify.specs.Answers.{verifiedAnswer};
 ghost use Rattle.verify.specs.Check.{verdict, reported, records as recordsOf};
 ghost use Rattle.verify.specs.Layout.{recordsBytes};
-ghost use Rattle.verify.specs.Walk.{walked, stored, placed, judgement};
+ghost use Rattle.verify.specs.Walk.{walked, walkedAnswer, stored, placed, judgement};
 ghost use Rattle.verify.specs.declared.Progress.the-variants.{Fresh};
 use crate::Coded;
 use crate::Declared;
@@ -38,7 +38,7 @@ pub(crate) fn walk(
 ) -> Walked
     requires { ⌜ 8 * length (now stream) ≤ 2 ^ 48 ⌝ }
     requires { ⌜ 32 * places ≤ length (now records) ⌝ }
-    ensures { λ r. ⌜ r ≡ walked standard (now (stream .entry)) params 0 Fresh (pictures (now (stream .entry))) ⌝ }
+    ensures { λ r. ⌜ walkedAnswer r ≡ walked standard (now (stream .entry)) params 0 Fresh (pictures (now (stream .entry))) ⌝ }
     ensures { λ r. ⌜ now (records .exit) ≡ stored standard (now (stream .entry)) params places 0 Fresh (pictures (now (stream .entry))) (now (records .entry)) ⌝ }
 {
     let mut i: usize = 0;

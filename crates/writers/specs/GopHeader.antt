@@ -2,13 +2,12 @@
 -- Assumes nothing.
 use Prim.Native.Nat.{ℕ, _/_, _%_}
 use mathlib.Core.List.{List, [], _∷_}
-use mathlib.Core.Bool.{false, _&&_}
+use mathlib.Core.Bool.{false, not, _&&_}
 use lib.Dec.{leb}
 use lib.ListN.{getD}
-use Rattle.bits.specs.Bits.{pick}
+use Rattle.bits.specs.Refusals.{Answer, value, refused, refuse, andThen}
 use Rattle.bits.specs.Fields.{Field, any, exactly}
 use Rattle.headers.specs.Answers.{flagOf}
-use Rattle.headers.specs.declared.Error.the-variants.{FrameRateCode}
 use Rattle.writers.specs.declared.gop_header.TimeCode.{TimeCode}
 use Rattle.writers.specs.declared.gop_header.TimeCodeAnswer.{TimeCodeAnswer}
 use Rattle.writers.specs.declared.gop_header.TimeCodeAnswer.the-variants.{Code, Refused as NoCode}
@@ -48,8 +47,8 @@ groupValues g =
 abbrev pub nominalRates : List ℕ
 nominalRates = 0 ∷ 24 ∷ 24 ∷ 25 ∷ 30 ∷ 30 ∷ 50 ∷ 60 ∷ 60 ∷ []
 
-unfoldable pub nominalRate : ℕ → NominalRate
-nominalRate c = pick (leb 1 c && leb c 8) (PicturesPerSecond (getD nominalRates c 0)) (Refused FrameRateCode)
+unfoldable pub nominalRate : ℕ → Answer ℕ
+nominalRate c = refuse 6 (not (leb 1 c && leb c 8)) (value (getD nominalRates c 0))
 
 -- the time code of picture n in display order at p pictures a second, without dropped numbers; hours begin again after 23
 unfoldable pub timeCode : ℕ → ℕ → TimeCode
@@ -61,6 +60,15 @@ timeCode n p = record {
   pictures = n % p;
 }
 
-unfoldable pub timeCodeAt : ℕ → NominalRate → TimeCodeAnswer
-timeCodeAt n (PicturesPerSecond p) = Code (timeCode n p)
-timeCodeAt n (Refused e) = NoCode e
+-- the same at frame_rate_code c
+unfoldable pub timeCodeAt : ℕ → ℕ → Answer TimeCode
+timeCodeAt n c = andThen (nominalRate c) (λ p. value (timeCode n p))
+
+-- the number and the value of each case
+abbrev pub nominalAnswer : NominalRate → Answer ℕ
+nominalAnswer (PicturesPerSecond p) = value p
+nominalAnswer Refused = refused 6 0 0 0
+
+abbrev pub timeCodeAnswer : TimeCodeAnswer → Answer TimeCode
+timeCodeAnswer (Code t) = value t
+timeCodeAnswer NoCode = refused 6 0 0 0

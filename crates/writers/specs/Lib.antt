@@ -1,1 +1,2 @@
 pub mod GopHeader
+pub mod RoundTrips

@@ -1,11 +1,10 @@
 // group_of_pictures_header() (ISO/IEC 13818-2 6.2.2.6, 11172-2 2.4.2.4): the time code and the writer.
 ghost use mathlib.Core.Path.{_≡_};
 ghost use Rattle.bits.specs.Answers.{writeAnswer, writeResult};
-ghost use Rattle.headers.specs.Answers.{written};
-ghost use Rattle.writers.specs.GopHeader.{groupStartCode, groupFields, groupValues, nominalRate, timeCodeAt};
+ghost use Rattle.headers.specs.Answers.{writtenAnswer};
+ghost use Rattle.writers.specs.GopHeader.{groupStartCode, groupFields, groupValues, nominalRate, nominalAnswer, timeCodeAt, timeCodeAnswer};
 use crate::answered;
 use crate::flag;
-use headers::Error;
 use headers::Written;
 
 pub const GROUP_START_CODE: [u8; 4] = *b"\x00\x00\x01\xB8";
@@ -24,14 +23,15 @@ pub struct TimeCode {
     pub pictures: u8,
 }
 
+// Refused is a frame rate code other than 1 to 8 (6), in both.
 pub enum TimeCodeAnswer {
     Code(TimeCode),
-    Refused(Error),
+    Refused,
 }
 
 pub enum NominalRate {
     PicturesPerSecond(u8),
-    Refused(Error),
+    Refused,
 }
 
 pub struct Mpeg2Gop {
@@ -45,13 +45,13 @@ const NOMINAL_RATES: [u8; 9] = [0, 24, 24, 25, 30, 30, 50, 60, 60];
 
 // The pictures that a second counts without dropped numbers (6.3.8).
 pub fn nominal_pictures_per_second(picture_rate_code: u8) -> NominalRate
-    ensures { λ r. ⌜ r ≡ nominalRate «picture_rate_code» ⌝ }
+    ensures { λ r. ⌜ nominalAnswer r ≡ nominalRate «picture_rate_code» ⌝ }
 {
     if picture_rate_code == 0 {
-        return NominalRate::Refused(Error::FrameRateCode);
+        return NominalRate::Refused;
     }
     if 8 < picture_rate_code {
-        return NominalRate::Refused(Error::FrameRateCode);
+        return NominalRate::Refused;
     }
     NominalRate::PicturesPerSecond(NOMINAL_RATES[picture_rate_code as usize])
 }
@@ -59,11 +59,11 @@ pub fn nominal_pictures_per_second(picture_rate_code: u8) -> NominalRate
 impl TimeCode {
     // The time code of a picture by its index in display order.
     pub fn from_display_index(display_index: u64, picture_rate_code: u8) -> TimeCodeAnswer
-        ensures { λ r. ⌜ r ≡ timeCodeAt «display_index» (nominalRate «picture_rate_code») ⌝ }
+        ensures { λ r. ⌜ timeCodeAnswer r ≡ timeCodeAt «display_index» «picture_rate_code» ⌝ }
     {
         let rate = nominal_pictures_per_second(picture_rate_code);
         match rate {
-            NominalRate::Refused(error) => TimeCodeAnswer::Refused(error),
+            NominalRate::Refused => TimeCodeAnswer::Refused,
             NominalRate::PicturesPerSecond(p) => {
                 let fps = p as u64;
                 let total_seconds = display_index / fps;
@@ -107,7 +107,7 @@ fn group_values(gop: Mpeg2Gop) -> [u32; 8]
 
 // Writes the header into the first bytes of out.
 pub fn write_gop_header(out: &mut [u8], gop: Mpeg2Gop) -> Written
-    ensures { λ r. ⌜ r ≡ written (writeAnswer groupStartCode groupFields (groupValues gop) (now (out .entry))) ⌝ }
+    ensures { λ r. ⌜ writtenAnswer r ≡ writeAnswer groupStartCode groupFields (groupValues gop) (now (out .entry)) ⌝ }
     ensures { λ r. ⌜ now (out .exit) ≡ writeResult groupStartCode groupFields (groupValues gop) (now (out .entry)) ⌝ }
 {
     let values = group_values(gop);

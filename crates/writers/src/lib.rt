@@ -1,7 +1,8 @@
 // The writers of sequence_header(), sequence_extension() and group_of_pictures_header() (ISO/IEC 13818-2 6.2.2), and the time code.
 ghost use mathlib.Core.Path.{_≡_};
 ghost use Prim.Native.Nat.{_*_, _≤_};
-ghost use Rattle.headers.specs.Answers.{written, flagOf};
+ghost use Rattle.bits.specs.Answers.{wroteAnswer};
+ghost use Rattle.headers.specs.Answers.{writtenAnswer, flagOf};
 use bits::Wrote;
 use headers::Error;
 use headers::Written;
@@ -11,7 +12,7 @@ pub mod stream_writer; // both sequence headers
 
 // A table writer's answer as a header writer's.
 fn answered(wrote: Wrote) -> Written
-    ensures { λ r. ⌜ r ≡ written wrote ⌝ }
+    ensures { λ r. ⌜ writtenAnswer r ≡ wroteAnswer wrote ⌝ }
 {
     match wrote {
         Wrote::Bytes(n) => Written::Bytes(n),

@@ -6,7 +6,7 @@ ghost use lib.ListN.{length};
 ghost use Rattle.bits.specs.Bits.{bitList, appendBits};
 ghost use Rattle.bits.specs.Fields.{fieldBits, writeHeader, fitsAll, total};
 ghost use Rattle.bits.specs.Answers.{over, writeAnswer, writeResult};
-ghost use Rattle.headers.specs.Answers.{written};
+ghost use Rattle.headers.specs.Answers.{writtenAnswer};
 ghost use Rattle.headers.specs.QuantMatrix.{matrixFields, matrixValues};
 ghost use Rattle.headers.specs.SequenceHeader.{sequenceHeaderCode, sequenceHeaderFields};
 ghost use Rattle.headers.specs.SequenceExtension.{extensionStartCode, sequenceExtensionFields, extensionValues, chromaCode};
@@ -93,7 +93,7 @@ fn put_header(out: &mut [u8], p: SequenceHeaderParams)
 
 // Writes the header into the first bytes of out; a matrix stands in it where its flag is set.
 pub fn write_sequence_header(out: &mut [u8], p: SequenceHeaderParams) -> Written
-    ensures { λ r. ⌜ r ≡ written (writeAnswer sequenceHeaderCode (paramsFields p) (paramsValues p) (now (out .entry))) ⌝ }
+    ensures { λ r. ⌜ writtenAnswer r ≡ writeAnswer sequenceHeaderCode (paramsFields p) (paramsValues p) (now (out .entry)) ⌝ }
     ensures { λ r. ⌜ now (out .exit) ≡ writeResult sequenceHeaderCode (paramsFields p) (paramsValues p) (now (out .entry)) ⌝ }
 {
     let values = base_values(p);
@@ -155,7 +155,7 @@ fn extension_values(chroma: ChromaFormat, progressive: bool) -> [u32; 12]
 
 // Writes the extension, with all size, rate and buffer extensions 0, into the first bytes of out.
 pub fn write_sequence_extension(out: &mut [u8], chroma: ChromaFormat, progressive: bool) -> Written
-    ensures { λ r. ⌜ r ≡ written (writeAnswer extensionStartCode sequenceExtensionFields (extensionValues (plainExtension chroma progressive)) (now (out .entry))) ⌝ }
+    ensures { λ r. ⌜ writtenAnswer r ≡ writeAnswer extensionStartCode sequenceExtensionFields (extensionValues (plainExtension chroma progressive)) (now (out .entry)) ⌝ }
     ensures { λ r. ⌜ now (out .exit) ≡ writeResult extensionStartCode sequenceExtensionFields (extensionValues (plainExtension chroma progressive)) (now (out .entry)) ⌝ }
 {
     let values = extension_values(chroma, progressive);

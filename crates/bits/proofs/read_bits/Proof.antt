@@ -7,8 +7,8 @@ use Prim.Native.Nat.{ℕ, _+_, _-_, _*_, _/_, _%_, _^_, _≤_, _<_}
 use lib.Pow.{pow-mono, pow-pos}
 use lib.ListN.{length, getD}
 use Rattle.bits.specs.Bits.{num, bitAt, bitsAt, pick, there}
+use Rattle.bits.specs.Refusals.{value}
 use Rattle.bits.specs.Answers.{readBits}
-use Rattle.bits.specs.declared.Bits.the-variants.{Value}
 use Rattle.bits.proofs.Laws.{num-bound, bits-bound, bit-bound, bytes-number, bits-middle}
 use Rattle.bits.proofs.read_bits.Statement.{statement}
 use Rattle.bits.proofs.read_bits.Tie as tie
@@ -93,9 +93,9 @@ pow2-requires : tie.Need-pow2-requires Inv-loop μ-loop
 pow2-requires c κs = omega arith
 
 -- the bits in the middle of the bytes that are in
-value : (c : tie.After-pow2 Inv-loop μ-loop) → let a = c .before .before .before .before .before .before .args in
+number-is : (c : tie.After-pow2 Inv-loop μ-loop) → let a = c .before .before .before .before .before .before .args in
     c .before .before .loop .acc / 2 ^ (8 * ((a .i % 8 + a .n + 7) / 8) - a .i % 8 - a .n) % c .pow2 .result ≡ bitsAt (a .s .now) (a .i) (a .n)
-value c =
+number-is c =
     let a = c .before .before .before .before .before .before .args in
     let k = c .before .before .loop .k in
     let m = (a .i % 8 + a .n + 7) / 8 in
@@ -112,7 +112,7 @@ rem-t22 c = rw (c .pow2 .ensures) (pow-pos _)
 cast-t23 : tie.Need-cast-t23 Inv-loop μ-loop
 cast-t23 c =
     let a = c .before .before .before .before .before .before .args in
-    let v = value c in
+    let v = number-is c in
     omega (arith, v, lt-of-lt-of-le (bits-bound (a .s .now) (a .i) (a .n)) (pow-mono {j = 32} (c .before .before .before .before .if1 .left)))
 
 returns-3 : tie.Need-returns-3 Inv-loop μ-loop
@@ -120,7 +120,7 @@ unfolding readBits pick there
 returns-3 c =
     let a = c .before .before .before .before .before .before .args in
     let h : a .i + a .n ≤ 8 * length (a .s .now) = omega arith in
-    simp (le-leb _ _ (c .before .before .before .before .if1 .left), le-leb _ _ h) (ap Value (value c))
+    simp (le-leb _ _ (c .before .before .before .before .if1 .left), le-leb _ _ h) (ap value (number-is c))
 
 pub read-bits-spec : {M : Type 1} → statement M
 read-bits-spec =

@@ -1,8 +1,8 @@
 use borrow.Author.Needs.{needs}
-use mathlib.Core.Path.{sym, _∙_}
 use native.Mathlib.Omega.{arith}
 use Prim.Native.Nat.{_-_}
-use Rattle.bits.proofs.ReadLoop.{Reading, reading-none, reading-short, reading-width, reading-low, reading-high, reading-more, reading-end}
+use Rattle.bits.proofs.Reading.{bits-case}
+use Rattle.bits.proofs.ReadLoop.{Reading, told-short, told-bad, reading-none, reading-short, reading-width, reading-low, reading-high, reading-more, reading-end}
 use Rattle.bits.proofs.read_fields.Statement.{statement}
 use Rattle.bits.proofs.read_fields.Tie as tie
 
@@ -39,9 +39,9 @@ refused-requires c κs = search needs
 returns : tie.Need-returns Inv-loop μ-loop
 returns c =
     let r = c .before .before .before in
-    c .refused .ensures
-    ∙ reading-short (r .before .before .before .before .loop .inv) (r .before .before .before .loop-test .taken) (r .before .index .ensures .0)
-    (sym (c .before .enum-told .given .1) ∙ r .read-bits .ensures)
+    told-short _ (c .refused .ensures)
+    (reading-short (r .before .before .before .before .loop .inv) (r .before .before .before .loop-test .taken) (r .before .index .ensures .0)
+    (bits-case (c .before .enum-told .given .1) (r .read-bits .ensures)))
 
 enum-known-read : tie.Need-enum-known-read Inv-loop μ-loop
 enum-known-read c = search needs
@@ -65,9 +65,9 @@ returns-2 : tie.Need-returns-2 Inv-loop μ-loop
 returns-2 c =
     let v = c .before .before .before .before .before .before in
     let r = v .before .before in
-    c .refused2 .ensures
-    ∙ reading-low (r .before .before .before .before .loop .inv) (r .before .before .before .loop-test .taken) (r .before .index .ensures .0)
-    (sym (v .read .given .1) ∙ r .read-bits .ensures) (omega arith)
+    told-bad _ (c .refused2 .ensures)
+    (reading-low (r .before .before .before .before .loop .inv) (r .before .before .before .loop-test .taken) (r .before .index .ensures .0)
+    (bits-case (v .read .given .1) (r .read-bits .ensures)) (omega arith))
 
 add-top : tie.Need-add-top Inv-loop μ-loop
 add-top c = omega arith
@@ -80,7 +80,7 @@ top-requires c κs =
     let v = c .before .before .before .before .before .before in
     let r = v .before .before in
     reading-width (r .before .before .before .before .loop .inv) (r .before .before .before .loop-test .taken) (r .before .index .ensures .0)
-    (sym (v .read .given .1) ∙ r .read-bits .ensures)
+    (bits-case (v .read .given .1) (r .read-bits .ensures))
 
 wide32-requires-2 : tie.Need-wide32-requires-2 Inv-loop μ-loop
 wide32-requires-2 c κs = search needs
@@ -93,10 +93,10 @@ returns-3 c =
     let e = c .before .before .before .before .before in
     let v = c .before .before .before .before .before .before .before .before .before .before in
     let r = v .before .before in
-    c .refused3 .ensures
-    ∙ reading-high (r .before .before .before .before .loop .inv) (r .before .before .before .loop-test .taken) (r .before .index .ensures .0)
-    (sym (v .read .given .1) ∙ r .read-bits .ensures)
-    (omega (arith, e .if1 .left, e .before .wide .ensures .0, e .before .before .before .wide32 .ensures .0)) (omega arith)
+    told-bad _ (c .refused3 .ensures)
+    (reading-high (r .before .before .before .before .loop .inv) (r .before .before .before .loop-test .taken) (r .before .index .ensures .0)
+    (bits-case (v .read .given .1) (r .read-bits .ensures))
+    (omega (arith, e .if1 .left, e .before .wide .ensures .0, e .before .before .before .wide32 .ensures .0)) (omega arith))
 
 mul-values : tie.Need-mul-values Inv-loop μ-loop
 mul-values c = omega arith
@@ -118,7 +118,7 @@ loop-again c =
     let v = c .before .before .before .before .before .before .before .before .before in
     let r = v .before .before in
     reading-more (r .before .before .before .before .loop .inv) (r .before .before .before .loop-test .taken) (r .before .index .ensures .0)
-    (sym (v .read .given .1) ∙ r .read-bits .ensures) (omega arith) (omega arith) (r .before .index .ensures .1)
+    (bits-case (v .read .given .1) (r .read-bits .ensures)) (omega arith) (omega arith) (r .before .index .ensures .1)
 
 returns-4 : tie.Need-returns-4 Inv-loop μ-loop
 returns-4 c =

@@ -1,8 +1,8 @@
 use borrow.Author.Needs.{needs}
-use mathlib.Core.Path.{sym, ap, _∙_}
 use native.Mathlib.Omega.{arith}
-use Rattle.bits.specs.Answers.{fieldsAnswer}
+use Rattle.bits.specs.Answers.{tableOf}
 use Rattle.bits.proofs.Reading.{header-short, header-more, header-bad}
+use Rattle.bits.proofs.ReadLoop.{told-short, told-bad}
 use Rattle.bits.proofs.Starting.{code-told}
 use Rattle.bits.proofs.read_header.Statement.{statement}
 use Rattle.bits.proofs.read_header.Tie as tie
@@ -11,8 +11,7 @@ refused-requires : tie.Need-refused-requires
 refused-requires c κs = search needs
 
 returns : tie.Need-returns
-unfolding fieldsAnswer
-returns c = c .refused .ensures ∙ ap fieldsAnswer (sym (header-short _ _ _ (omega arith)))
+returns c = told-short _ (c .refused .ensures) (header-short _ _ _ (omega arith))
 
 slice-aggregate-starts-with : tie.Need-slice-aggregate-starts-with
 slice-aggregate-starts-with c = search needs
@@ -27,17 +26,17 @@ returns-2 : tie.Need-returns-2
 returns-2 c =
     let code = c .before .before .before .before .before .before .before .args .t2 in
     let told = code-told _ code (search needs) (c .before .before .starts-with .ensures) (c .before .if2 .taken) in
-    c .read-fields .ensures ∙ ap fieldsAnswer (sym (header-more _ _ _ (omega arith) told))
+    let a = c .before .before .before .before .before .before .before .args in
+    rw (header-more code (tableOf 24 (a .table .now)) (a .s .now) (omega arith) told) (c .read-fields .ensures)
 
 refused-requires-2 : tie.Need-refused-requires-2
 refused-requires-2 c κs = search needs
 
 returns-3 : tie.Need-returns-3
-unfolding fieldsAnswer
 returns-3 c =
     let code = c .before .before .before .before .before .before .before .args .t2 in
     let told = code-told _ code (search needs) (c .before .before .starts-with .ensures) (c .before .if2 .left) in
-    c .refused2 .ensures ∙ ap fieldsAnswer (sym (header-bad _ _ _ (omega arith) told))
+    told-bad _ (c .refused2 .ensures) (header-bad _ _ _ (omega arith) told)
 
 pub read-header-spec : {M : Type 1} → statement M
 read-header-spec =

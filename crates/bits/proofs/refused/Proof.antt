@@ -1,11 +1,9 @@
 use mathlib.Core.Path.{refl}
-use Rattle.bits.specs.Answers.{noFields}
 use Rattle.bits.proofs.refused.Statement.{statement}
 use Rattle.bits.proofs.refused.Tie as tie
 
 returns : tie.Need-returns
-unfolding noFields
-returns c = refl
+returns c = (refl, refl)
 
 pub refused-spec : {M : Type 1} → statement M
 refused-spec = tie.close (tie.spec returns)

@@ -1,11 +1,11 @@
 use borrow.Author.Needs.{needs}
-use mathlib.Core.Path.{_≡_, sym, _∙_}
+use mathlib.Core.Path.{_≡_}
 use mathlib.Core.Bool.{true}
 use native.Mathlib.Omega.{arith}
 use Rattle.bits.specs.Fields.{fitsAll, total}
 use Rattle.bits.specs.Answers.{tableOf}
 use Rattle.bits.proofs.Reading.{table-room}
-use Rattle.bits.proofs.Checking.{fits-of, checked-width, checked-misfit}
+use Rattle.bits.proofs.Checking.{fits-of, checked-case, checked-width, checked-misfit}
 use Rattle.bits.proofs.Writing.{total-bound, write-unfit, write-full, write-bytes}
 use Rattle.bits.proofs.write_header.Statement.{statement}
 use Rattle.bits.proofs.write_header.Tie as tie
@@ -13,7 +13,7 @@ use Rattle.bits.proofs.write_header.Tie as tie
 -- what the check found
 fitting : (c : tie.After-known-told) → let a = c .before .before .before .before .before .before .before .args in
     (fitsAll (tableOf 24 (a .table .now)) (a .values .now) ≡ true) × (c .before .checked .given .0 .0 ≡ total (tableOf 24 (a .table .now)))
-fitting c = checked-width _ _ (sym (c .before .checked .given .1) ∙ c .before .before .before .check-fields .ensures)
+fitting c = checked-width _ _ (checked-case (c .before .checked .given .1) (c .before .before .before .check-fields .ensures))
 
 check-fields-requires : tie.Need-check-fields-requires
 check-fields-requires c κs = search needs
@@ -44,7 +44,7 @@ put-fields-requires c κs =
     (r .0, omega (arith, r .1, c .before .before .before .put-code .kept .0))
 
 returns-2 : tie.Need-returns-2
-returns-2 c = write-unfit _ _ _ _ (checked-misfit _ _ (sym (c .enum-told .given .1) ∙ c .before .before .check-fields .ensures))
+returns-2 c = write-unfit _ _ _ _ (checked-misfit _ _ (checked-case (c .enum-told .given .1) (c .before .before .check-fields .ensures)))
 
 same-length : tie.Need-same-length
 same-length c = search needs

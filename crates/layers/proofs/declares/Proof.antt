@@ -1,4 +1,4 @@
-use Rattle.layers.specs.Headers.{parsed}
+use Rattle.layers.specs.Headers.{declares}
 use borrow.Author.Needs.{needs}
 use Rattle.layers.proofs.declares.Statement.{statement}
 use Rattle.layers.proofs.declares.Tie as tie
@@ -16,12 +16,12 @@ enum-told-2 : tie.Need-enum-told-2
 enum-told-2 c = search needs
 
 returns : tie.Need-returns
-unfolding parsed
-returns c = rw (← c .before .before .before .before .from-buf .ensures, c .before .before .enum-told .given .1) (c .same-params .ensures)
+unfolding declares
+returns c = rw (← c .before .before .before .before .from-buf .ensures .0, c .before .before .enum-told .given .1) (c .same-params .ensures)
 
 returns-2 : tie.Need-returns-2
-unfolding parsed
-returns-2 c = rw (← c .before .before .from-buf .ensures, c .enum-told2 .given .1)
+unfolding declares
+returns-2 c = rw (← c .before .before .from-buf .ensures .0, c .enum-told2 .given .1)
 
 pub declares-spec : {M : Type 1} → statement M
 declares-spec =

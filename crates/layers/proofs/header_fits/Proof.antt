@@ -1,7 +1,6 @@
-use Rattle.layers.proofs.Ways.{tests-are}
-use Rattle.picture_header.proofs.Picture.{picture-parsed}
-use Rattle.layers.specs.Layer.{headerFits}
-use mathlib.Core.Path.{sym, _∙_}
+use Rattle.layers.proofs.Ways.{tests-none, tests-are}
+use Rattle.picture_header.proofs.Picture.{picture-case, picture-parsed}
+use mathlib.Core.Path.{sym}
 use borrow.Author.Needs.{needs}
 use Rattle.layers.proofs.header_fits.Statement.{statement}
 use Rattle.layers.proofs.header_fits.Tie as tie
@@ -28,19 +27,18 @@ vectors-fit-requires : tie.Need-vectors-fit-requires
 vectors-fit-requires c κs = search needs
 
 padding-clear-requires : tie.Need-padding-clear-requires
-padding-clear-requires c κs = picture-parsed _ _ _ (sym (c .before .before .before .before .before .before .before .before .parse-with-extension .ensures) ∙ c .before .before .before .before .before .before .header .given .1) .header
+padding-clear-requires c κs = picture-parsed _ _ _ (sym (picture-case (c .before .before .before .before .before .before .header .given .1) (c .before .before .before .before .before .before .before .before .parse-with-extension .ensures))) .header
 
 zeros-behind-requires : tie.Need-zeros-behind-requires
-zeros-behind-requires c κs = picture-parsed _ _ _ (sym (c .before .before .before .before .before .before .before .before .before .parse-with-extension .ensures) ∙ c .before .before .before .before .before .before .before .header .given .1) .header
+zeros-behind-requires c κs = picture-parsed _ _ _ (sym (picture-case (c .before .before .before .before .before .before .before .header .given .1) (c .before .before .before .before .before .before .before .before .before .parse-with-extension .ensures))) .header
 
 returns : tie.Need-returns
-unfolding headerFits
-returns c = rw (← c .before .before .parse-with-extension .ensures, c .enum-told .given .1)
+returns c = tests-none _ _ _ _ (picture-case (c .enum-told .given .1) (c .before .before .parse-with-extension .ensures))
 
 returns-2 : tie.Need-returns-2
 returns-2 c =
     rw (c .before .before .before .before .before .before .same-kind .ensures, c .before .before .before .before .same-interval .ensures, c .before .before .before .before .before .interval .ensures, c .before .before .vectors-fit .ensures, c .before .padding-clear .ensures, c .zeros-behind .ensures)
-    (tests-are _ _ _ _ _ (sym (c .before .before .before .before .before .before .before .before .before .before .parse-with-extension .ensures) ∙ c .before .before .before .before .before .before .before .before .header .given .1))
+    (tests-are _ _ _ _ _ (picture-case (c .before .before .before .before .before .before .before .before .header .given .1) (c .before .before .before .before .before .before .before .before .before .before .parse-with-extension .ensures)))
 
 pub header-fits-spec : {M : Type 1} → statement M
 header-fits-spec =

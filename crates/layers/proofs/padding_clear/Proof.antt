@@ -1,5 +1,5 @@
 use Rattle.layers.proofs.Ways.{extra-room, padding-read, padding-missed}
-use mathlib.Core.Path.{sym, _∙_}
+use Rattle.bits.proofs.Reading.{bits-case}
 use native.Mathlib.Omega.{arith}
 use borrow.Author.Needs.{needs}
 use Rattle.layers.proofs.padding_clear.Statement.{statement}
@@ -36,10 +36,10 @@ enum-told : tie.Need-enum-told
 enum-told c = search needs
 
 returns : tie.Need-returns
-returns c = padding-read _ _ (c .before .before .before .before .before .before .before .pre) _ (sym (c .before .read .given .1) ∙ c .before .before .before .read-bits .ensures)
+returns c = padding-read _ _ (c .before .before .before .before .before .before .before .pre) _ (bits-case (c .before .read .given .1) (c .before .before .before .read-bits .ensures))
 
 returns-2 : tie.Need-returns-2
-returns-2 c = padding-missed _ _ (c .before .before .before .before .before .before .pre) (sym (c .enum-told .given .1) ∙ c .before .before .read-bits .ensures)
+returns-2 c = padding-missed _ _ (c .before .before .before .before .before .before .pre) (bits-case (c .enum-told .given .1) (c .before .before .read-bits .ensures))
 
 pub padding-clear-spec : {M : Type 1} → statement M
 padding-clear-spec =

@@ -50,7 +50,7 @@ array-read-intra-dc-precision c = search needs
 
 cast-intra-dc-precision : tie.Need-cast-intra-dc-precision
 cast-intra-dc-precision c =
-    omega (arith, fields-done _ codingFields _ 52 (c .before .before .before .read-fields .ensures) (c .before .enum-told3 .given .1) .high 0)
+    omega (arith, fields-done (c .before .before .before .read-fields .result) codingFields (c .before .before .before .before .before .before .args .buf .now) 52 (c .before .before .before .read-fields .ensures .0) (c .before .enum-told3 .given .1) .high 0)
 
 array-read-picture-structure-of : tie.Need-array-read-picture-structure-of
 array-read-picture-structure-of c = search needs
@@ -89,16 +89,16 @@ array-read-t69 : tie.Need-array-read-t69
 array-read-t69 c = search needs
 
 returns : tie.Need-returns
-returns c = behind-short _ _ _ (c .before .before .read-fields .ensures) (c .enum-told .given .1)
+returns c = behind-short (c .before .before .read-fields .result) _ _ (c .before .before .read-fields .ensures .0) (c .enum-told .given .1)
 
 returns-2 : tie.Need-returns-2
-returns-2 c = behind-bad _ _ _ (c .before .before .read-fields .ensures) (c .enum-told2 .given .1)
+returns-2 c = behind-bad (c .before .before .read-fields .result) _ _ (c .before .before .read-fields .ensures .0) (c .enum-told2 .given .1)
 
 returns-3 : tie.Need-returns-3
 unfolding codingExtensionOf
 returns-3 c =
     rw (c .picture-structure-of .ensures)
-    (behind-done _ _ _ (c .before .before .before .before .read-fields .ensures) (c .before .before .enum-told3 .given .1))
+    (behind-done (c .before .before .before .before .read-fields .result) _ _ (c .before .before .before .before .read-fields .ensures .0) (c .before .before .enum-told3 .given .1))
 
 pub behind-codes-spec : {M : Type 1} → statement M
 behind-codes-spec =

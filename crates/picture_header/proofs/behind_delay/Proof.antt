@@ -1,8 +1,8 @@
 use borrow.Author.Needs.{needs}
-use mathlib.Core.Path.{sym, ap, _∙_}
-use Rattle.picture_header.specs.PictureHeader.{behindDelay}
-use Rattle.picture_header.proofs.PictureHeader.{then-short, then-bad, motion-codes, motion-cut, motion-done}
-use Rattle.picture_header.specs.declared.PictureHeaderRead.the-variants.{Parsed as Accepted}
+use mathlib.Core.Path.{ap, _∙_}
+use Rattle.picture_header.proofs.PictureHeader.{motion-short, motion-bad, motion-codes, motion-cut, motion-done}
+use Rattle.bits.specs.Refusals.{value}
+use Rattle.picture_header.proofs.ExtraInformation.{extra-case}
 use Rattle.picture_header.proofs.behind_delay.Statement.{statement}
 use Rattle.picture_header.proofs.behind_delay.Tie as tie
 
@@ -37,29 +37,27 @@ header-of-requires : tie.Need-header-of-requires
 header-of-requires c κs =
     let r = c .before .before .before .before .before .before .before .before in
     let s = r .before .before .args in
-    let m = motion-codes _ (s .buf .now) (s .t2) (r .read-motion .ensures) (c .before .before .before .before .before .before .enum-told3 .given .1) in
+    let m = motion-codes (r .read-motion .result) (s .buf .now) (s .t2) (r .read-motion .ensures) (c .before .before .before .before .before .before .enum-told3 .given .1) in
     (r .before .before .pre .0, r .before .before .pre .1, m .0, m .1)
 
 returns : tie.Need-returns
-unfolding behindDelay
-returns c = then-short _ _ _ (c .before .before .read-motion .ensures) (c .enum-told .given .1)
+returns c = motion-short (c .before .before .read-motion .result) _ _ (c .before .before .read-motion .ensures) (c .enum-told .given .1)
 
 returns-2 : tie.Need-returns-2
-unfolding behindDelay
-returns-2 c = then-bad _ _ _ (c .before .before .read-motion .ensures) (c .enum-told2 .given .1)
+returns-2 c = motion-bad (c .before .before .read-motion .result) _ _ (c .before .before .read-motion .ensures) (c .enum-told2 .given .1)
 
 returns-3 : tie.Need-returns-3
 returns-3 c =
     let x = c .before .before in
-    motion-cut _ _ _ (x .before .before .before .before .read-motion .ensures) (x .before .before .enum-told3 .given .1)
-    (sym (c .enum-told4 .given .1) ∙ rw (x .before .extra-bit .ensures) at (x .read-extra .ensures))
+    motion-cut (x .before .before .before .before .read-motion .result) _ _ (x .before .before .before .before .read-motion .ensures) (x .before .before .enum-told3 .given .1)
+    (extra-case (c .enum-told4 .given .1) (rw (x .before .extra-bit .ensures) at (x .read-extra .ensures)))
 
 returns-4 : tie.Need-returns-4
 returns-4 c =
     let x = c .before .before .before .before .before in
-    ap Accepted (c .header-of .ensures)
-    ∙ motion-done _ _ _ (x .before .before .before .before .read-motion .ensures) (x .before .before .enum-told3 .given .1) _
-    (sym (c .before .before .before .extra .given .1) ∙ rw (x .before .extra-bit .ensures) at (x .read-extra .ensures))
+    ap value (c .header-of .ensures)
+    ∙ motion-done (x .before .before .before .before .read-motion .result) _ _ (x .before .before .before .before .read-motion .ensures) (x .before .before .enum-told3 .given .1) _
+    (extra-case (c .before .before .before .extra .given .1) (rw (x .before .extra-bit .ensures) at (x .read-extra .ensures)))
 
 pub behind-delay-spec : {M : Type 1} → statement M
 behind-delay-spec =

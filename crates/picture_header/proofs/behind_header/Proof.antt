@@ -1,20 +1,20 @@
 use borrow.Author.Needs.{needs}
-use mathlib.Core.Path.{_≡_, sym, _∙_}
+use mathlib.Core.Path.{_≡_, sym}
 use native.Mathlib.Omega.{arith}
 use Rattle.headers.specs.StartCode.{nextStartCode}
 use Rattle.picture_header.specs.PictureHeader.{pictureHeaderBytes}
-use Rattle.headers.specs.declared.NextStartCode.the-variants.{At}
-use Rattle.headers.proofs.StartCode.{next-found}
+use Rattle.bits.specs.Refusals.{value}
+use Rattle.headers.proofs.StartCode.{next-case, next-found}
 use Rattle.picture_header.proofs.Picture.{behind-missing, behind-part}
 use Rattle.picture_header.proofs.behind_header.Statement.{statement}
 use Rattle.picture_header.proofs.behind_header.Tie as tie
 
 -- where the next start code is
 next : (c : tie.After-known-told) → let a = c .before .before .before .before .before .before .args in
-    nextStartCode (a .buf .now) (pictureHeaderBytes (a .header)) ≡ At (c .before .next .given .0 .0)
+    nextStartCode (a .buf .now) (pictureHeaderBytes (a .header)) ≡ value (c .before .next .given .0 .0)
 next c =
     let n = c .before .before .before in
-    rw (← n .before .byte-length .ensures) (sym (n .next-start-code .ensures) ∙ c .before .next .given .1)
+    rw (← n .before .byte-length .ensures) (sym (next-case (c .before .next .given .1) (n .next-start-code .ensures)))
 
 byte-length-requires : tie.Need-byte-length-requires
 byte-length-requires c κs = search needs
@@ -46,7 +46,7 @@ with-coding-requires c κs = search needs
 returns : tie.Need-returns
 returns c =
     let n = c .before .before in
-    behind-missing _ _ (rw (← n .before .byte-length .ensures) (sym (n .next-start-code .ensures) ∙ c .enum-told .given .1))
+    behind-missing _ _ (rw (← n .before .byte-length .ensures) (next-case (c .enum-told .given .1) (n .next-start-code .ensures)))
 
 returns-2 : tie.Need-returns-2
 returns-2 c = rw (c .with-coding .ensures, c .before .parse .ensures) (behind-part _ _ _ (next (c .before .before .before)))

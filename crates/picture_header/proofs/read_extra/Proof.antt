@@ -4,6 +4,7 @@ use native.Mathlib.Omega.{arith}
 use Prim.Native.Nat.{_+_, _-_, _*_, _<_}
 use lib.ListN.{length}
 use Rattle.bits.specs.Bits.{bitAt}
+use Rattle.bits.proofs.Reading.{bits-case}
 use Rattle.picture_header.proofs.ExtraInformation.{Walk, walk-none, walk-cut, walk-end, walk-more, flag-read, flag-missed}
 use Rattle.picture_header.proofs.read_extra.Statement.{statement}
 use Rattle.picture_header.proofs.read_extra.Tie as tie
@@ -24,7 +25,7 @@ module _ (c : tie.After-known-told Inv-loop μ-loop) where
       (p < 8 * length (a .buf .now)) × (c .before .flag .given .0 .0 ≡ bitAt (a .buf .now) p)
   flag-told =
       flag-read (at-flag .before .before .args .buf .now) _ (at-flag .loop .n) (omega arith) _
-      (sym (c .before .flag .given .1) ∙ c .before .before .before .read-bits .ensures)
+      (bits-case (c .before .flag .given .1) (c .before .before .before .read-bits .ensures))
 
 loop-holds : tie.Need-loop-holds Inv-loop μ-loop
 loop-holds c = walk-none _ _
@@ -59,7 +60,7 @@ returns-2 c =
     let l = r .before .before .before in
     let a = l .before .before .args in
     walk-cut (l .loop .inv)
-    (flag-missed (a .buf .now) (a .first) (l .loop .n) (omega arith) (sym (c .enum-told .given .1) ∙ r .read-bits .ensures))
+    (flag-missed (a .buf .now) (a .first) (l .loop .n) (omega arith) (bits-case (c .enum-told .given .1) (r .read-bits .ensures)))
 
 returns-3 : tie.Need-returns-3 Inv-loop μ-loop
 returns-3 c =

@@ -1,5 +1,4 @@
 use borrow.Author.Needs.{needs}
-use Rattle.picture_header.specs.Picture.{withCoding}
 use Rattle.picture_header.proofs.with_coding.Statement.{statement}
 use Rattle.picture_header.proofs.with_coding.Tie as tie
 
@@ -10,11 +9,9 @@ enum-known-read-2 : tie.Need-enum-known-read-2
 enum-known-read-2 c = search needs
 
 returns : tie.Need-returns
-unfolding withCoding
 returns c = rw (c .before .read .given .1)
 
 returns-2 : tie.Need-returns-2
-unfolding withCoding
 returns-2 c = rw (c .before .read2 .given .1)
 
 pub with-coding-spec : {M : Type 1} → statement M

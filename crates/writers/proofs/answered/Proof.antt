@@ -1,6 +1,4 @@
-use mathlib.Core.Path.{sym, ap}
 use borrow.Author.Needs.{needs}
-use Rattle.headers.specs.Answers.{written}
 use Rattle.writers.proofs.answered.Statement.{statement}
 use Rattle.writers.proofs.answered.Tie as tie
 
@@ -14,13 +12,13 @@ enum-told-2 : tie.Need-enum-told-2
 enum-told-2 c = search needs
 
 returns : tie.Need-returns
-returns c = sym (ap written (c .before .wrote .given .1))
+returns c = rw (c .before .wrote .given .1)
 
 returns-2 : tie.Need-returns-2
-returns-2 c = sym (ap written (c .enum-told .given .1))
+returns-2 c = rw (c .enum-told .given .1)
 
 returns-3 : tie.Need-returns-3
-returns-3 c = sym (ap written (c .enum-told2 .given .1))
+returns-3 c = rw (c .enum-told2 .given .1)
 
 pub answered-spec : {M : Type 1} → statement M
 answered-spec =

@@ -1,8 +1,8 @@
 use borrow.Author.Needs.{needs}
-use mathlib.Core.Path.{sym, _∙_}
 use native.Mathlib.Omega.{arith}
 use Prim.Native.Nat.{_-_}
-use Rattle.bits.proofs.Reading.{found-bound}
+use Rattle.bits.proofs.Reading.{found-bound, bits-case}
+use Rattle.headers.proofs.QuantMatrix.{told-missing, told-there}
 use Rattle.headers.proofs.MatrixLoop.{Reading, reading-none, reading-short, reading-more, reading-end}
 use Rattle.headers.proofs.quant_matrix_extension.read_bytes.Statement.{statement}
 use Rattle.headers.proofs.quant_matrix_extension.read_bytes.Tie as tie
@@ -37,11 +37,11 @@ no-matrix-requires c κs = search needs
 returns : tie.Need-returns Inv-loop μ-loop
 returns c =
     let r = c .before .before .before in
-    rw (c .no-matrix .ensures)
-    (reading-short (r .before .before .loop .inv) (r .before .loop-test .taken) (sym (c .before .enum-told .given .1) ∙ r .read-bits .ensures))
+    told-missing (c .no-matrix .ensures)
+    (reading-short (r .before .before .loop .inv) (r .before .loop-test .taken) (bits-case (c .before .enum-told .given .1) (r .read-bits .ensures)))
 
 cast-byte : tie.Need-cast-byte Inv-loop μ-loop
-cast-byte c = record { fits = found-bound _ _ 8 _ (sym (c .before .read .given .1) ∙ c .before .before .before .read-bits .ensures) }
+cast-byte c = record { fits = found-bound _ _ 8 _ (bits-case (c .before .read .given .1) (c .before .before .before .read-bits .ensures)) }
 
 array-write-bytes : tie.Need-array-write-bytes Inv-loop μ-loop
 array-write-bytes c = omega arith
@@ -55,10 +55,10 @@ loop-less c = omega arith
 loop-again : tie.Need-loop-again Inv-loop μ-loop
 loop-again c =
     let r = c .before .before .before in
-    reading-more (r .before .before .loop .inv) (r .before .loop-test .taken) (sym (c .before .read .given .1) ∙ r .read-bits .ensures)
+    reading-more (r .before .before .loop .inv) (r .before .loop-test .taken) (bits-case (c .before .read .given .1) (r .read-bits .ensures))
 
 returns-2 : tie.Need-returns-2 Inv-loop μ-loop
-returns-2 c = reading-end (c .before .loop .inv) (c .loop-test .left)
+returns-2 c = told-there (reading-end (c .before .loop .inv) (c .loop-test .left))
 
 pub read-bytes-spec : {M : Type 1} → statement M
 read-bytes-spec =

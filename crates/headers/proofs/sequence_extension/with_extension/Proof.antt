@@ -1,13 +1,14 @@
-use mathlib.Core.Path.{_≡_, sym, ap, _∙_}
+use mathlib.Core.Path.{_≡_, refl, sym}
 use Prim.Native.Nat.{_+_, _*_, _≤_}
 use native.Mathlib.Omega.{arith}
 use borrow.Author.Needs.{needs}
 use Rattle.headers.specs.SequenceExtension.{sequenceExtension}
-use Rattle.headers.specs.Sequence.{withExtension, sequenceOf}
+use Rattle.bits.specs.Refusals.{value}
+use Rattle.headers.specs.Sequence.{sequenceOf}
 use Rattle.headers.specs.declared.sequence_header.Mpeg2SequenceHeader.{Mpeg2SequenceHeader}
 use Rattle.headers.specs.declared.sequence_extension.Mpeg2SequenceExtension.{Mpeg2SequenceExtension}
-use Rattle.headers.specs.declared.sequence_extension.SequenceExtensionRead.the-variants.{Parsed as ExtensionParsed}
-use Rattle.headers.proofs.SequenceExtension.{extension-bounds}
+use Rattle.headers.proofs.SequenceExtension.{extension-bounds, extension-case}
+use Rattle.headers.proofs.Sequence.{told-refused}
 use Rattle.headers.proofs.sequence_extension.with_extension.Statement.{statement}
 use Rattle.headers.proofs.sequence_extension.with_extension.Tie as tie
 
@@ -19,8 +20,8 @@ module _ (c : tie.After-read2) where
   abbrev h : Mpeg2SequenceHeader
   h = c .before .before .before .before .args .header
 
-  parsed : ExtensionParsed x ≡ sequenceExtension (c .before .before .before .before .args .buf .now)
-  parsed = sym (c .read2 .given .1) ∙ c .before .before .parse .ensures
+  parsed : value x ≡ sequenceExtension (c .before .before .before .before .args .buf .now)
+  parsed = extension-case (c .read2 .given .1) (c .before .before .parse .ensures)
 
   small : (x .«horizontal_size_extension» * 4096 + h .width ≤ 16383)
       × (x .«vertical_size_extension» * 4096 + h .height ≤ 16383)
@@ -81,16 +82,15 @@ add-vbv-buffer-size : tie.Need-add-vbv-buffer-size
 add-vbv-buffer-size c = search needs
 
 returns : tie.Need-returns
-unfolding withExtension
 returns c =
     let k = c .before .before in
-    c .refused .ensures ∙ ap (withExtension (k .before .before .before .before .args .header)) (sym (k .read .given .1) ∙ k .before .before .parse .ensures)
+    told-refused (c .refused .result) (k .read .given .0 .0) (c .refused .ensures) (rw (← extension-case (k .read .given .1) (k .before .before .parse .ensures)))
 
 returns-2 : tie.Need-returns-2
-unfolding withExtension sequenceOf
+unfolding sequenceOf
 returns-2 c =
     let k = c .before .before .before .before .before .before .before .before .before in
-    ap (withExtension (h k)) (parsed k)
+    rw (← parsed k) (refl, refl)
 
 pub with-extension-spec : {M : Type 1} → statement M
 with-extension-spec =

@@ -1,4 +1,4 @@
-use Rattle.hipokuta.proofs.Patching.{done, refused}
+use Rattle.hipokuta.proofs.Patching.{done, none}
 use borrow.Author.Needs.{needs}
 use Rattle.hipokuta.proofs.patch.vbv_patch_delay.Statement.{statement}
 use Rattle.hipokuta.proofs.patch.vbv_patch_delay.Tie as tie
@@ -9,14 +9,8 @@ patch-vbv-delay-requires c κs = search needs
 enum-told : tie.Need-enum-told
 enum-told c = search needs
 
-enum-known-error : tie.Need-enum-known-error
-enum-known-error c = search needs
-
-number-requires : tie.Need-number-requires
-number-requires c κs = search needs
-
-cast-result : tie.Need-cast-result
-cast-result c = search needs
+enum-told-2 : tie.Need-enum-told-2
+enum-told-2 c = search needs
 
 same-length : tie.Need-same-length
 same-length c = search needs
@@ -31,8 +25,8 @@ same-length-2 c = search needs
 
 returns-2 : tie.Need-returns-2
 returns-2 c =
-    let p = c .before .before .before .before .before .before in
-    (refused (p .patch-vbv-delay .ensures .0) (c .before .before .error .given .1) (c .number .ensures), p .patch-vbv-delay .ensures .1)
+    let p = c .before .before .before .before in
+    (none (p .patch-vbv-delay .ensures .0) (c .enum-told2 .given .1), p .patch-vbv-delay .ensures .1)
 
 pub vbv-patch-delay-spec : {M : Type 1} → statement M
 vbv-patch-delay-spec =
@@ -40,9 +34,7 @@ vbv-patch-delay-spec =
     (tie.spec
     patch-vbv-delay-requires
     enum-told
-    enum-known-error
-    number-requires
-    cast-result
+    enum-told-2
     same-length
     returns
     same-length-2

@@ -1,8 +1,8 @@
 use borrow.Author.Needs.{needs}
 use mathlib.Core.Path.{_∙_}
 use Rattle.bits.proofs.Reading.{header-done}
-use Rattle.picture_header.specs.PictureHeader.{pictureStartCode, pictureFields, pictureHeader}
-use Rattle.picture_header.proofs.PictureHeader.{then-short, then-bad, header-behind}
+use Rattle.picture_header.specs.PictureHeader.{pictureStartCode, pictureFields}
+use Rattle.picture_header.proofs.PictureHeader.{header-short, header-bad, header-behind}
 use Rattle.picture_header.proofs.Mpeg2PictureHeader.parse.Statement.{statement}
 use Rattle.picture_header.proofs.Mpeg2PictureHeader.parse.Tie as tie
 
@@ -23,21 +23,19 @@ enum-told-3 c = search needs
 
 behind-delay-requires : tie.Need-behind-delay-requires
 behind-delay-requires c κs =
-    let d = header-done _ pictureStartCode pictureFields _ (c .before .before .before .read-header .ensures) (c .before .enum-told3 .given .1) in
+    let d = header-done (c .before .before .before .read-header .result) pictureStartCode pictureFields (c .before .before .before .before .before .before .args .buf .now) (c .before .before .before .read-header .ensures .0) (c .before .enum-told3 .given .1) in
     (d .high 0, d .high 2)
 
 returns : tie.Need-returns
-unfolding pictureHeader
-returns c = then-short _ _ _ (c .before .before .read-header .ensures) (c .enum-told .given .1)
+returns c = header-short (c .before .before .read-header .result) _ (c .before .before .read-header .ensures .0) (c .enum-told .given .1)
 
 returns-2 : tie.Need-returns-2
-unfolding pictureHeader
-returns-2 c = then-bad _ _ _ (c .before .before .read-header .ensures) (c .enum-told2 .given .1)
+returns-2 c = header-bad (c .before .before .read-header .result) _ (c .before .before .read-header .ensures .0) (c .enum-told2 .given .1)
 
 returns-3 : tie.Need-returns-3
 returns-3 c =
     c .behind-delay .ensures
-    ∙ header-behind _ _ (c .before .before .before .before .read-header .ensures) (c .before .before .enum-told3 .given .1)
+    ∙ header-behind (c .before .before .before .before .read-header .result) _ (c .before .before .before .before .read-header .ensures .0) (c .before .before .enum-told3 .given .1)
 
 pub parse-spec : {M : Type 1} → statement M
 parse-spec =

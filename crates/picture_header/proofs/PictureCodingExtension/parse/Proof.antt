@@ -2,6 +2,7 @@ use borrow.Author.Needs.{needs}
 use mathlib.Core.Path.{_∙_}
 use native.Mathlib.Omega.{arith}
 use Rattle.bits.proofs.Reading.{header-done}
+use Rattle.headers.specs.SequenceExtension.{extensionStartCode}
 use Rattle.picture_header.specs.CodingExtension.{motionCodeFields, motionCodesFit}
 use Rattle.picture_header.proofs.CodingExtension.{coding-short, coding-bad, coding-unfit, coding-fit}
 use Rattle.picture_header.proofs.PictureCodingExtension.parse.Statement.{statement}
@@ -36,24 +37,24 @@ array-read-fit-4 c = search needs
 
 behind-codes-requires : tie.Need-behind-codes-requires
 behind-codes-requires c κs =
-    let d = header-done _ _ motionCodeFields _ (c .before .before .before .before .read-header .ensures) (c .before .before .enum-told3 .given .1) in
+    let d = header-done (c .before .before .before .before .read-header .result) extensionStartCode motionCodeFields (c .before .before .before .before .before .before .before .args .buf .now) (c .before .before .before .before .read-header .ensures .0) (c .before .before .enum-told3 .given .1) in
     omega (arith, d .high 1, d .high 2, d .high 3, d .high 4)
 
 returns : tie.Need-returns
 unfolding motionCodesFit
 returns c =
     c .behind-codes .ensures
-    ∙ coding-fit _ _ (c .before .before .before .before .before .read-header .ensures) (c .before .before .before .enum-told3 .given .1) (c .before .if1 .taken)
+    ∙ coding-fit (c .before .before .before .before .before .read-header .result) _ (c .before .before .before .before .before .read-header .ensures .0) (c .before .before .before .enum-told3 .given .1) (c .before .if1 .taken)
 
 returns-2 : tie.Need-returns-2
-returns-2 c = coding-short _ _ (c .before .before .read-header .ensures) (c .enum-told .given .1)
+returns-2 c = coding-short (c .before .before .read-header .result) _ (c .before .before .read-header .ensures .0) (c .enum-told .given .1)
 
 returns-3 : tie.Need-returns-3
-returns-3 c = coding-bad _ _ (c .before .before .read-header .ensures) (c .enum-told2 .given .1)
+returns-3 c = coding-bad (c .before .before .read-header .result) _ (c .before .before .read-header .ensures .0) (c .enum-told2 .given .1)
 
 returns-4 : tie.Need-returns-4
 unfolding motionCodesFit
-returns-4 c = coding-unfit _ _ (c .before .before .before .before .read-header .ensures) (c .before .before .enum-told3 .given .1) (c .if1 .left)
+returns-4 c = coding-unfit (c .before .before .before .before .read-header .result) _ (c .before .before .before .before .read-header .ensures .0) (c .before .before .enum-told3 .given .1) (c .if1 .left)
 
 pub parse-spec : {M : Type 1} → statement M
 parse-spec =

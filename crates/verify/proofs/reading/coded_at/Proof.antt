@@ -1,5 +1,4 @@
-use Rattle.verify.specs.Coded.{codedOf}
-use Rattle.verify.specs.Walk.{codedAt, codedBy}
+use Rattle.verify.specs.Coded.{codedOf, codedAt}
 use Rattle.bits.proofs.Reading.{rest-is}
 use borrow.Author.Needs.{needs}
 use Rattle.verify.proofs.reading.coded_at.Statement.{statement}
@@ -33,11 +32,11 @@ enum-known-error : tie.Need-enum-known-error
 enum-known-error c = search needs
 
 returns : tie.Need-returns
-unfolding codedAt codedBy codedOf
+unfolding codedAt codedOf
 returns c = rw (← rest-is _ _, ← c .before .before .before .told-at .ensures, c .before .vbv-delay .given .1)
 
 returns-2 : tie.Need-returns-2
-unfolding codedAt codedBy
+unfolding codedAt
 returns-2 c = rw (← rest-is _ _, ← c .before .before .before .told-at .ensures, c .before .error .given .1)
 
 pub coded-at-spec : {M : Type 1} → statement M

@@ -1,4 +1,4 @@
-use Rattle.verify.specs.Sequence.{declaredBy, ifParsed}
+use Rattle.verify.specs.Sequence.{declaredBy}
 use borrow.Author.Needs.{needs}
 use Rattle.verify.proofs.reading.declared_at.Statement.{statement}
 use Rattle.verify.proofs.reading.declared_at.Tie as tie
@@ -46,20 +46,20 @@ enum-known-answer-2 : tie.Need-enum-known-answer-2
 enum-known-answer-2 c = search needs
 
 returns : tie.Need-returns
-unfolding declaredBy ifParsed
-returns c = rw (c .before .before .before .before .before .before .before .enum-told .given .1, ← c .before .before .before .before .before .before .parse .ensures, c .before .before .before .before .enum-told2 .given .1) (c .rated-by .ensures)
+unfolding declaredBy
+returns c = rw (c .before .before .before .before .before .before .before .enum-told .given .1, ← c .before .before .before .before .before .before .parse .ensures .0, c .before .before .before .before .enum-told2 .given .1) (c .rated-by .ensures)
 
 returns-2 : tie.Need-returns-2
-unfolding declaredBy ifParsed
-returns-2 c = rw (c .before .before .before .before .enum-told .given .1, ← c .before .before .before .parse .ensures, c .before .answer .given .1)
+unfolding declaredBy
+returns-2 c = rw (c .before .before .before .before .enum-told .given .1, ← c .before .before .before .parse .ensures .0, c .before .answer .given .1)
 
 returns-3 : tie.Need-returns-3
-unfolding declaredBy ifParsed
-returns-3 c = rw (c .before .before .before .before .before .before .before .before .enum-told3 .given .1, ← c .before .before .before .before .before .before .before .from-buf .ensures, c .before .before .before .before .before .enum-told4 .given .1) (c .rated-by2 .ensures)
+unfolding declaredBy
+returns-3 c = rw (c .before .before .before .before .before .before .before .before .enum-told3 .given .1, ← c .before .before .before .before .before .before .before .from-buf .ensures .0, c .before .before .before .before .before .enum-told4 .given .1) (c .rated-by2 .ensures)
 
 returns-4 : tie.Need-returns-4
-unfolding declaredBy ifParsed
-returns-4 c = rw (c .before .before .before .before .enum-told3 .given .1, ← c .before .before .before .from-buf .ensures, c .before .answer2 .given .1)
+unfolding declaredBy
+returns-4 c = rw (c .before .before .before .before .enum-told3 .given .1, ← c .before .before .before .from-buf .ensures .0, c .before .answer2 .given .1)
 
 pub declared-at-spec : {M : Type 1} → statement M
 declared-at-spec =

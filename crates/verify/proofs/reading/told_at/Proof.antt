@@ -1,4 +1,4 @@
-use Rattle.verify.specs.Coded.{told, toldByHeader, toldByPicture}
+use Rattle.verify.specs.Coded.{told}
 use borrow.Author.Needs.{needs}
 use Rattle.verify.proofs.reading.told_at.Statement.{statement}
 use Rattle.verify.proofs.reading.told_at.Tie as tie
@@ -31,19 +31,19 @@ enum-known-error-2 : tie.Need-enum-known-error-2
 enum-known-error-2 c = search needs
 
 returns : tie.Need-returns
-unfolding told toldByHeader
+unfolding told
 returns c = rw (c .before .before .before .before .enum-told .given .1, ← c .before .before .before .parse .ensures, c .before .header .given .1)
 
 returns-2 : tie.Need-returns-2
-unfolding told toldByHeader
+unfolding told
 returns-2 c = rw (c .before .before .before .before .enum-told .given .1, ← c .before .before .before .parse .ensures, c .before .error .given .1)
 
 returns-3 : tie.Need-returns-3
-unfolding told toldByPicture
+unfolding told
 returns-3 c = rw (c .before .before .before .before .before .enum-told2 .given .1, ← c .before .before .before .before .parse-with-extension .ensures, c .before .before .header2 .given .1, c .interval .ensures)
 
 returns-4 : tie.Need-returns-4
-unfolding told toldByPicture
+unfolding told
 returns-4 c = rw (c .before .before .before .before .enum-told2 .given .1, ← c .before .before .before .parse-with-extension .ensures, c .before .error2 .given .1)
 
 pub told-at-spec : {M : Type 1} → statement M

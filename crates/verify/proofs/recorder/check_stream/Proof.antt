@@ -31,7 +31,7 @@ returns-2 : tie.Need-returns-2
 returns-2 c = checked-undeclared _ _ _ (omega arith) (c .before .error .given .1) (c .before .before .before .declared-params .ensures)
 
 returns-3 : tie.Need-returns-3
-returns-3 c = ap verifiedAnswer (c .judge .ensures) ∙ rw (c .before .before .walk .ensures .0) (checked-declared _ _ _ (omega arith) (c .before .before .before .before .before .params .given .1) (c .before .before .before .before .before .before .before .declared-params .ensures))
+returns-3 c = ap verifiedAnswer (c .judge .ensures) ∙ checked-declared _ _ _ (omega arith) (c .before .before .before .before .before .params .given .1) (c .before .before .before .before .before .before .before .declared-params .ensures) (c .before .before .walk .result) (c .before .before .walk .ensures .0)
 
 pub check-stream-spec : {M : Type 1} → statement M
 check-stream-spec =

@@ -1,5 +1,4 @@
 use native.Mathlib.Omega.{arith}
-use mathlib.Core.Path.{_∙_}
 use Rattle.verify.proofs.Verdict.{range-refused, undeclared, refused-answer, reported-answer}
 use borrow.Author.Needs.{needs}
 use Rattle.verify.proofs.report.verify_cbr_stream.Statement.{statement}
@@ -43,7 +42,7 @@ returns-3 c =
     let k = c .before .before .before .before .before .before in
     let w = k .before .before .before in
     reported-answer _ _ _ (omega arith) (w .before .before .before .params .given .1) (w .before .before .before .before .before .declared-params .ensures)
-    (k .judge .ensures ∙ rw (w .walk .ensures .0)) (w .walk .ensures .1) _ (c .before .before .before .before .enum-told .given .1) (c .before .before .walk2 .ensures .1)
+    (w .walk .result) (w .walk .ensures .0) (k .judge .ensures) (w .walk .ensures .1) _ (c .before .before .before .before .enum-told .given .1) (c .before .before .walk2 .ensures .1)
 
 same-length-2 : tie.Need-same-length-2
 same-length-2 c = search needs
@@ -53,7 +52,7 @@ returns-4 c =
     let k = c .before .before in
     let w = k .before .before .before in
     refused-answer _ _ _ (omega arith) (w .before .before .before .params .given .1) (w .before .before .before .before .before .declared-params .ensures)
-    (k .judge .ensures ∙ rw (w .walk .ensures .0)) (w .walk .ensures .1) _ (c .enum-told2 .given .1)
+    (w .walk .result) (w .walk .ensures .0) (k .judge .ensures) (w .walk .ensures .1) _ (c .enum-told2 .given .1)
 
 pub verify-cbr-stream-spec : {M : Type 1} → statement M
 verify-cbr-stream-spec =

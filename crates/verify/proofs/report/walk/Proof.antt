@@ -6,6 +6,7 @@ use borrow.Author.Needs.{needs}
 use Rattle.scan.specs.declared.Next.the-variants.{Picture}
 use Rattle.scan.specs.Walk.{nextPicture}
 use Rattle.scan.proofs.Pictures.{Walked, walked}
+use Rattle.verify.proofs.Fold.{coded-case}
 use Rattle.verify.proofs.Walking.{Walking, walking-none, walking-done, walking-unread, walking-more}
 use Rattle.verify.proofs.report.walk.Statement.{statement}
 use Rattle.verify.proofs.report.walk.Tie as tie
@@ -54,7 +55,7 @@ same-length-2 : tie.Need-same-length-2 Inv-loop μ-loop
 same-length-2 c = search needs
 
 returns-2 : tie.Need-returns-2 Inv-loop μ-loop
-returns-2 c = walking-unread (c .before .before .before .before .before .before .before .before .loop .inv) _ _ _ (step (c .before .before .before .before)) _ (sym (c .before .before .before .coded-at .ensures) ∙ c .before .error .given .1)
+returns-2 c = walking-unread (c .before .before .before .before .before .before .before .before .loop .inv) _ _ _ (step (c .before .before .before .before)) _ (coded-case (c .before .error .given .1) (c .before .before .before .coded-at .ensures))
 
 enum-known-coded : tie.Need-enum-known-coded Inv-loop μ-loop
 enum-known-coded c = search needs
@@ -72,7 +73,7 @@ loop-less : tie.Need-loop-less Inv-loop μ-loop
 loop-less c = omega (arith, met (c .before .before .before .before .before .before .before .before .before))
 
 loop-again : tie.Need-loop-again Inv-loop μ-loop
-loop-again c = walking-more (c .before .before .before .before .before .before .before .before .before .before .before .before .before .loop .inv) _ _ _ (step (c .before .before .before .before .before .before .before .before .before)) _ (sym (c .before .before .before .before .before .before .before .before .coded-at .ensures) ∙ c .before .before .before .before .before .before .coded .given .1) (c .before .before .before .before .advance .ensures) (c .before .before .put-last .ensures)
+loop-again c = walking-more (c .before .before .before .before .before .before .before .before .before .before .before .before .before .loop .inv) _ _ _ (step (c .before .before .before .before .before .before .before .before .before)) _ (coded-case (c .before .before .before .before .before .before .coded .given .1) (c .before .before .before .before .before .before .before .before .coded-at .ensures)) (c .before .before .before .before .advance .ensures) (c .before .before .put-last .ensures)
 
 pub walk-spec : {M : Type 1} → statement M
 walk-spec =

@@ -10,11 +10,11 @@ returns c = rate-low _ (omega arith)
 returns-2 : tie.Need-returns-2
 returns-2 c = rate-high _ (omega arith)
 
-array-read-t9 : tie.Need-array-read-t9
-array-read-t9 c = search needs
+array-read-t7 : tie.Need-array-read-t7
+array-read-t7 c = search needs
 
 returns-3 : tie.Need-returns-3
 returns-3 c = rate-is _ (omega arith) (omega arith)
 
 pub nominal-pictures-per-second-spec : {M : Type 1} → statement M
-nominal-pictures-per-second-spec = tie.close (tie.spec returns returns-2 array-read-t9 returns-3)
+nominal-pictures-per-second-spec = tie.close (tie.spec returns returns-2 array-read-t7 returns-3)

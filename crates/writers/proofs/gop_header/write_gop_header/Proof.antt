@@ -1,4 +1,5 @@
 use borrow.Author.Needs.{needs}
+use mathlib.Core.Path.{_∙_}
 use Rattle.writers.proofs.gop_header.write_gop_header.Statement.{statement}
 use Rattle.writers.proofs.gop_header.write_gop_header.Tie as tie
 
@@ -24,7 +25,7 @@ returns : tie.Need-returns
 returns c =
     let e = c .before .before .before .before .before .before .before .group-values .ensures in
     let w = c .before .before .before .write-header .ensures in
-    (rw (c .answered .ensures, w .0, e), rw (w .1, e))
+    (c .answered .ensures ∙ rw e at (w .0), rw (w .1, e))
 
 pub write-gop-header-spec : {M : Type 1} → statement M
 write-gop-header-spec =

@@ -1,11 +1,10 @@
 use borrow.Author.Needs.{needs}
-use mathlib.Core.Path.{sym, _∙_}
 use native.Mathlib.Omega.{arith}
 use Prim.Native.Nat.{ℕ, _+_}
 use mir.Val.{Fits}
 use mir.Syntax.{w8}
 use lib.ListN.{getD}
-use Rattle.bits.proofs.Checking.{checked-width, checked-misfit}
+use Rattle.bits.proofs.Checking.{checked-case, checked-width, checked-misfit}
 use Rattle.headers.proofs.StreamWriter.{Sized, params-unfit, params-bytes, params-full, params-written}
 use Rattle.writers.proofs.stream_writer.write_sequence_header.Statement.{statement}
 use Rattle.writers.proofs.stream_writer.write_sequence_header.Tie as tie
@@ -14,7 +13,7 @@ use Rattle.writers.proofs.stream_writer.write_sequence_header.Tie as ti
 sized : (c : tie.After-matrix-bytes2) → Sized (c .before .before .before .before .before .before .before .before .before .before .before .args .p) (12 + c .before .matrix-bytes .result + c .matrix-bytes2 .result)
 sized c =
     let p = c .before .before .before .before .before .before .before .before .before .before .before .args .p in
-    let told = sym (c .before .before .before .before .enum-told .given .1) ∙ c .before .before .before .before .before .before .check-fields .ensures in
+    let told = checked-case (c .before .before .before .before .enum-told .given .1) (c .before .before .before .before .before .before .check-fields .ensures) in
     let i : (k : ℕ) → Fits w8 (getD (p .«intra_quantiser_matrix» .bytes) k 0) = λ k. search needs in
     let n : (k : ℕ) → Fits w8 (getD (p .«non_intra_quantiser_matrix» .bytes) k 0) = λ k. search needs in
     record {
@@ -44,7 +43,7 @@ enum-told-2 c = search needs
 
 returns : tie.Need-returns
 returns c =
-    let told = sym (c .enum-told2 .given .1) ∙ c .before .before .check-fields .ensures in
+    let told = checked-case (c .enum-told2 .given .1) (c .before .before .check-fields .ensures) in
     params-unfit _ _ (rw (c .before .before .before .before .before .base-values .ensures) at (checked-misfit _ _ told))
 
 matrix-bytes-requires : tie.Need-matrix-bytes-requires

@@ -1,14 +1,15 @@
-use mathlib.Core.Path.{sym, _∙_}
+use mathlib.Core.Path.{sym}
 use native.Mathlib.Omega.{arith}
 use borrow.Author.Needs.{needs}
-use Rattle.headers.proofs.StartCode.{Found, next-found}
-use Rattle.headers.proofs.Sequence.{sequence-refused, header-bounds, sequence-missing, sequence-at}
+use Rattle.headers.specs.declared.Error.the-variants.{InvalidBitstream}
+use Rattle.headers.proofs.StartCode.{Found, next-found, next-case}
+use Rattle.headers.proofs.Sequence.{told-refused, header-case, sequence-refused, header-bounds, sequence-missing, sequence-at}
 use Rattle.headers.proofs.sequence_extension.Mpeg2Sequence.from_buf.Statement.{statement}
 use Rattle.headers.proofs.sequence_extension.Mpeg2Sequence.from_buf.Tie as tie
 
 found : (c : tie.After-next)
     → Found (c .before .before .before .before .before .before .before .before .before .args .buf .now) (c .before .before .before .sequence-header-byte-length .result) (c .next .given .0 .0)
-found c = next-found _ _ _ (sym (c .before .before .next-start-code .ensures) ∙ c .next .given .1)
+found c = next-found _ _ _ (sym (next-case (c .next .given .1) (c .before .before .next-start-code .ensures)))
 
 parse-requires : tie.Need-parse-requires
 parse-requires c κs = search needs
@@ -49,25 +50,27 @@ part-with-extension-end c = search needs
 with-extension-requires : tie.Need-with-extension-requires
 with-extension-requires c κs =
     let k = c .before .before .before .before in
-    let b = header-bounds _ _ (k .before .before .before .before .before .parse .ensures) (k .before .before .before .enum-told .given .1) in
+    let b = header-bounds _ _ (header-case _ (k .before .before .before .enum-told .given .1) (k .before .before .before .before .before .parse .ensures .0)) in
     (b .width-high, b .height-high, b .rate-high)
 
 returns : tie.Need-returns
-returns c = c .refused .ensures ∙ sequence-refused _ _ (c .before .before .before .before .parse .ensures) _ (c .before .before .answer .given .1)
+returns c =
+    told-refused (c .refused .result) (c .before .before .answer .given .0 .0) (c .refused .ensures)
+    (sequence-refused _ (header-case _ (c .before .before .answer .given .1) (c .before .before .before .before .parse .ensures .0)))
 
 returns-2 : tie.Need-returns-2
 returns-2 c =
     let k = c .before .before .before in
-    c .refused2 .ensures
-    ∙ sequence-missing _ _ (k .before .before .before .before .before .parse .ensures) (k .before .before .before .enum-told .given .1) _ (k .before .sequence-header-byte-length .ensures)
-    (sym (c .before .enum-told2 .given .1) ∙ k .next-start-code .ensures)
+    told-refused (c .refused2 .result) InvalidBitstream (c .refused2 .ensures)
+    (sequence-missing _ _ (header-case _ (k .before .before .before .enum-told .given .1) (k .before .before .before .before .before .parse .ensures .0))
+    _ (k .before .sequence-header-byte-length .ensures) (next-case (c .before .enum-told2 .given .1) (k .next-start-code .ensures)))
 
 returns-3 : tie.Need-returns-3
 returns-3 c =
     let k = c .before .before .before .before .before in
-    c .with-extension .ensures
-    ∙ sequence-at _ _ (k .before .before .before .before .before .parse .ensures) (k .before .before .before .enum-told .given .1) _ (k .before .sequence-header-byte-length .ensures)
-    _ (sym (c .before .before .before .next .given .1) ∙ k .next-start-code .ensures)
+    rw (sequence-at _ _ (header-case _ (k .before .before .before .enum-told .given .1) (k .before .before .before .before .before .parse .ensures .0))
+    _ (k .before .sequence-header-byte-length .ensures) _ (next-case (c .before .before .before .next .given .1) (k .next-start-code .ensures)))
+    (c .with-extension .ensures)
 
 pub from-buf-spec : {M : Type 1} → statement M
 from-buf-spec =

@@ -1,22 +1,24 @@
-use mathlib.Core.Path.{_≡_, sym, ap, _∙_}
+use mathlib.Core.Path.{_≡_, ap, _∙_}
 use native.Mathlib.Omega.{arith}
 use borrow.Author.Needs.{needs}
-use Rattle.bits.specs.Fields.{Parsed, readHeader}
-use Rattle.bits.specs.Answers.{fieldsAnswer}
+use Prim.Native.Nat.{ℕ}
+use mathlib.Core.List.{List}
+use Rattle.bits.specs.Refusals.{Answer, value}
+use Rattle.bits.specs.Fields.{readHeader}
+use Rattle.bits.specs.Answers.{placed, fieldsAnswer}
 use Rattle.bits.proofs.Reading.{answer-short, answer-bad, header-done, Read}
-use Rattle.headers.specs.SequenceExtension.{extensionStartCode, sequenceExtensionFields, sequenceExtension, extensionRead, extensionOf}
-use Rattle.headers.specs.declared.sequence_extension.SequenceExtensionRead.the-variants.{Parsed as Accepted}
+use Rattle.headers.specs.SequenceExtension.{extensionStartCode, sequenceExtensionFields, sequenceExtension, extensionOf}
 use Rattle.headers.proofs.SequenceExtension.{extension-places}
 use Rattle.headers.proofs.sequence_extension.Mpeg2SequenceExtension.parse.Statement.{statement}
 use Rattle.headers.proofs.sequence_extension.Mpeg2SequenceExtension.parse.Tie as tie
 
 -- the code's table is the definition's
 module _ (c : tie.After-read-header) where
-  abbrev header : Parsed
+  abbrev header : Answer (List ℕ)
   header = readHeader extensionStartCode sequenceExtensionFields (c .before .before .before .args .buf .now)
 
-  answered : c .read-header .result ≡ fieldsAnswer header
-  answered = c .read-header .ensures
+  answered : fieldsAnswer (c .read-header .result) ≡ placed header
+  answered = c .read-header .ensures .0
 
 -- the values where it is Done
 read : (c : tie.After-v) → Read sequenceExtensionFields (header (c .before .before .before)) (c .before .before .before .read-header .result)
@@ -92,19 +94,18 @@ cast-frame-rate-extension-d : tie.Need-cast-frame-rate-extension-d
 cast-frame-rate-extension-d c = omega (arith, read (c .before) .high 11)
 
 returns : tie.Need-returns
-unfolding sequenceExtension extensionRead
-returns c = sym (ap extensionRead (answer-short _ _ (answered (c .before .before)) (c .enum-told .given .1)))
+unfolding sequenceExtension
+returns c = rw (answer-short (c .before .before .read-header .result) (header (c .before .before)) (answered (c .before .before)) (c .enum-told .given .1))
 
 returns-2 : tie.Need-returns-2
-unfolding sequenceExtension extensionRead
-returns-2 c = sym (ap extensionRead (answer-bad _ _ (answered (c .before .before)) (c .enum-told2 .given .1)))
+unfolding sequenceExtension
+returns-2 c = rw (answer-bad (c .before .before .read-header .result) (header (c .before .before)) (answered (c .before .before)) (c .enum-told2 .given .1))
 
 returns-3 : tie.Need-returns-3
-unfolding sequenceExtension extensionRead extensionOf
+unfolding sequenceExtension extensionOf
 returns-3 c =
     let d = read (c .before) in
-    rw (c .chroma-format-of .ensures)
-    (ap Accepted (ap extensionOf (d .values) ∙ extension-places (d .vs)) ∙ ap extensionRead (sym (d .parsed)))
+    rw (c .chroma-format-of .ensures, d .parsed) (ap value (ap extensionOf (d .values) ∙ extension-places (d .vs)))
 
 pub parse-spec : {M : Type 1} → statement M
 parse-spec =

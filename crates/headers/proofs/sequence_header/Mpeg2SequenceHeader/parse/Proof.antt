@@ -1,18 +1,19 @@
 use borrow.Author.Needs.{needs}
-use mathlib.Core.Path.{_≡_, sym, _∙_}
+use mathlib.Core.Path.{_≡_}
 use native.Mathlib.Omega.{arith}
-use Rattle.bits.specs.Answers.{fieldsAnswer}
+use Rattle.bits.specs.Answers.{placed, fieldsAnswer}
 use Rattle.bits.specs.declared.Outcome.the-variants.{Done}
 use Rattle.bits.proofs.Reading.{Read, answer-short, answer-bad, header-done}
 use Rattle.headers.specs.SequenceHeader.{sequenceHeaderCode, sequenceHeaderFields}
-use Rattle.headers.proofs.SequenceHeader.{fixedFields, header-short, header-bad, matrices-cut, matrices-there}
+use Rattle.headers.specs.declared.Error.the-variants.{ShortHeader, InvalidBitstream}
+use Rattle.headers.proofs.SequenceHeader.{fixedFields, told-refused, fields-refused, matrices-cut, matrices-there}
 use Rattle.headers.proofs.sequence_header.Mpeg2SequenceHeader.parse.Statement.{statement}
 use Rattle.headers.proofs.sequence_header.Mpeg2SequenceHeader.parse.Tie as tie
 
 -- what read_header says: the byte string is the definition's table
 module _ (c : tie.After-read-header) where
-  answer : c .read-header .result ≡ fieldsAnswer (fixedFields (c .before .before .before .args .buf .now))
-  answer = c .read-header .ensures
+  answer : fieldsAnswer (c .read-header .result) ≡ placed (fixedFields (c .before .before .before .args .buf .now))
+  answer = c .read-header .ensures .0
 
   done : c .read-header .result .outcome ≡ Done → Read sequenceHeaderFields (fixedFields (c .before .before .before .args .buf .now)) (c .read-header .result)
   done o = header-done _ sequenceHeaderCode sequenceHeaderFields _ answer o
@@ -92,26 +93,26 @@ refused-requires-3 : tie.Need-refused-requires-3
 refused-requires-3 c κs = search needs
 
 returns : tie.Need-returns
-returns c = c .refused .ensures ∙ sym (header-short _ (answer-short _ _ (answer (c .before .before .before)) (c .before .enum-told .given .1)))
+returns c = told-refused (c .refused .result) ShortHeader (c .refused .ensures) (fields-refused _ (answer-short _ _ (answer (c .before .before .before)) (c .before .enum-told .given .1)))
 
 returns-2 : tie.Need-returns-2
-returns-2 c = c .refused2 .ensures ∙ sym (header-bad _ (answer-bad _ _ (answer (c .before .before .before)) (c .before .enum-told2 .given .1)))
+returns-2 c = told-refused (c .refused2 .result) InvalidBitstream (c .refused2 .ensures) (fields-refused _ (answer-bad _ _ (answer (c .before .before .before)) (c .before .enum-told2 .given .1)))
 
 returns-3 : tie.Need-returns-3
 returns-3 c =
     let n = c .before .before .before .before .before .before in
     let r = read-at (n .before .before .before .before) in
     simp (c .aspect-ratio-of .ensures, r .same)
-    (matrices-there _ _ (r .parsed) _ _ (n .before .before .before .read-matrix .ensures) (n .read-matrix2 .ensures ∙ rw (n .before .behind .ensures))
+    (matrices-there _ _ (r .parsed) (n .before .before .before .read-matrix .result) (n .read-matrix2 .result) (n .before .before .before .read-matrix .ensures .0) (rw (n .before .behind .ensures) at (n .read-matrix2 .ensures .0))
     (c .before .before .if1 .taken))
 
 returns-4 : tie.Need-returns-4
 returns-4 c =
     let n = c .before .before .before .before .before in
     let r = read-at (n .before .before .before .before) in
-    c .refused3 .ensures
-    ∙ matrices-cut _ _ (r .parsed) _ _ (n .before .before .before .read-matrix .ensures) (n .read-matrix2 .ensures ∙ rw (n .before .behind .ensures))
-    (c .before .if1 .left)
+    told-refused (c .refused3 .result) ShortHeader (c .refused3 .ensures)
+    (matrices-cut _ _ (r .parsed) (n .before .before .before .read-matrix .result) (n .read-matrix2 .result) (n .before .before .before .read-matrix .ensures .0) (rw (n .before .behind .ensures) at (n .read-matrix2 .ensures .0))
+    (c .before .if1 .left))
 
 pub parse-spec : {M : Type 1} → statement M
 parse-spec =

@@ -1,6 +1,7 @@
 use mathlib.Core.Path.{sym, _∙_}
 use native.Mathlib.Omega.{arith}
 use Rattle.scan.proofs.Pictures.{walked}
+use Rattle.verify.proofs.Fold.{coded-case}
 use Rattle.verify.proofs.Recording.{next-long, next-done, next-unread, next-read}
 use borrow.Author.Needs.{needs}
 use Rattle.verify.proofs.recorder.VbvRecorder.next_record.Statement.{statement}
@@ -46,10 +47,10 @@ returns-2 : tie.Need-returns-2
 returns-2 c = c .stay2 .ensures ∙ next-done _ _ (omega arith) (sym (c .before .before .before .next-picture .ensures) ∙ c .before .enum-told .given .1)
 
 returns-3 : tie.Need-returns-3
-returns-3 c = c .stay3 .ensures ∙ next-unread _ _ (omega arith) _ _ _ (sym (c .before .before .before .before .before .before .before .next-picture .ensures) ∙ c .before .before .before .before .before .at .given .1) _ (sym (c .before .before .before .coded-at .ensures) ∙ c .before .enum-told2 .given .1)
+returns-3 c = c .stay3 .ensures ∙ next-unread _ _ (omega arith) _ _ _ (sym (c .before .before .before .before .before .before .before .next-picture .ensures) ∙ c .before .before .before .before .before .at .given .1) _ (coded-case (c .before .enum-told2 .given .1) (c .before .before .before .coded-at .ensures))
 
 returns-4 : tie.Need-returns-4
-returns-4 c = c .go-on .ensures ∙ rw (c .before .advance .ensures) (next-read _ _ (omega arith) _ _ _ (sym (c .before .before .before .before .before .before .before .before .before .before .next-picture .ensures) ∙ c .before .before .before .before .before .before .before .before .at .given .1) _ (sym (c .before .before .before .before .before .before .coded-at .ensures) ∙ c .before .before .before .before .coded .given .1))
+returns-4 c = c .go-on .ensures ∙ rw (c .before .advance .ensures) (next-read _ _ (omega arith) _ _ _ (sym (c .before .before .before .before .before .before .before .before .before .before .next-picture .ensures) ∙ c .before .before .before .before .before .before .before .before .at .given .1) _ (coded-case (c .before .before .before .before .coded .given .1) (c .before .before .before .before .before .before .coded-at .ensures)))
 
 pub next-record-spec : {M : Type 1} → statement M
 next-record-spec =

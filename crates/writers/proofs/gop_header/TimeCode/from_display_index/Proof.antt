@@ -1,25 +1,25 @@
 use borrow.Author.Needs.{needs}
-use mathlib.Core.Path.{_≡_, sym, _∙_}
+use mathlib.Core.Path.{_≡_}
 use native.Mathlib.Nat.{mod-lt}
 use native.Mathlib.Omega.{arith}
+use Rattle.bits.specs.Refusals.{value}
 use Rattle.writers.specs.GopHeader.{nominalRate, timeCode}
-use Rattle.writers.specs.declared.gop_header.NominalRate.the-variants.{PicturesPerSecond}
-use Rattle.writers.proofs.GopHeader.{rate-bound, code-at, no-code}
+use Rattle.writers.proofs.GopHeader.{nominal-case, rate-bound, code-at, no-code}
 use Rattle.writers.proofs.gop_header.TimeCode.from_display_index.Statement.{statement}
 use Rattle.writers.proofs.gop_header.TimeCode.from_display_index.Tie as tie
 
 -- the rate that was found
-rate : (c : tie.After-known-told2) → PicturesPerSecond (c .before .rate2 .given .0 .0) ≡ nominalRate (c .before .before .before .before .args .picture-rate-code)
-rate c = sym (c .before .rate2 .given .1) ∙ c .before .before .before .nominal-pictures-per-second .ensures
+rate : (c : tie.After-known-told) → value (c .before .rate .given .0 .0) ≡ nominalRate (c .before .before .before .before .args .picture-rate-code)
+rate c = nominal-case (c .before .rate .given .1) (c .before .before .before .nominal-pictures-per-second .ensures)
 
 nominal-pictures-per-second-requires : tie.Need-nominal-pictures-per-second-requires
 nominal-pictures-per-second-requires c κs = search needs
 
+enum-told : tie.Need-enum-told
+enum-told c = search needs
+
 enum-known-rate : tie.Need-enum-known-rate
 enum-known-rate c = search needs
-
-enum-known-rate-2 : tie.Need-enum-known-rate-2
-enum-known-rate-2 c = search needs
 
 cast-fps : tie.Need-cast-fps
 cast-fps c = search needs
@@ -45,19 +45,19 @@ cast-pictures c =
     omega (arith, mod-lt (c .before .before .before .before .args .display-index) (rem-pictures c))
 
 returns : tie.Need-returns
-returns c = no-code _ (sym (c .before .rate .given .1) ∙ c .before .before .before .nominal-pictures-per-second .ensures)
+returns c = no-code _ _ (nominal-case (c .enum-told .given .1) (c .before .before .nominal-pictures-per-second .ensures))
 
 returns-2 : tie.Need-returns-2
 unfolding timeCode
-returns-2 c = code-at _ (rate c)
+returns-2 c = code-at _ _ (rate c)
 
 pub from-display-index-spec : {M : Type 1} → statement M
 from-display-index-spec =
     tie.close
     (tie.spec
     nominal-pictures-per-second-requires
+    enum-told
     enum-known-rate
-    enum-known-rate-2
     cast-fps
     div-total-seconds
     cast-hours

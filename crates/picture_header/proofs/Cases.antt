@@ -1,0 +1,80 @@
+-- No two cases of an answer tell the same number and values: a promise by number says which case it is.
+-- Assumes nothing.
+use mathlib.Core.Path.{_≡_, refl, sym, ap, _∙_}
+use Prim.Native.Nat.{ℕ}
+use lib.Dec.{eqb}
+use Rattle.bits.specs.Bits.{pick}
+use Rattle.bits.specs.Refusals.{Answer, value, refused}
+use Rattle.headers.specs.Answers.{errorNumber}
+use Rattle.headers.specs.declared.Error.{Error}
+use Rattle.headers.specs.declared.Error.the-variants.{ShortHeader, InvalidBitstream, FieldToWrite, ShortOutput}
+use Rattle.picture_header.specs.Answers.{pictureHeaderAnswer, codingAnswer, pictureAnswer, lengthAnswer}
+use Rattle.picture_header.specs.declared.Mpeg2PictureHeader.{Mpeg2PictureHeader}
+use Rattle.picture_header.specs.declared.PictureCodingExtension.{PictureCodingExtension}
+use Rattle.picture_header.specs.declared.PictureHeaderRead.{PictureHeaderRead}
+use Rattle.picture_header.specs.declared.PictureHeaderRead.the-variants as hd
+use Rattle.picture_header.specs.declared.PictureCodingExtensionRead.{PictureCodingExtensionRead}
+use Rattle.picture_header.specs.declared.PictureCodingExtensionRead.the-variants as cx
+use Rattle.picture_header.specs.declared.PictureRead.{PictureRead}
+use Rattle.picture_header.specs.declared.PictureRead.the-variants as pc
+use Rattle.picture_header.specs.declared.HeaderLength.{HeaderLength}
+use Rattle.picture_header.specs.declared.HeaderLength.the-variants as ln
+
+-- back from a number
+errorOf : ℕ → Error
+errorOf n = pick (eqb n 1) ShortHeader (pick (eqb n 2) InvalidBitstream (pick (eqb n 16) FieldToWrite ShortOutput))
+
+error-back : (e : Error) → errorOf (errorNumber e) ≡ e
+unfolding errorOf pick
+error-back ShortHeader = refl
+error-back InvalidBitstream = refl
+error-back FieldToWrite = refl
+error-back ShortOutput = refl
+
+headerOf : Answer Mpeg2PictureHeader → PictureHeaderRead
+headerOf (value h) = hd.Parsed h
+headerOf (refused n p c e) = hd.Refused (errorOf n)
+
+header-back : (r : PictureHeaderRead) → headerOf (pictureHeaderAnswer r) ≡ r
+unfolding headerOf
+header-back (hd.Parsed h) = refl
+header-back (hd.Refused e) = ap hd.Refused (error-back e)
+
+pub one-header : (r q : PictureHeaderRead) → pictureHeaderAnswer r ≡ pictureHeaderAnswer q → r ≡ q
+one-header r q e = sym (header-back r) ∙ ap headerOf e ∙ header-back q
+
+codingOf : Answer PictureCodingExtension → PictureCodingExtensionRead
+codingOf (value x) = cx.Parsed x
+codingOf (refused n p c e) = cx.Refused (errorOf n)
+
+coding-back : (r : PictureCodingExtensionRead) → codingOf (codingAnswer r) ≡ r
+unfolding codingOf
+coding-back (cx.Parsed x) = refl
+coding-back (cx.Refused e) = ap cx.Refused (error-back e)
+
+pub one-coding : (r q : PictureCodingExtensionRead) → codingAnswer r ≡ codingAnswer q → r ≡ q
+one-coding r q e = sym (coding-back r) ∙ ap codingOf e ∙ coding-back q
+
+pictureOf : Answer (Mpeg2PictureHeader × PictureCodingExtension) → PictureRead
+pictureOf (value p) = pc.Parsed (p .0) (p .1)
+pictureOf (refused n p c e) = pc.Refused (errorOf n)
+
+picture-back : (r : PictureRead) → pictureOf (pictureAnswer r) ≡ r
+unfolding pictureOf
+picture-back (pc.Parsed h x) = refl
+picture-back (pc.Refused e) = ap pc.Refused (error-back e)
+
+pub one-picture : (r q : PictureRead) → pictureAnswer r ≡ pictureAnswer q → r ≡ q
+one-picture r q e = sym (picture-back r) ∙ ap pictureOf e ∙ picture-back q
+
+lengthOf : Answer ℕ → HeaderLength
+lengthOf (value n) = ln.Bytes n
+lengthOf (refused n p c e) = ln.Refused (errorOf n)
+
+length-back : (r : HeaderLength) → lengthOf (lengthAnswer r) ≡ r
+unfolding lengthOf
+length-back (ln.Bytes n) = refl
+length-back (ln.Refused e) = ap ln.Refused (error-back e)
+
+pub one-length : (r q : HeaderLength) → lengthAnswer r ≡ lengthAnswer q → r ≡ q
+one-length r q e = sym (length-back r) ∙ ap lengthOf e ∙ length-back q
