@@ -2,6 +2,7 @@ pub mod Fractions
 pub mod Figures
 pub mod Arith
 pub mod Numbers
+pub mod Numbering
 pub mod Picks
 pub mod Fitting
 pub mod Laws
