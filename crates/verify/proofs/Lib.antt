@@ -2,13 +2,13 @@ pub mod Rising
 pub mod Storing
 pub mod Walking
 pub mod Removal
+pub mod Conforming
 pub mod Course
 pub mod Fold
 pub mod Coding
 pub mod Verdict
-pub mod Removals
+pub mod Accepted
 pub mod Recording
 pub mod Accepting
 pub mod Telling
-pub mod Uncut
 pub mod Bounds

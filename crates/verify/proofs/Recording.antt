@@ -31,9 +31,8 @@ use Rattle.verify.specs.Walk.{codedAt, advanced, ifCoded}
 use Rattle.verify.specs.Recorder.{recorderOf, recordCount, noRecord, lastOf, stayed, wentOn, recordedBy, nextRecord}
 use Rattle.scan.proofs.Pictures.{picturesAt, walked as walked-on, pictures-done, pictures-walk}
 use Rattle.verify.proofs.Fold.{lastsAll, Reads, none, good}
-use Rattle.verify.proofs.Rising.{rising}
 use Rattle.verify.proofs.Verdict.{judges}
-use Rattle.verify.proofs.Removals.{was-accepted}
+use Rattle.verify.proofs.Accepted.{passed, judged-is, are-read, are-rising}
 
 -- ---- a step
 
@@ -109,10 +108,10 @@ records-placed standard s places = go (verdict standard s places) refl
     go : (v : Answer Accepted) → verdict standard s places ≡ v → Placing s places (recorderOf standard (declared standard s)) (records v)
     go (refused n k x y) h = record { each = no-more; few = omega arith }
     go (value v) h =
-        let a = was-accepted standard s places h in
-        let j = judges (v .params) places (a .first ∷ a .others) (rising (a .short) (a .are-read)) in
-        let l = yields (omega (arith, a .short)) (v .params) 0 Fresh (pictures-walk s) (a .are-read) in
-        rw (a .declared-is) record { each = rw (j .lasts (v .first) (v .others) (a .judged-is)) at l; few = rw (a .judged-is) at (j .few) }
+        let a = passed standard s places h in
+        let j = judges (v .params) places (a .first ∷ a .others) (are-rising a) in
+        let l = yields (omega (arith, a .short)) (v .params) 0 Fresh (pictures-walk s) (are-read a) in
+        rw (a .declares) record { each = rw (j .lasts (v .first) (v .others) (judged-is a)) at l; few = rw (judged-is a) at (j .few) }
 
 pub count-is : (r : VbvVerified) (v : Answer Accepted) → verifiedAnswer r ≡ reported v → recordCount r ≡ length (records v)
 unfolding recordCount
