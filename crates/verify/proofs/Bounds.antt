@@ -21,6 +21,7 @@ use Rattle.verify.specs.Run.{recordOf}
 use Rattle.verify.specs.Check.{Accepted, verdict, reported, records}
 use Rattle.verify.specs.Answers.{verifiedAnswer}
 use Rattle.verify.specs.Recorder.{recordCount}
+use Rattle.verify.specs.Recording.{Small, AllSmall, none, some, RecordsSmall}
 use Rattle.verify.specs.Accepted as ac
 use Rattle.verify.specs.Accepted.{Conforms, Along}
 use Rattle.verify.proofs.Rising.{Placed, Rising, last, next}
@@ -34,16 +35,6 @@ unfolding recordCount
 picture-count r v x h e = ap recordCount (sym e) ∙ count-is r v h
 
 -- ---- their size
-
-pub record Small (r : VbvPictureRecord) : Type 0 where
-  pub coded-small : r .«vbv_delay» < 65536
-  pub expected-small : r .«expected_delay» < 65536
-  pub data-small : r .«data_bits» ≤ 2 ^ 48
-  pub occupancy-small : r .«occupancy_before_bits» ≤ 4294950912
-
-pub data AllSmall : List VbvPictureRecord → Type 0 where
-  none : AllSmall []
-  some : {r : VbvPictureRecord} {rs : List VbvPictureRecord} → Small r → AllSmall rs → AllSmall (r ∷ rs)
 
 module _ {p : VbvParams} (f : paramsFit p ≡ true) where
   removal-small : {previous d : ℕ} {c : CodedPicture} {r : VbvPictureRecord} → Placed previous c → Conforms p previous d c r → Small r
@@ -61,7 +52,7 @@ module _ {p : VbvParams} (f : paramsFit p ≡ true) where
   along-small last ac.none = none
   along-small (next q t) (ac.more w u) = some (removal-small q w) (along-small t u)
 
-pub records-small : (standard : VbvStandard) (s : List ℕ) (places : ℕ) → AllSmall (records (verdict standard s places))
+pub records-small : RecordsSmall
 records-small standard s places = go (verdict standard s places) refl
   where
     go : (v : Answer Accepted) → verdict standard s places ≡ v → AllSmall (records v)

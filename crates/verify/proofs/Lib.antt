@@ -12,3 +12,5 @@ pub mod Recording
 pub mod Accepting
 pub mod Telling
 pub mod Bounds
+pub mod Unread
+pub mod Numbering

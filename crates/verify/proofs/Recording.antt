@@ -29,6 +29,7 @@ use Rattle.verify.specs.declared.VbvVerified.{VbvVerified}
 use Rattle.verify.specs.declared.VbvVerified.the-variants.{Report, Refused}
 use Rattle.verify.specs.Walk.{codedAt, advanced, ifCoded}
 use Rattle.verify.specs.Recorder.{recorderOf, recordCount, noRecord, lastOf, stayed, wentOn, recordedBy, nextRecord}
+use Rattle.verify.specs.Recording.{Yields, no-more, one-more, Placing, RecordsYielded, RecordsCounted}
 use Rattle.scan.proofs.Pictures.{picturesAt, walked as walked-on, pictures-done, pictures-walk}
 use Rattle.verify.proofs.Fold.{lastsAll, Reads, none, good}
 use Rattle.verify.proofs.Verdict.{judges}
@@ -69,12 +70,6 @@ module _ (s : List ℕ) (w : VbvRecorder) where
 
 -- ---- the records
 
--- the records that a walk gives, one behind another
-pub data Yields (s : List ℕ) : VbvRecorder → List VbvPictureRecord → Type 0 where
-  no-more : {w : VbvRecorder} → Yields s w []
-  one-more : {w : VbvRecorder} {r : VbvPictureRecord} {rs : List VbvPictureRecord} → nextRecord s w .last ≡ r
-      → Yields s (nextRecord s w .recorder) rs → Yields s w (r ∷ rs)
-
 abbrev standing : VbvStandard → VbvParams → ℕ → Progress → VbvRecorder
 standing standard p i st = record { standard = standard; params = p; at = i; progress = st }
 
@@ -94,14 +89,8 @@ yields {standard} {s} short p i st l (good {q} {qs} {c} {cs} t r) = go (λ k x. 
         let e = next-read s (standing standard p i st) short a b k h c (rw y at t) in
         one-more {w = standing standard p i st} {r = lastOf (advanced p st c)} {rs = lastsAll p (advanced p st c) cs} (rw (← e)) (rw (← e) (ih k z))
 
--- what the walk of the check by value gives: each record, and no more than there are places
-pub record Placing (s : List ℕ) (places : ℕ) (w : VbvRecorder) (rs : List VbvPictureRecord) : Type 0 where
-  pub each : Yields s w rs
-  pub few : length rs ≤ places
-
 -- of every stream, whatever its answer
-pub records-placed : (standard : VbvStandard) (s : List ℕ) (places : ℕ)
-    → Placing s places (recorderOf standard (declared standard s)) (records (verdict standard s places))
+pub records-placed : RecordsYielded
 unfolding recorderOf
 records-placed standard s places = go (verdict standard s places) refl
   where
@@ -113,7 +102,7 @@ records-placed standard s places = go (verdict standard s places) refl
         let l = yields (omega (arith, a .short)) (v .params) 0 Fresh (pictures-walk s) (are-read a) in
         rw (a .declares) record { each = rw (j .lasts (v .first) (v .others) (judged-is a)) at l; few = rw (judged-is a) at (j .few) }
 
-pub count-is : (r : VbvVerified) (v : Answer Accepted) → verifiedAnswer r ≡ reported v → recordCount r ≡ length (records v)
+pub count-is : RecordsCounted
 unfolding recordCount
 count-is (Report x) (value v) h = let e : x ≡ reportOf v = cc in rw e
 count-is (Report x) (refused n k c e) h = let z : _≡_ {A = ℕ} 0 1 = cc in absurd (omega arith)

@@ -7,3 +7,5 @@ pub mod Answers
 pub mod Layout
 pub mod Walk
 pub mod Recorder
+pub mod Recording
+pub mod Numbers
