@@ -18,7 +18,7 @@ use Rattle.scan.specs.declared.Stop.the-variants.{AtPicture, AtSlice, Af
 use Rattle.scan.specs.Codes.{Code, codesFrom, codes, codesAt, found}
 use Rattle.scan.specs.Pictures.{Pic, skip, isSlice, notSlice, notPicture, notSequence, afterSlices, endAt, picturesF, picturesOf, pictures}
 use Rattle.scan.specs.Walk as walk
-use Rattle.scan.specs.Walk.{goOn, nextIn, nextPicture, Steps, WalkGivesPictures}
+use Rattle.scan.specs.Walk.{goOn, nextIn, nextPicture, Steps, WalkGivesPictures, InOrder, PicturesInOrder}
 use Rattle.scan.specs.Steps.{passed}
 use Rattle.scan.proofs.Walk.{Sought, sought, unsought}
 
@@ -266,6 +266,16 @@ steps-from s i (q ∷ qs) l = go (λ k x. steps-from s k qs x) (nextPicture s i)
 
 pub walk-gives : WalkGivesPictures
 walk-gives s = steps-from s 0 (pictures s) (pictures-walk s)
+
+-- from place i on, behind what ends at e
+ordered : {s : List ℕ} {i : ℕ} {qs : List Pic} (e : ℕ) → ((a b k : ℕ) → nextPicture s i ≡ Picture a b k → e ≤ a) → Steps s i qs → InOrder (length s) e qs
+ordered e clear (walk.done h) = walk.none
+ordered {s} {i} e clear (walk.step {start = a} {end = b} {next = k} h t) =
+    let w = walked s i a b k h in
+    walk.more {q = record { start = a; end = b }} (clear a b k h) (omega (arith, w .low, w .on)) (w .high) (ordered b (w .clear) t)
+
+pub in-order : PicturesInOrder
+in-order s = ordered 0 (λ a b k h. omega arith) (walk-gives s)
 
 -- where a search from the first byte finds a sequence header there are four bytes
 pub first-inside : (s : List ℕ) (o c : ℕ) → found (skip notSequence (codes s)) ≡ At o c → o + 4 ≤ length s

@@ -1,6 +1,6 @@
--- One step of the walk from picture to picture: the next picture, and where the walk goes on; and that the steps come to specs/Pictures.antt.
+-- One step of the walk from picture to picture: the next picture, and where the walk goes on; that the steps come to specs/Pictures.antt, and that the pictures lie in order.
 -- Assumes nothing.
-use Prim.Native.Nat.{ℕ}
+use Prim.Native.Nat.{ℕ, _+_, _≤_}
 use mathlib.Core.Path.{_≡_}
 use mathlib.Core.List.{List, [], _∷_}
 use lib.ListN.{length}
@@ -33,3 +33,12 @@ pub data Steps (s : List ℕ) : ℕ → List Pic → Type 0 where
 -- what is owed: from the first byte on they are the stream's
 abbrev pub WalkGivesPictures : Type 0
 WalkGivesPictures = (s : List ℕ) → Steps s 0 (pictures s)
+
+-- one behind another from `low` on, each with its start code, within `high` bytes
+pub data InOrder (high : ℕ) : ℕ → List Pic → Type 0 where
+  none : {low : ℕ} → InOrder high low []
+  more : {low : ℕ} {q : Pic} {qs : List Pic} → low ≤ q .start → q .start + 4 ≤ q .end → q .end ≤ high → InOrder high (q .end) qs
+      → InOrder high low (q ∷ qs)
+
+abbrev pub PicturesInOrder : Type 0
+PicturesInOrder = (s : List ℕ) → InOrder (length s) 0 (pictures s)

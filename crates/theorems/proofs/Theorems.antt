@@ -4,7 +4,7 @@ use Rattle.headers.proofs.SequenceRoundTrip.{sequence-read-back, sequence-write
 use Rattle.headers.proofs.SequenceExtension.{extension-read-back, extension-write-back}
 use Rattle.vbv.proofs.Fractions.{fractions}
 use Rattle.vbv.proofs.Numbering.{model-numbers}
-use Rattle.scan.proofs.Pictures.{walk-gives}
+use Rattle.scan.proofs.Pictures.{walk-gives, in-order}
 use Rattle.verify.proofs.Accepted.{accepted-exactly, nothing-cut}
 use Rattle.verify.proofs.Numbering.{check-numbers}
 use Rattle.verify.proofs.Recording.{records-placed, count-is}
@@ -24,6 +24,7 @@ theorems = record {
   in-fractions = fractions;
   model-numbers = model-numbers;
   walk-gives-pictures = walk-gives;
+  pictures-in-order = in-order;
   accepted-exactly = accepted-exactly;
   nothing-cut = nothing-cut;
   check-numbers = check-numbers;

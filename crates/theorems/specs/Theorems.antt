@@ -3,7 +3,7 @@
 use Rattle.headers.specs.RoundTrips.{WrittenReads, ReadWrites, ExtensionWrittenReads, ExtensionReadWrites}
 use Rattle.vbv.specs.Fractions.{Owed as InFractions}
 use Rattle.vbv.specs.Numbers.{ModelNumbers}
-use Rattle.scan.specs.Walk.{WalkGivesPictures}
+use Rattle.scan.specs.Walk.{WalkGivesPictures, PicturesInOrder}
 use Rattle.verify.specs.Accepted.{AcceptedExactly, NothingCut}
 use Rattle.verify.specs.Numbers.{CheckNumbers}
 use Rattle.verify.specs.Recording.{RecordsYielded, RecordsCounted, RecordsSmall}
@@ -22,19 +22,18 @@ pub record Theorems : Type 0 where
   pub extension-written-reads : ExtensionWrittenReads
   -- A parsed sequence extension writes back to its own bytes.
   pub extension-read-writes : ExtensionReadWrites
-
   -- ---- the model
 
   -- What is counted in parts of a bit are Annex C's fractions, exactly; the occupancy is rounded down, the expected delay to the nearest, halves up; the least and the greatest end are what they are called.
   pub in-fractions : InFractions
   -- The model refuses with 12, 13, 14, 7 and 8 by number alone, and with 9 and 10 by number and picture.
   pub model-numbers : ModelNumbers
-
   -- ---- the pictures of a stream
 
   -- A walk from picture to picture finds the pictures of the stream, in order, and no others.
   pub walk-gives-pictures : WalkGivesPictures
-
+  -- They lie one behind another, within the stream.
+  pub pictures-in-order : PicturesInOrder
   -- ---- the check
 
   -- A stream is accepted, with these records, exactly when it passes the tests before the run and at every removal the buffer holds at most B bits, all bits of the picture among them.
@@ -47,9 +46,8 @@ pub record Theorems : Type 0 where
   pub records-yielded : RecordsYielded
   -- The number of records that an answer tells is the verdict's.
   pub records-counted : RecordsCounted
-  -- No number of a record is larger than its field.
+  -- In a record the delays have 16 bits, the data bits are at most 2^48 and the occupancy at most the largest buffer.
   pub records-small : RecordsSmall
-
   -- ---- the writer
 
   -- Demand 3: of every list of offers and withdrawals on a writer that was created.
@@ -58,7 +56,6 @@ pub record Theorems : Type 0 where
   pub from-c : OwedFromC
   -- From C a refusal leaves state and output part as they were, but that 21 closes the pending picture.
   pub refusals : OwedOfRefusals
-
   -- ---- figures
 
   -- The figures of paper 01 that are marked P.

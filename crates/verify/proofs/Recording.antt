@@ -1,6 +1,6 @@
 -- The records of an accepted stream come one behind another from the walk of the check by value.
 -- Assumes nothing.
-use mathlib.Core.Path.{_≡_, refl, sym, _∙_}
+use mathlib.Core.Path.{_≡_, refl}
 use Prim.Native.Nat.{ℕ, _*_, _^_, _≤_, _<_}
 use mathlib.Core.List.{List, [], _∷_}
 use native.Mathlib.Omega.{arith}
@@ -11,7 +11,6 @@ use Rattle.bits.specs.Refusals.{Answer, value, refused}
 use Rattle.headers.specs.declared.Error.{Error}
 use Rattle.vbv.specs.declared.VbvParams.{VbvParams}
 use Rattle.vbv.specs.declared.VbvCbrModel.{VbvCbrModel}
-use Rattle.scan.specs.declared.Next.{Next}
 use Rattle.scan.specs.declared.Next.the-variants.{Picture, Done}
 use Rattle.verify.specs.declared.VbvStandard.{VbvStandard}
 use Rattle.verify.specs.declared.CodedPicture.{CodedPicture}
@@ -21,7 +20,8 @@ use Rattle.verify.specs.declared.Progress.{Progress}
 use Rattle.verify.specs.declared.Progress.the-variants.{Fresh, Unmodelled, Running, Stopped}
 use Rattle.verify.specs.declared.recorder.VbvRecorder.{VbvRecorder}
 use Rattle.scan.specs.Pictures.{Pic}
-use Rattle.scan.specs.Walk.{nextPicture}
+use Rattle.scan.specs.Walk as walk
+use Rattle.scan.specs.Walk.{nextPicture, Steps}
 use Rattle.verify.specs.Sequence.{declared}
 use Rattle.verify.specs.Check.{Accepted, verdict, reportOf, reported, records}
 use Rattle.verify.specs.Answers.{verifiedAnswer}
@@ -30,7 +30,7 @@ use Rattle.verify.specs.declared.VbvVerified.the-variants.{Report, Refus
 use Rattle.verify.specs.Walk.{codedAt, advanced, ifCoded}
 use Rattle.verify.specs.Recorder.{recorderOf, recordCount, noRecord, lastOf, stayed, wentOn, recordedBy, nextRecord}
 use Rattle.verify.specs.Recording.{Yields, no-more, one-more, Placing, RecordsYielded, RecordsCounted}
-use Rattle.scan.proofs.Pictures.{picturesAt, walked as walked-on, pictures-done, pictures-walk}
+use Rattle.scan.proofs.Pictures.{walk-gives}
 use Rattle.verify.proofs.Fold.{lastsAll, Reads, none, good}
 use Rattle.verify.proofs.Verdict.{judges}
 use Rattle.verify.proofs.Accepted.{passed, judged-is, are-read, are-rising}
@@ -73,21 +73,13 @@ module _ (s : List ℕ) (w : VbvRecorder) where
 abbrev standing : VbvStandard → VbvParams → ℕ → Progress → VbvRecorder
 standing standard p i st = record { standard = standard; params = p; at = i; progress = st }
 
-yields : {standard : VbvStandard} {s : List ℕ} → length s ≤ 35184372088832 → (p : VbvParams) {qs : List Pic} {cs : List CodedPicture} (i : ℕ) (st : Progress)
-    → picturesAt s i ≡ qs → Reads standard s qs (value cs) → Yields s (standing standard p i st) (lastsAll p st cs)
+yields : {standard : VbvStandard} {s : List ℕ} → length s ≤ 35184372088832 → (p : VbvParams) {qs : List Pic} {cs : List CodedPicture} {i : ℕ} (st : Progress)
+    → Steps s i qs → Reads standard s qs (value cs) → Yields s (standing standard p i st) (lastsAll p st cs)
 unfolding lastsAll wentOn
-yields short p i st l none = no-more
-yields {standard} {s} short p i st l (good {q} {qs} {c} {cs} t r) = go (λ k x. yields short p k (advanced p st c) x r) (nextPicture s i) refl
-  where
-    go : ((k : ℕ) → picturesAt s k ≡ qs → Yields s (standing standard p k (advanced p st c)) (lastsAll p (advanced p st c) cs))
-        → (o : Next) → nextPicture s i ≡ o → Yields s (standing standard p i st) (lastOf (advanced p st c) ∷ lastsAll p (advanced p st c) cs)
-    go ih Done h = let z = sym (pictures-done s i h) ∙ l in let w : _≡_ {A = ℕ} 0 1 = cc in absurd (omega arith)
-    go ih (Picture a b k) h =
-        let x = sym (walked-on s i a b k h .list) ∙ l in
-        let y : _≡_ {A = Pic} q (record { start = a; end = b }) = cc in
-        let z : picturesAt s k ≡ qs = cc in
-        let e = next-read s (standing standard p i st) short a b k h c (rw y at t) in
-        one-more {w = standing standard p i st} {r = lastOf (advanced p st c)} {rs = lastsAll p (advanced p st c) cs} (rw (← e)) (rw (← e) (ih k z))
+yields short p st (walk.done h) none = no-more
+yields {standard} {s} short p {i = i} st (walk.step {start = a} {end = b} {next = k} h t) (good {c = c} {cs = cs} q r) =
+    let e = next-read s (standing standard p i st) short a b k h c q in
+    one-more {w = standing standard p i st} {r = lastOf (advanced p st c)} {rs = lastsAll p (advanced p st c) cs} (rw (← e)) (rw (← e) (yields short p (advanced p st c) t r))
 
 -- of every stream, whatever its answer
 pub records-placed : RecordsYielded
@@ -99,7 +91,7 @@ records-placed standard s places = go (verdict standard s places) refl
     go (value v) h =
         let a = passed standard s places h in
         let j = judges (v .params) places (a .first ∷ a .others) (are-rising a) in
-        let l = yields (omega (arith, a .short)) (v .params) 0 Fresh (pictures-walk s) (are-read a) in
+        let l = yields (omega (arith, a .short)) (v .params) Fresh (walk-gives s) (are-read a) in
         rw (a .declares) record { each = rw (j .lasts (v .first) (v .others) (judged-is a)) at l; few = rw (judged-is a) at (j .few) }
 
 pub count-is : RecordsCounted
