@@ -13,7 +13,6 @@ use Rattle.hipokuta.specs.Calls.{OwedFromC, OwedOfRefusals}
 
 pub record Theorems : Type 0 where
   -- ---- headers
-
   -- A written sequence header parses to the fields given, whatever stands behind it.
   pub sequence-written-reads : WrittenReads
   -- A parsed sequence header with constrained flag 0 writes back to its own bytes.
@@ -23,19 +22,17 @@ pub record Theorems : Type 0 where
   -- A parsed sequence extension writes back to its own bytes.
   pub extension-read-writes : ExtensionReadWrites
   -- ---- the model
-
-  -- What is counted in parts of a bit are Annex C's fractions, exactly; the occupancy is rounded down, the expected delay to the nearest, halves up; the least and the greatest end are what they are called.
+  -- What is counted in parts of a bit is what Annex C has in fractions: bits delivered, what a period brings, overflow and underflow; the occupancy is rounded down, the
+  -- expected delay to the nearest tick, halves up; the least end is the least that does not overflow, the greatest the last that is all there.
   pub in-fractions : InFractions
   -- The model refuses with 12, 13, 14, 7 and 8 by number alone, and with 9 and 10 by number and picture.
   pub model-numbers : ModelNumbers
   -- ---- the pictures of a stream
-
   -- A walk from picture to picture finds the pictures of the stream, in order, and no others.
   pub walk-gives-pictures : WalkGivesPictures
   -- They lie one behind another, within the stream.
   pub pictures-in-order : PicturesInOrder
   -- ---- the check
-
   -- A stream is accepted, with these records, exactly when it passes the tests before the run and at every removal the buffer holds at most B bits, all bits of the picture among them.
   pub accepted-exactly : AcceptedExactly
   -- In the records of an accepted stream no difference is cut off at 0.
@@ -49,7 +46,6 @@ pub record Theorems : Type 0 where
   -- In a record the delays have 16 bits, the data bits are at most 2^48 and the occupancy at most the largest buffer.
   pub records-small : RecordsSmall
   -- ---- the writer
-
   -- Demand 3: of every list of offers and withdrawals on a writer that was created.
   pub demand-3 : Demand3
   -- The same for lists of calls from C on the bytes of a state.
@@ -57,7 +53,6 @@ pub record Theorems : Type 0 where
   -- From C a refusal leaves state and output part as they were, but that 21 closes the pending picture.
   pub refusals : OwedOfRefusals
   -- ---- figures
-
   -- The figures of paper 01 that are marked P.
   pub figures : Figures
   -- The edges of the rule by which a quantiser goes up, stays or goes down.

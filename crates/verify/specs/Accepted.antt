@@ -1,4 +1,4 @@
--- Which streams the check accepts, in the terms of Annex C (ISO/IEC 13818-2 C.3.1, C.5, C.6, C.9, C.11; 11172-2 C.1.4): those that pass the tests before the run and whose removals all conform, and no others.
+-- Which streams the check accepts, in the terms of Annex C (ISO/IEC 13818-2 Annex C; 11172-2 C.1.4): those that pass the tests before the run and whose removals all conform, and no others.
 -- What is delivered is counted in 1/unit bit; vbv/specs/Fractions.antt says that these are the standard's fractions. Assumes nothing.
 use Prim.Native.Nat.{ℕ, _+_, _*_, _^_, _≤_}
 use mathlib.Core.Path.{_≡_}
@@ -27,13 +27,13 @@ pub record Conforms (p : VbvParams) (previous d : ℕ) (c : CodedPicture) (r : V
   -- 11: the coded and the expected delay differ by at most 1
   pub coded-most : c .«vbv_delay» ≤ expectedDelay p (c .«pos_bits») d + 1
   pub expected-most : expectedDelay p (c .«pos_bits») d ≤ c .«vbv_delay» + 1
-  -- 9: just before the removal at most B bits are in the buffer
+  -- 9 (C.5): just before the removal at most B bits are in the buffer
   pub no-overflow : d ≤ (previous + p .«buffer_size_bits») * unit p
-  -- 10: and all bits of the picture are
+  -- 10 (C.6): and all bits of the picture are
   pub no-underflow : c .«end_bits» * unit p ≤ d
   pub record-is : r ≡ recordOf p previous d c
 
--- one removal after another, each with its record: by the next one the picture's interval brings its gain
+-- one removal after another, each with its record; by the next one the picture's interval brings its gain (C.9, C.11)
 pub data Along (p : VbvParams) (Each : ℕ → ℕ → CodedPicture → VbvPictureRecord → Type 0) : ℕ → ℕ → List CodedPicture → List VbvPictureRecord → Type 0 where
   none : {previous d : ℕ} → Along p Each previous d [] []
   more : {previous d : ℕ} {c : CodedPicture} {cs : List CodedPicture} {r : VbvPictureRecord} {rs : List VbvPictureRecord} → Each previous d c r
@@ -41,19 +41,19 @@ pub data Along (p : VbvParams) (Each : ℕ → ℕ → CodedPicture → VbvPictu
 
 -- a stream that declares p, whose pictures are recorded as rs
 pub record Passes (standard : VbvStandard) (s : List ℕ) (places : ℕ) (p : VbvParams) (rs : List VbvPictureRecord) : Type 0 where
-  -- 14
+  -- 14: it has 2^48 bits at most
   pub short : 8 * length s ≤ 2 ^ 48
-  -- 3, and 1, 2, 6 of the first sequence header
+  -- 3, 1, 2, 6: its first sequence header can be read
   pub declares : declared standard s ≡ value p
-  -- 1, 2 of every picture header, and 4
+  -- 1, 2, 4: every picture header can be read, and there is one
   pub first : CodedPicture
   pub others : List CodedPicture
   pub pictures-are : codedPictures standard s ≡ value (first ∷ others)
-  -- 5, 12, 15
+  -- 5, 12, 15: the first delay is not 0xFFFF, the parameters are in their ranges, and there is a place for each record
   pub constant-rate : first .«vbv_delay» ≡ 0xFFFF → ⊥
   pub params-fit : paramsFit p ≡ true
   pub places-suffice : length (first ∷ others) ≤ places
-  -- at the first removal all is delivered up to the first picture's position, and what its coded delay brings
+  -- every removal conforms; at the first one all is delivered up to the first picture's position, and what its coded delay brings (C.3.1)
   pub removals : Along p (Conforms p) 0 (firstDelivered p (first .«pos_bits») (first .«vbv_delay»)) (first ∷ others) rs
 
 -- what is owed: accepted exactly when it passes
