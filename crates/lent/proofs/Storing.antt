@@ -17,7 +17,8 @@ use Rattle.verify.specs.Answers.{verifiedAnswer}
 use Rattle.verify.specs.Check.{verdict, reported, records}
 use Rattle.verify.specs.Sequence.{declared}
 use Rattle.verify.specs.Recorder.{recordCount, recorderOf, nextRecord}
-use Rattle.verify.proofs.Recording.{Yields, no-more, one-more, records-placed, count-is}
+use Rattle.verify.specs.Recording.{Yields, no-more, one-more}
+use Rattle.verify.proofs.Recording.{records-placed, count-is}
 
 -- the walk behind i pictures, and the places once the first i records are stored
 abbrev pub stateOf : List ℕ → VbvRecorder → ℕ → VbvRecorder

@@ -14,7 +14,7 @@ use Rattle.bits.proofs.Flags.{or-left, or-right, pick-elim}
 use Rattle.bits.proofs.Over.{over-take, over-drop}
 use Rattle.vbv.specs.Annex.{unit, overflows, beyond}
 use Rattle.vbv.specs.declared.VbvParams.{VbvParams}
-use Rattle.vbv.proofs.Laws.{over-units, beyond-units, first-in-time, fits-params}
+use Rattle.vbv.proofs.Laws.{over-units, over-full, beyond-units, beyond-there, first-in-time, fits-params}
 use Rattle.layers.specs.declared.PictureKind.{PictureKind}
 use Rattle.layers.specs.declared.PictureKind.the-variants.{I, P, B}
 use Rattle.rate_control.specs.Answers.{Given, placed, again}
@@ -27,7 +27,7 @@ use Rattle.rate_control.specs.Demand.{retriesAfter, AtCoarsest, Patient,
 use Rattle.rate_control.specs.declared.Pending.{Pending}
 use Rattle.rate_control.specs.declared.Pending.the-variants.{Nothing, Waits}
 use Rattle.rate_control.specs.declared.CbrWriter.{CbrWriter}
-use Rattle.rate_control.proofs.Lower.{over-full, beyond-there, delivered-of}
+use Rattle.vbv.proofs.Cases.{delivered-of}
 use Rattle.rate_control.proofs.Chain.{Placing, Outcome, stays, closes, retries, places, outcome}
 use Rattle.rate_control.proofs.Fitting.{writer-fits}
 use Rattle.rate_control.proofs.Placing.{delivered-later, delivered-first, placed-size, stuffing-last, stuffing-least, first-told}

@@ -18,7 +18,7 @@ use Rattle.rate_control.specs.Create.{within, configFits, configParams, 
 use Rattle.rate_control.specs.Due.{atFirst, holding, Ranges, rateOf, bufferOf, paramsOf, targetsOf, CreationDue, bad-range, bad-code, bad-ratio, created}
 use Rattle.rate_control.specs.declared.CbrConfig.{CbrConfig}
 use Rattle.rate_control.specs.declared.CbrWriter.{CbrWriter}
-use Rattle.rate_control.proofs.Lower.{modelAt, RateCode, known, unknown, rate-code, NewModel, makes, unfit, new-model}
+use Rattle.vbv.proofs.Cases.{modelAt, RateCode, known, unknown, rate-code, NewModel, makes, unfit, new-model}
 use Rattle.rate_control.proofs.Fitting.{within-bounds}
 use Rattle.rate_control.proofs.Knowing.{fresh-known}
 

@@ -25,7 +25,7 @@ use Rattle.rate_control.specs.Due.{Known, atFirst, deliveredFor, pending
 use Rattle.rate_control.specs.declared.Pending.the-variants.{Nothing}
 use Rattle.rate_control.specs.declared.CbrConfig.{CbrConfig}
 use Rattle.rate_control.specs.declared.CbrWriter.{CbrWriter}
-use Rattle.rate_control.proofs.Lower.{modelAt, after-is, delivered-of, made-is}
+use Rattle.vbv.proofs.Cases.{modelAt, after-is, delivered-of, made-is}
 use Rattle.rate_control.proofs.Chain.{Outcome, stays, closes, retries, places, outcome}
 use Rattle.rate_control.proofs.Placing.{delivered-later, delivered-first, end-is}
 use Rattle.rate_control.proofs.Creation.{creation}

@@ -19,7 +19,6 @@ pub mod Accepted
 pub mod Figures
 pub mod Lists
 pub mod Keeping
-pub mod Lower
 pub mod Knowing
 pub mod Answering
 pub mod Creating

@@ -12,11 +12,13 @@ use borrow.Author.Tests.{not-true, not-false, eqb-true, ne-eqb}
 use Rattle.bits.specs.Bits.{pick}
 use Rattle.scan.specs.declared.Found.{Found}
 use Rattle.scan.specs.declared.Found.the-variants.{At, Nothing}
+use Rattle.scan.specs.declared.Next.{Next}
 use Rattle.scan.specs.declared.Next.the-variants.{Picture, Done}
 use Rattle.scan.specs.declared.Stop.the-variants.{AtPicture, AtSlice, AfterSlices}
 use Rattle.scan.specs.Codes.{Code, codesFrom, codes, codesAt, found}
 use Rattle.scan.specs.Pictures.{Pic, skip, isSlice, notSlice, notPicture, notSequence, afterSlices, endAt, picturesF, picturesOf, pictures}
-use Rattle.scan.specs.Walk.{goOn, nextIn, nextPicture}
+use Rattle.scan.specs.Walk as walk
+use Rattle.scan.specs.Walk.{goOn, nextIn, nextPicture, Steps, WalkGivesPictures, InOrder, PicturesInOrder}
 use Rattle.scan.specs.Steps.{passed}
 use Rattle.scan.proofs.Walk.{Sought, sought, unsought}
 
@@ -245,6 +247,35 @@ pictures-done s i h = go (found (skip (passed AtPicture) (codesAt s i))) refl
 pub pictures-walk : (s : List ℕ) → picturesAt s 0 ≡ pictures s
 unfolding picturesAt pictures codes codesAt
 pictures-walk s = refl
+
+steps-from : (s : List ℕ) (i : ℕ) (qs : List Pic) → picturesAt s i ≡ qs → Steps s i qs
+steps-from s i [] l = go (nextPicture s i) refl
+  where
+    go : (o : Next) → nextPicture s i ≡ o → Steps s i []
+    go Done h = walk.done h
+    go (Picture a b k) h = let z = sym (walked s i a b k h .list) ∙ l in let w : _≡_ {A = ℕ} 0 1 = cc in absurd (omega arith)
+steps-from s i (q ∷ qs) l = go (λ k x. steps-from s k qs x) (nextPicture s i) refl
+  where
+    go : ((k : ℕ) → picturesAt s k ≡ qs → Steps s k qs) → (o : Next) → nextPicture s i ≡ o → Steps s i (q ∷ qs)
+    go ih Done h = let z = sym (pictures-done s i h) ∙ l in let w : _≡_ {A = ℕ} 0 1 = cc in absurd (omega arith)
+    go ih (Picture a b k) h =
+        let x = sym (walked s i a b k h .list) ∙ l in
+        let y : _≡_ {A = Pic} (record { start = a; end = b }) q = cc in
+        let z : picturesAt s k ≡ qs = cc in
+        rw (← y) (walk.step h (ih k z))
+
+pub walk-gives : WalkGivesPictures
+walk-gives s = steps-from s 0 (pictures s) (pictures-walk s)
+
+-- from place i on, behind what ends at e
+ordered : {s : List ℕ} {i : ℕ} {qs : List Pic} (e : ℕ) → ((a b k : ℕ) → nextPicture s i ≡ Picture a b k → e ≤ a) → Steps s i qs → InOrder (length s) e qs
+ordered e clear (walk.done h) = walk.none
+ordered {s} {i} e clear (walk.step {start = a} {end = b} {next = k} h t) =
+    let w = walked s i a b k h in
+    walk.more {q = record { start = a; end = b }} (clear a b k h) (omega (arith, w .low, w .on)) (w .high) (ordered b (w .clear) t)
+
+pub in-order : PicturesInOrder
+in-order s = ordered 0 (λ a b k h. omega arith) (walk-gives s)
 
 -- where a search from the first byte finds a sequence header there are four bytes
 pub first-inside : (s : List ℕ) (o c : ℕ) → found (skip notSequence (codes s)) ≡ At o c → o + 4 ≤ length s

@@ -8,7 +8,7 @@ use native.Mathlib.Omega.{arith}
 use native.Mathlib.Nat.{mod-lt, div-add-mod', mul-le-mul, le-of-mul-le-mul-right, div-lt-iff-lt-mul, le-div-iff-mul-le}
 use lib.Arith.{digits-div}
 use lib.Dec.{ltb}
-use borrow.Author.Tests.{ltb-false, le-ltb}
+use borrow.Author.Tests.{ltb-true, ltb-false, le-ltb}
 use Rattle.bits.specs.Refusals.{value, refused}
 use Rattle.bits.proofs.Appending.{lt-or-le}
 use Rattle.vbv.specs.declared.RemovalInterval.{RemovalInterval}
@@ -31,9 +31,17 @@ module _ (p : VbvParams) where
   unfolding overflows
   units-over previous d h = le-ltb _ _ h
 
+  pub over-full : (previous d : ℕ) → overflows p previous d ≡ true → (previous + p .«buffer_size_bits») * unit p < d
+  unfolding overflows
+  over-full previous d h = ltb-true _ _ h
+
   pub beyond-units : (end d : ℕ) → beyond p end d ≡ false → end * unit p ≤ d
   unfolding beyond
   beyond-units end d h = ltb-false _ _ h
+
+  pub beyond-there : (end d : ℕ) → beyond p end d ≡ true → d < end * unit p
+  unfolding beyond
+  beyond-there end d h = ltb-true _ _ h
 
   pub units-beyond : (end d : ℕ) → end * unit p ≤ d → beyond p end d ≡ false
   unfolding beyond
@@ -192,7 +200,7 @@ removal-stays m end i v g o =
     }
 
 -- no refusal is a value
-refused-value : {X : Type 0} {n p c e : ℕ} {x : X} → refused n p c e ≡ value x → ⊥
+pub refused-value : {X : Type 0} {n p c e : ℕ} {x : X} → refused n p c e ≡ value x → ⊥
 refused-value h = let z : _≡_ {A = ℕ} 0 1 = cc in omega arith
 
 -- a model made of parameters

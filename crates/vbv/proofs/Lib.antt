@@ -2,6 +2,7 @@ pub mod Fractions
 pub mod Figures
 pub mod Arith
 pub mod Numbers
+pub mod Numbering
 pub mod Picks
 pub mod Fitting
 pub mod Laws
@@ -10,3 +11,4 @@ pub mod Ways
 pub mod Told
 pub mod Named
 pub mod After
+pub mod Cases

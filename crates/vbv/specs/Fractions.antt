@@ -1,8 +1,10 @@
 -- Annex C's quantities as the standard has them, in fractions of a bit and of a tick: R bits in 90,000 ticks, a field period of frd / (2 × frn) s.
 -- What specs/Annex.antt counts in 1/unit bit is these, exactly (proofs/Fractions.antt). Assumes nothing.
 use mathlib.Core.Path.{_≡_}
+use mathlib.Core.Logic.{_↔_}
+use mathlib.Core.Bool.{true}
 use Prim.Native.Nat.{ℕ, _+_, _*_, _≤_, _<_}
-use Rattle.vbv.specs.Annex.{unit, firstDelivered, gain, expectedDelay}
+use Rattle.vbv.specs.Annex.{unit, firstDelivered, gain, overflows, beyond, expectedDelay, occupancy, greatestEnd, leastEnd}
 use Rattle.vbv.specs.declared.VbvParams.{VbvParams}
 
 pub record Fractions (p : VbvParams) : Type 0 where
@@ -15,6 +17,15 @@ pub record Fractions (p : VbvParams) : Type 0 where
       → 2 * expectedDelay p position d * p .«bit_rate» * unit p + 180000 * position * unit p ≤ 180000 * d + p .«bit_rate» * unit p
   pub expected-high : (position d : ℕ) → position * unit p ≤ d
       → 180000 * d + p .«bit_rate» * unit p < (2 * expectedDelay p position d + 2) * p .«bit_rate» * unit p + 180000 * position * unit p
+  -- d / unit − previous bits lie from the occupancy on, and below one more
+  pub occupancy-low : (previous d : ℕ) → previous * unit p ≤ d → (previous + occupancy p previous d) * unit p ≤ d
+  pub occupancy-high : (previous d : ℕ) → d < (previous + occupancy p previous d + 1) * unit p
+  -- more is in the buffer than it holds; `end` has not come
+  pub overflow-is : (previous d : ℕ) → (overflows p previous d ≡ true) ↔ ((previous + p .«buffer_size_bits») * unit p < d)
+  pub beyond-is : (end d : ℕ) → (beyond p end d ≡ true) ↔ (d < end * unit p)
+  -- behind `end` the buffer takes what d brings exactly from the least end on; what ends at `end` is all there exactly up to the greatest end
+  pub least-is : (end d : ℕ) → (leastEnd p d ≤ end) ↔ (d ≤ (end + p .«buffer_size_bits») * unit p)
+  pub greatest-is : (end d : ℕ) → (end ≤ greatestEnd p d) ↔ (end * unit p ≤ d)
 
 -- what is owed: for all parameters of at least 1
 abbrev pub Owed : Type 0

@@ -4,5 +4,6 @@ pub mod Model
 pub mod Steps
 pub mod Patch
 pub mod Fractions
+pub mod Numbers
 pub mod Figures
 pub mod Lent

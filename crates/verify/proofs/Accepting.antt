@@ -6,19 +6,21 @@ use mathlib.Core.List.{List, [], _∷_}
 use Prim.Native.Nat.{ℕ, suc, _+_, _-_, _*_, _^_, _≤_}
 use native.Mathlib.Omega.{arith}
 use lib.ListN.{length}
-use borrow.Author.Tests.{le-ltb, ne-eqb}
-use Rattle.bits.specs.Bits.{pick}
 use Rattle.bits.specs.Refusals.{value}
 use Rattle.vbv.specs.Annex.{firstDelivered, gain, overflows, beyond, expectedDelay, occupancy}
 use Rattle.vbv.specs.Model.{paramsFit, periods}
 use Rattle.vbv.specs.declared.VbvParams.{VbvParams}
+use Rattle.vbv.proofs.Laws.{over-units, beyond-units}
 use Rattle.verify.specs.declared.VbvStandard.{VbvStandard}
 use Rattle.verify.specs.declared.CodedPicture.{CodedPicture}
 use Rattle.verify.specs.declared.VbvPictureRecord.{VbvPictureRecord}
 use Rattle.verify.specs.Sequence.{declared}
 use Rattle.verify.specs.Coded.{codedPictures}
-use Rattle.verify.specs.Run.{apart, recordOf, removal, run}
-use Rattle.verify.specs.Check.{withPictures, verdict}
+use Rattle.verify.specs.Run.{recordOf, run}
+use Rattle.verify.specs.Check.{verdict}
+use Rattle.verify.specs.Accepted.{Conforms}
+use Rattle.verify.proofs.Conforming.{conforming}
+use Rattle.verify.proofs.Accepted.{run-along, accepted-exactly}
 
 -- a picture whose coded delay is the expected one, in a buffer that neither overflows nor underflows
 pub record Passed (p : VbvParams) (previous d : ℕ) (c : CodedPicture) : Type 0 where
@@ -37,15 +39,19 @@ exactRecord p previous d c = record {
   «occupancy_before_bits» = occupancy p previous d;
 }
 
-not-apart : (d : ℕ) → apart d d ≡ false
-unfolding apart
-not-apart d = simp (le-ltb (d + 1) d (omega arith))
-
-passed-record : {p : VbvParams} {previous d : ℕ} {c : CodedPicture} (n : ℕ) → Passed p previous d c
-    → removal p n previous d c ≡ value (exactRecord p previous d c)
-unfolding removal recordOf pick
-passed-record {c = c} n h =
-    rw (h .in-time, ← h .delay-exact, le-ltb 65534 (c .«vbv_delay») (h .delay-told), not-apart (c .«vbv_delay»), h .no-overflow, h .no-underflow)
+passed-conforms : {p : VbvParams} {previous d : ℕ} {c : CodedPicture} → Passed p previous d c → Conforms p previous d c (exactRecord p previous d c)
+unfolding recordOf
+passed-conforms {p} {previous} {d} {c} h =
+    let e = h .delay-exact in
+    record {
+      begun = beyond-units p (c .«pos_bits») d (h .in-time);
+      sayable = omega (arith, h .delay-told);
+      coded-most = omega arith;
+      expected-most = omega arith;
+      no-overflow = over-units p previous d (h .no-overflow);
+      no-underflow = beyond-units p (c .«end_bits») d (h .no-underflow);
+      record-is = rw (← e);
+    }
 
 pub run-none : (p : VbvParams) (n previous d : ℕ) → run p n previous d [] ≡ value []
 unfolding run
@@ -55,12 +61,22 @@ pub run-passed : {p : VbvParams} {previous d : ℕ} {c : CodedPicture} (n : ℕ)
     → run p (suc n) (c .«end_bits») (d + gain p (periods (c .interval))) cs ≡ value rs
     → run p n previous d (c ∷ cs) ≡ value (exactRecord p previous d c ∷ rs)
 unfolding run
-run-passed n cs h e = rw (passed-record n h, e)
+run-passed n cs h e = rw (conforming n (passed-conforms h), e)
 
 pub accepted : (standard : VbvStandard) (s : List ℕ) {p : VbvParams} {c : CodedPicture} {cs : List CodedPicture} {r : VbvPictureRecord} {rs : List VbvPictureRecord}
     (places : ℕ) → 8 * length s ≤ 2 ^ 48 → declared standard s ≡ value p → codedPictures standard s ≡ value (c ∷ cs) → c .«vbv_delay» ≤ 65534
     → paramsFit p ≡ true → length (c ∷ cs) ≤ places → run p 0 0 (firstDelivered p (c .«pos_bits») (c .«vbv_delay»)) (c ∷ cs) ≡ value (r ∷ rs)
     → verdict standard s places ≡ value (record { params = p; first = r; others = rs })
-unfolding verdict withPictures pick
-accepted standard s {c = c} {cs = cs} places l d h e f m t =
-    rw (le-ltb _ _ l, d, h, ne-eqb (c .«vbv_delay») 0xFFFF (λ z. omega arith), f, le-ltb places (length (c ∷ cs)) m, t)
+accepted standard s {p} {c} {cs} {r} {rs} places l d h e f m t =
+    accepted-exactly standard s places (record { params = p; first = r; others = rs }) .1
+    (record {
+      short = l;
+      declares = d;
+      first = c;
+      others = cs;
+      pictures-are = h;
+      constant-rate = λ z. omega arith;
+      params-fit = f;
+      places-suffice = m;
+      removals = run-along p 0 0 _ (c ∷ cs) (r ∷ rs) t;
+    })

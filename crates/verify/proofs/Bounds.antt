@@ -10,7 +10,7 @@ use Rattle.bits.specs.Refusals.{Answer, value, refused}
 use Rattle.vbv.specs.Model.{paramsFit}
 use Rattle.vbv.specs.declared.VbvParams.{VbvParams}
 use Rattle.vbv.proofs.Fitting.{params-fit}
-use Rattle.vbv.proofs.Laws.{occupancy-most}
+use Rattle.vbv.proofs.Laws.{occupancy-most, units-over}
 use Rattle.verify.specs.declared.VbvStandard.{VbvStandard}
 use Rattle.verify.specs.declared.CodedPicture.{CodedPicture}
 use Rattle.verify.specs.declared.VbvPictureRecord.{VbvPictureRecord}
@@ -21,11 +21,12 @@ use Rattle.verify.specs.Run.{recordOf}
 use Rattle.verify.specs.Check.{Accepted, verdict, reported, records}
 use Rattle.verify.specs.Answers.{verifiedAnswer}
 use Rattle.verify.specs.Recorder.{recordCount}
-use Rattle.verify.proofs.Rising.{Placed}
-use Rattle.verify.proofs.Course.{WasRecorded}
+use Rattle.verify.specs.Recording.{Small, AllSmall, none, some, RecordsSmall}
+use Rattle.verify.specs.Accepted as ac
+use Rattle.verify.specs.Accepted.{Conforms, Along}
+use Rattle.verify.proofs.Rising.{Placed, Rising, last, next}
 use Rattle.verify.proofs.Recording.{count-is}
-use Rattle.verify.proofs.Removals as rv
-use Rattle.verify.proofs.Removals.{Removals, was-accepted}
+use Rattle.verify.proofs.Accepted.{passed, are-rising}
 
 -- ---- the number of records
 
@@ -35,35 +36,25 @@ picture-count r v x h e = ap recordCount (sym e) ∙ count-is r v h
 
 -- ---- their size
 
-pub record Small (r : VbvPictureRecord) : Type 0 where
-  pub coded-small : r .«vbv_delay» < 65536
-  pub expected-small : r .«expected_delay» < 65536
-  pub data-small : r .«data_bits» ≤ 2 ^ 48
-  pub occupancy-small : r .«occupancy_before_bits» ≤ 4294950912
-
-pub data AllSmall : List VbvPictureRecord → Type 0 where
-  none : AllSmall []
-  some : {r : VbvPictureRecord} {rs : List VbvPictureRecord} → Small r → AllSmall rs → AllSmall (r ∷ rs)
-
 module _ {p : VbvParams} (f : paramsFit p ≡ true) where
-  removal-small : {previous d : ℕ} {c : CodedPicture} {r : VbvPictureRecord} → Placed previous c → WasRecorded p previous d c r → Small r
+  removal-small : {previous d : ℕ} {c : CodedPicture} {r : VbvPictureRecord} → Placed previous c → Conforms p previous d c r → Small r
   unfolding recordOf
   removal-small {previous} {d} {c} q w =
       rw (w .record-is)
       record {
         coded-small = q .delay-small;
-        expected-small = omega (arith, w .delay-low);
+        expected-small = omega (arith, w .sayable);
         data-small = omega (arith, q .end-far);
-        occupancy-small = omega (arith, occupancy-most p f previous d (w .no-overflow), params-fit f .size-high);
+        occupancy-small = omega (arith, occupancy-most p f previous d (units-over p previous d (w .no-overflow)), params-fit f .size-high);
       }
 
-  removals-small : {previous d : ℕ} {cs : List CodedPicture} {rs : List VbvPictureRecord} → Removals p previous d cs rs → AllSmall rs
-  removals-small rv.none = none
-  removals-small (rv.more q w t) = some (removal-small q w) (removals-small t)
+  along-small : {previous d : ℕ} {cs : List CodedPicture} {rs : List VbvPictureRecord} → Rising previous cs → Along p (Conforms p) previous d cs rs → AllSmall rs
+  along-small last ac.none = none
+  along-small (next q t) (ac.more w u) = some (removal-small q w) (along-small t u)
 
-pub records-small : (standard : VbvStandard) (s : List ℕ) (places : ℕ) → AllSmall (records (verdict standard s places))
+pub records-small : RecordsSmall
 records-small standard s places = go (verdict standard s places) refl
   where
     go : (v : Answer Accepted) → verdict standard s places ≡ v → AllSmall (records v)
     go (refused n k x y) h = none
-    go (value v) h = let a = was-accepted standard s places h in removals-small (a .params-fit) (a .all)
+    go (value v) h = let a = passed standard s places h in along-small (a .params-fit) (are-rising a) (a .removals)

@@ -1,21 +1,19 @@
 -- The model's course over coded pictures is the run of Annex C.
 -- Assumes nothing.
 use mathlib.Core.Path.{_≡_, refl, subst, _∙_}
-use mathlib.Core.Bool.{true, false}
+use mathlib.Core.Bool.{true}
 use mathlib.Core.List.{List, [], _∷_}
 use Prim.Native.Nat.{ℕ, suc, _+_, _≤_}
 use native.Mathlib.Omega.{arith}
 use native.Mathlib.Numerals.{add-one}
-use borrow.Author.Tests.{ltb-false}
 use Rattle.bits.specs.Refusals.{Answer, value, refused, andThen}
-use Rattle.vbv.specs.Annex.{gain, overflows, beyond, expectedDelay}
+use Rattle.vbv.specs.Annex.{gain}
 use Rattle.vbv.specs.Model.{paramsFit, delivered, modelFits, afterRemoval, periods, nextDelivered}
 use Rattle.vbv.specs.Steps.{EndFits}
 use Rattle.vbv.specs.declared.VbvParams.{VbvParams}
 use Rattle.vbv.specs.declared.VbvCbrModel.{VbvCbrModel}
-use Rattle.vbv.proofs.Picks.{was-no}
 use Rattle.vbv.proofs.Fitting.{fitting-end}
-use Rattle.vbv.proofs.Laws.{fits-params, occupancy-most, Removed as WasRemoved, removed as was-removed, removes}
+use Rattle.vbv.proofs.Laws.{fits-params, occupancy-most, units-over, units-beyond, Removed as WasRemoved, removed as was-removed, removes}
 use Rattle.vbv.proofs.Told.{next-told}
 use Rattle.verify.specs.declared.CodedPicture.{CodedPicture}
 use Rattle.verify.specs.declared.VbvPictureRecord.{VbvPictureRecord}
@@ -23,6 +21,7 @@ use Rattle.verify.specs.declared.Removed.the-variants.{Recorded}
 use Rattle.verify.specs.Run.{recordOf, removal, run}
 use Rattle.verify.specs.Walk.{removed}
 use Rattle.verify.proofs.Rising.{Placed, Rising, last, next}
+use Rattle.verify.proofs.Conforming.{conforms}
 use Rattle.verify.proofs.Removal.{removedAnswer, withModel, removal-is, RefusedBy, refused-by, recorded-by}
 
 -- a started model
@@ -31,28 +30,6 @@ pub record Ready (p : VbvParams) (m : VbvCbrModel) : Type 0 where
   pub on : m .started ≡ true
   pub kept : m .params ≡ p
   pub few : m .removed ≤ m .«prev_end_bits»
-
--- a removal that Annex C records: it passed each test
-pub record WasRecorded (p : VbvParams) (previous d : ℕ) (c : CodedPicture) (r : VbvPictureRecord) : Type 0 where
-  pub in-time : beyond p (c .«pos_bits») d ≡ false
-  pub delay-low : expectedDelay p (c .«pos_bits») d ≤ 65534
-  pub no-overflow : overflows p previous d ≡ false
-  pub no-underflow : beyond p (c .«end_bits») d ≡ false
-  pub record-is : r ≡ recordOf p previous d c
-
-recorded-not : {n k x y : ℕ} {r : VbvPictureRecord} → refused n k x y ≡ value r → ⊥
-recorded-not h = let z : _≡_ {A = ℕ} 0 1 = cc in omega arith
-
-pub was-recorded : (p : VbvParams) (n previous d : ℕ) (c : CodedPicture) (r : VbvPictureRecord) → removal p n previous d c ≡ value r
-    → WasRecorded p previous d c r
-unfolding removal
-was-recorded p n previous d c r h =
-    let a = was-no _ _ _ recorded-not h in
-    let b = was-no _ _ _ recorded-not (a .1) in
-    let e = was-no _ _ _ recorded-not (b .1) in
-    let o = was-no _ _ _ recorded-not (e .1) in
-    let u = was-no _ _ _ recorded-not (o .1) in
-    record { in-time = a .0; delay-low = ltb-false 65534 _ (b .0); no-overflow = o .0; no-underflow = u .0; record-is = cc (u .1) }
 
 module _ {p : VbvParams} {m : VbvCbrModel} (y : Ready p m) {c : CodedPicture} (q : Placed (m .«prev_end_bits») c) where
   end-fits : EndFits m (c .«end_bits»)
@@ -66,17 +43,19 @@ module _ {p : VbvParams} {m : VbvCbrModel} (y : Ready p m) {c : CodedPicture} (q
   step : {r : VbvPictureRecord} → removal p (m .removed) (m .«prev_end_bits») (delivered m) c ≡ value r
       → WasRemoved m (c .«end_bits») (c .interval) (afterRemoval m (c .«end_bits») (nextDelivered m (c .interval)))
   step {r} h =
-      let w = was-recorded p (m .removed) (m .«prev_end_bits») (delivered m) c r h in
+      let w = conforms p (m .removed) (m .«prev_end_bits») (delivered m) c r h in
+      let o = units-over p (m .«prev_end_bits») (delivered m) (w .no-overflow) in
+      let u = units-beyond p (c .«end_bits») (delivered m) (w .no-underflow) in
       was-removed _ _ _ _
-      (removes m (c .«end_bits») (c .interval) (y .fits) (y .on) (fitting-end m (c .«end_bits») end-fits) (rw (← y .kept) at (w .no-overflow)) (rw (← y .kept) at (w .no-underflow)))
+      (removes m (c .«end_bits») (c .interval) (y .fits) (y .on) (fitting-end m (c .«end_bits») end-fits) (rw (← y .kept) at o) (rw (← y .kept) at u))
 
   within : {r : VbvPictureRecord} → removal p (m .removed) (m .«prev_end_bits») (delivered m) c ≡ value r
       → r .«occupancy_before_bits» ≤ p .«buffer_size_bits»
   unfolding recordOf
   within {r} h =
-      let w = was-recorded p (m .removed) (m .«prev_end_bits») (delivered m) c r h in
+      let w = conforms p (m .removed) (m .«prev_end_bits») (delivered m) c r h in
       let f : paramsFit p ≡ true = rw (y .kept) at (fits-params m (y .fits)) in
-      rw (w .record-is) (occupancy-most p f (m .«prev_end_bits») (delivered m) (w .no-overflow))
+      rw (w .record-is) (occupancy-most p f (m .«prev_end_bits») (delivered m) (units-over p _ _ (w .no-overflow)))
 
 -- the course: each removal's record and the model behind it, up to the end or a refusal
 pub data Course (p : VbvParams) : VbvCbrModel → List CodedPicture → Answer (List VbvPictureRecord) → Type 0 where

@@ -1,6 +1,6 @@
 -- The records of an accepted stream come one behind another from the walk of the check by value.
 -- Assumes nothing.
-use mathlib.Core.Path.{_≡_, refl, sym, _∙_}
+use mathlib.Core.Path.{_≡_, refl, sym}
 use Prim.Native.Nat.{ℕ, _*_, _^_, _≤_, _<_}
 use mathlib.Core.List.{List, [], _∷_}
 use native.Mathlib.Omega.{arith}
@@ -10,17 +10,16 @@ use Rattle.bits.specs.Bits.{pick}
 use Rattle.bits.specs.Refusals.{Answer, value, refused}
 use Rattle.vbv.specs.declared.VbvParams.{VbvParams}
 use Rattle.vbv.specs.declared.VbvCbrModel.{VbvCbrModel}
-use Rattle.scan.specs.declared.Next.{Next}
 use Rattle.scan.specs.declared.Next.the-variants.{Picture, Done}
 use Rattle.verify.specs.declared.VbvStandard.{VbvStandard}
 use Rattle.verify.specs.declared.CodedPicture.{CodedPicture}
-use Rattle.verify.specs.declared.Coded.the-variants as cd
 use Rattle.verify.specs.declared.VbvPictureRecord.{VbvPictureRecord}
 use Rattle.verify.specs.declared.Progress.{Progress}
 use Rattle.verify.specs.declared.Progress.the-variants.{Fresh, Unmodelled, Running, Stopped}
 use Rattle.verify.specs.declared.recorder.VbvRecorder.{VbvRecorder}
 use Rattle.scan.specs.Pictures.{Pic}
-use Rattle.scan.specs.Walk.{nextPicture}
+use Rattle.scan.specs.Walk as walk
+use Rattle.scan.specs.Walk.{nextPicture, Steps}
 use Rattle.verify.specs.Sequence.{declared}
 use Rattle.verify.specs.Check.{Accepted, verdict, reportOf, reported, records}
 use Rattle.verify.specs.Answers.{verifiedAnswer}
@@ -29,11 +28,11 @@ use Rattle.verify.specs.declared.VbvVerified.the-variants.{Report, Refus
 use Rattle.verify.specs.Coded.{codedAt}
 use Rattle.verify.specs.Walk.{advanced}
 use Rattle.verify.specs.Recorder.{recorderOf, recordCount, noRecord, lastOf, stayed, wentOn, recordedBy, nextRecord}
-use Rattle.scan.proofs.Pictures.{picturesAt, walked as walked-on, pictures-done, pictures-walk}
+use Rattle.verify.specs.Recording.{Yields, no-more, one-more, Placing, RecordsYielded, RecordsCounted}
+use Rattle.scan.proofs.Pictures.{walk-gives}
 use Rattle.verify.proofs.Fold.{lastsAll, Reads, none, good}
-use Rattle.verify.proofs.Rising.{rising}
 use Rattle.verify.proofs.Verdict.{judges}
-use Rattle.verify.proofs.Removals.{was-accepted}
+use Rattle.verify.proofs.Accepted.{passed, judged-is, are-read, are-rising}
 
 -- ---- a step
 
@@ -70,51 +69,31 @@ module _ (s : List ℕ) (w : VbvRecorder) where
 
 -- ---- the records
 
--- the records that a walk gives, one behind another
-pub data Yields (s : List ℕ) : VbvRecorder → List VbvPictureRecord → Type 0 where
-  no-more : {w : VbvRecorder} → Yields s w []
-  one-more : {w : VbvRecorder} {r : VbvPictureRecord} {rs : List VbvPictureRecord} → nextRecord s w .last ≡ r
-      → Yields s (nextRecord s w .recorder) rs → Yields s w (r ∷ rs)
-
 abbrev standing : VbvStandard → VbvParams → ℕ → Progress → VbvRecorder
 standing standard p i st = record { standard = standard; params = p; at = i; progress = st }
 
-yields : {standard : VbvStandard} {s : List ℕ} → length s ≤ 35184372088832 → (p : VbvParams) {qs : List Pic} {cs : List CodedPicture} (i : ℕ) (st : Progress)
-    → picturesAt s i ≡ qs → Reads standard s qs (value cs) → Yields s (standing standard p i st) (lastsAll p st cs)
+yields : {standard : VbvStandard} {s : List ℕ} → length s ≤ 35184372088832 → (p : VbvParams) {qs : List Pic} {cs : List CodedPicture} {i : ℕ} (st : Progress)
+    → Steps s i qs → Reads standard s qs (value cs) → Yields s (standing standard p i st) (lastsAll p st cs)
 unfolding lastsAll wentOn
-yields short p i st l none = no-more
-yields {standard} {s} short p i st l (good {q} {qs} {c} {cs} t r) = go (λ k x. yields short p k (advanced p st c) x r) (nextPicture s i) refl
-  where
-    go : ((k : ℕ) → picturesAt s k ≡ qs → Yields s (standing standard p k (advanced p st c)) (lastsAll p (advanced p st c) cs))
-        → (o : Next) → nextPicture s i ≡ o → Yields s (standing standard p i st) (lastOf (advanced p st c) ∷ lastsAll p (advanced p st c) cs)
-    go ih Done h = let z = sym (pictures-done s i h) ∙ l in let w : _≡_ {A = ℕ} 0 1 = cc in absurd (omega arith)
-    go ih (Picture a b k) h =
-        let x = sym (walked-on s i a b k h .list) ∙ l in
-        let y : _≡_ {A = Pic} q (record { start = a; end = b }) = cc in
-        let z : picturesAt s k ≡ qs = cc in
-        let e = next-read s (standing standard p i st) short a b k h c (sym (rw y at t)) in
-        one-more {w = standing standard p i st} {r = lastOf (advanced p st c)} {rs = lastsAll p (advanced p st c) cs} (rw (← e)) (rw (← e) (ih k z))
-
--- what the walk of the check by value gives: each record, and no more than there are places
-pub record Placing (s : List ℕ) (places : ℕ) (w : VbvRecorder) (rs : List VbvPictureRecord) : Type 0 where
-  pub each : Yields s w rs
-  pub few : length rs ≤ places
+yields short p st (walk.done h) none = no-more
+yields {standard} {s} short p {i = i} st (walk.step {start = a} {end = b} {next = k} h t) (good {c = c} {cs = cs} q r) =
+    let e = next-read s (standing standard p i st) short a b k h c (sym q) in
+    one-more {w = standing standard p i st} {r = lastOf (advanced p st c)} {rs = lastsAll p (advanced p st c) cs} (rw (← e)) (rw (← e) (yields short p (advanced p st c) t r))
 
 -- of every stream, whatever its answer
-pub records-placed : (standard : VbvStandard) (s : List ℕ) (places : ℕ)
-    → Placing s places (recorderOf standard (declared standard s)) (records (verdict standard s places))
+pub records-placed : RecordsYielded
 unfolding recorderOf
 records-placed standard s places = go (verdict standard s places) refl
   where
     go : (v : Answer Accepted) → verdict standard s places ≡ v → Placing s places (recorderOf standard (declared standard s)) (records v)
     go (refused n k x y) h = record { each = no-more; few = omega arith }
     go (value v) h =
-        let a = was-accepted standard s places h in
-        let j = judges (v .params) places (a .first ∷ a .others) (rising (a .short) (a .are-read)) in
-        let l = yields (omega (arith, a .short)) (v .params) 0 Fresh (pictures-walk s) (a .are-read) in
-        rw (a .declared-is) record { each = rw (j .lasts (v .first) (v .others) (a .judged-is)) at l; few = rw (a .judged-is) at (j .few) }
+        let a = passed standard s places h in
+        let j = judges (v .params) places (a .first ∷ a .others) (are-rising a) in
+        let l = yields (omega (arith, a .short)) (v .params) Fresh (walk-gives s) (are-read a) in
+        rw (a .declares) record { each = rw (j .lasts (v .first) (v .others) (judged-is a)) at l; few = rw (judged-is a) at (j .few) }
 
-pub count-is : (r : VbvVerified) (v : Answer Accepted) → verifiedAnswer r ≡ reported v → recordCount r ≡ length (records v)
+pub count-is : RecordsCounted
 unfolding recordCount
 count-is (Report x) (value v) h = let e : x ≡ reportOf v = cc in rw e
 count-is (Report x) (refused n k c e) h = let z : _≡_ {A = ℕ} 0 1 = cc in absurd (omega arith)

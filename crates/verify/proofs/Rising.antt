@@ -1,6 +1,6 @@
 -- The coded pictures of a stream lie one behind another, within it.
 -- Assumes nothing.
-use mathlib.Core.Path.{_≡_, refl, sym, ap, _∙_}
+use mathlib.Core.Path.{_≡_, refl, sym, ap}
 use Prim.Native.Nat.{ℕ, _+_, _*_, _^_, _≤_, _<_}
 use mathlib.Core.List.{List, [], _∷_}
 use native.Mathlib.Omega.{arith}
@@ -11,18 +11,16 @@ use Rattle.picture_header.proofs.PictureHeader.{picture-header-parsed, delay-hi
 use Rattle.picture_header.proofs.Picture.{picture-parsed}
 use Rattle.vbv.specs.declared.RemovalInterval.{RemovalInterval}
 use Rattle.bits.specs.Refusals.{value}
-use Rattle.scan.specs.declared.Next.{Next}
-use Rattle.scan.specs.declared.Next.the-variants.{Picture, Done}
 use Rattle.verify.specs.declared.VbvStandard.{VbvStandard}
 use Rattle.verify.specs.declared.VbvStandard.the-variants.{Mpeg1, Mpeg2}
 use Rattle.verify.specs.declared.CodedPicture.{CodedPicture}
 use Rattle.scan.specs.Pictures.{Pic, pictures}
-use Rattle.scan.specs.Walk.{nextPicture}
+use Rattle.scan.specs.Walk as walk
+use Rattle.scan.specs.Walk.{InOrder}
 use Rattle.verify.specs.Coded.{intervalOf, told, codedOf, codedAt}
 use Rattle.picture_header.proofs.Following.{then-value}
-use Rattle.bits.specs.Refusals.{value}
 use Rattle.vbv.specs.declared.RemovalInterval.the-variants.{Frame}
-use Rattle.scan.proofs.Pictures.{picturesAt, walked, pictures-done, pictures-walk}
+use Rattle.scan.proofs.Pictures.{in-order}
 use Rattle.verify.proofs.Fold.{Reads, none, good}
 
 -- a picture within the stream, behind what ends at `previous`
@@ -61,32 +59,15 @@ coded-from standard s q c h =
     )
 
 module _ {standard : VbvStandard} {s : List ℕ} (short : 8 * length s ≤ 2 ^ 48) where
-  -- from place i on, behind what ends at byte e
-  from : {qs : List Pic} {cs : List CodedPicture} (i e : ℕ) → picturesAt s i ≡ qs → ((a b k : ℕ) → nextPicture s i ≡ Picture a b k → e ≤ a)
-      → Reads standard s qs (value cs) → Rising (8 * e) cs
-  from i e l clear none = last
-  from i e l clear (good {q} {qs} {c} {cs} t r) = go (λ k b x y. from k b x y r) (nextPicture s i) refl
-    where
-      go : ((k b : ℕ) → picturesAt s k ≡ qs → ((a₂ b₂ k₂ : ℕ) → nextPicture s k ≡ Picture a₂ b₂ k₂ → b ≤ a₂) → Rising (8 * b) cs)
-          → (o : Next) → nextPicture s i ≡ o → Rising (8 * e) (c ∷ cs)
-      go ih Done h = let z = sym (pictures-done s i h) ∙ l in let w : _≡_ {A = ℕ} 0 1 = cc in absurd (omega arith)
-      go ih (Picture a b k) h =
-          let w = walked s i a b k h in
-          let x = sym (w .list) ∙ l in
-          let y : _≡_ {A = Pic} (record { start = a; end = b }) q = cc in
-          let z : picturesAt s k ≡ qs = cc in
-          let f = coded-from standard s q c t in
-          let ea : a ≡ q .start = ap (λ (u : Pic). u .start) y in
-          let eb : b ≡ q .end = ap (λ (u : Pic). u .end) y in
-          let ec : c .«end_bits» ≡ 8 * b = omega arith in
-          next {previous = 8 * e} {c = c} {cs = cs}
-          (record {
-            position-far = omega (arith, w .low, w .on, w .high);
-            grows = omega (arith, clear a b k h, w .low, w .on);
-            end-far = omega (arith, w .high);
-            delay-small = f .2;
-          })
-          (rw ec (ih k b z (w .clear)))
+  -- behind what ends at byte e
+  from : {qs : List Pic} {cs : List CodedPicture} {e : ℕ} → InOrder (length s) e qs → Reads standard s qs (value cs) → Rising (8 * e) cs
+  from walk.none none = last
+  from {e = e} (walk.more {q = q} l r h o) (good {c = c} {cs = cs} t u) =
+      let f = coded-from standard s q c t in
+      let ec : c .«end_bits» ≡ 8 * q .end = f .1 in
+      next {previous = 8 * e} {c = c} {cs = cs}
+      (record { position-far = omega arith; grows = omega arith; end-far = omega arith; delay-small = f .2 })
+      (rw ec (from o u))
 
   pub rising : {cs : List CodedPicture} → Reads standard s (pictures s) (value cs) → Rising 0 cs
-  rising r = from 0 0 (pictures-walk s) (λ a b k h. omega arith) r
+  rising r = from (in-order s) r

@@ -2,8 +2,10 @@ pub mod Sequence
 pub mod Coded
 pub mod Run
 pub mod Check
-pub mod Uncut
+pub mod Accepted
 pub mod Answers
 pub mod Layout
 pub mod Walk
 pub mod Recorder
+pub mod Recording
+pub mod Numbers

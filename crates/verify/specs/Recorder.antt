@@ -1,4 +1,4 @@
--- The records of a stream one by one: a walk over the pictures as in specs/Walk.antt, a picture at a time. proofs/Recording.antt says that the records of an accepted stream come one behind another.
+-- The records of a stream one by one: a walk over the pictures as in specs/Walk.antt, a picture at a time. specs/Recording.antt says that the records of an accepted stream come one behind another.
 -- Assumes nothing.
 use Prim.Native.Nat.{ℕ, _*_, _^_}
 use mathlib.Core.List.{List}

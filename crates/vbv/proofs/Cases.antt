@@ -1,31 +1,21 @@
--- TEMPORARY: laws for vbv.
+-- Answers of the model in their cases: a model in its fields, a new one, and a rate code's frame rate.
 -- Assumes nothing.
 use mathlib.Core.Path.{_≡_, refl, sym, subst, _∙_}
-use mathlib.Core.Bool.{Bool, true, false, true≢false}
-use Prim.Native.Nat.{ℕ, _+_, _*_, _/_, _%_, _≤_, _<_}
+use mathlib.Core.Bool.{Bool, true, false}
+use Prim.Native.Nat.{ℕ, _+_, _*_, _/_, _%_, _≤_}
 use native.Mathlib.Omega.{arith}
 use native.Mathlib.Nat.{div-add-mod', zero-div, zero-mod}
 use lib.Dec.{eqb}
-use borrow.Author.Tests.{ltb-true, eqb-true, eqb-false, not-true, not-false}
-use Rattle.bits.proofs.Flags.{pick-elim}
-use Rattle.vbv.specs.Answers.{frameRate}
+use borrow.Author.Tests.{eqb-true, eqb-false, not-true, not-false}
 use Rattle.bits.specs.Refusals.{Answer, value, refused}
-use Rattle.vbv.specs.Annex.{unit, overflows, beyond}
+use Rattle.bits.proofs.Flags.{pick-elim}
+use Rattle.vbv.specs.Annex.{unit}
+use Rattle.vbv.specs.Answers.{frameRate}
 use Rattle.vbv.specs.Model.{paramsFit, newModel, delivered, afterRemoval}
 use Rattle.vbv.specs.declared.VbvParams.{VbvParams}
 use Rattle.vbv.specs.declared.VbvCbrModel.{VbvCbrModel}
 use Rattle.vbv.proofs.Picks.{was-held}
-
-refused-value : {X : Type 0} {n k c e : ℕ} {x : X} → refused n k c e ≡ value x → ⊥
-refused-value h = true≢false cc
-
-pub over-full : (p : VbvParams) (previous d : ℕ) → overflows p previous d ≡ true → (previous + p .«buffer_size_bits») * unit p < d
-unfolding overflows
-over-full p previous d h = ltb-true _ _ h
-
-pub beyond-there : (p : VbvParams) (end d : ℕ) → beyond p end d ≡ true → d < end * unit p
-unfolding beyond
-beyond-there p end d h = ltb-true _ _ h
+use Rattle.vbv.proofs.Laws.{refused-value}
 
 -- a model in its fields
 abbrev pub modelAt : VbvParams → ℕ → ℕ → ℕ → Bool → VbvCbrModel

@@ -1,0 +1,59 @@
+-- Every theorem that is owed, in one record. The promises of the public functions stand beside their code in src/; these say what the definitions in them come to.
+-- Assumes nothing.
+use Rattle.headers.specs.RoundTrips.{WrittenReads, ReadWrites, ExtensionWrittenReads, ExtensionReadWrites}
+use Rattle.vbv.specs.Fractions.{Owed as InFractions}
+use Rattle.vbv.specs.Numbers.{ModelNumbers}
+use Rattle.scan.specs.Walk.{WalkGivesPictures, PicturesInOrder}
+use Rattle.verify.specs.Accepted.{AcceptedExactly, NothingCut}
+use Rattle.verify.specs.Numbers.{CheckNumbers}
+use Rattle.verify.specs.Recording.{RecordsYielded, RecordsCounted, RecordsSmall}
+use Rattle.rate_control.specs.Demand.{Owed as Demand3}
+use Rattle.rate_control.specs.Figures.{Figures, Steering}
+use Rattle.hipokuta.specs.Calls.{OwedFromC, OwedOfRefusals}
+
+pub record Theorems : Type 0 where
+  -- ---- headers
+  -- A written sequence header parses to the fields given, whatever stands behind it.
+  pub sequence-written-reads : WrittenReads
+  -- A parsed sequence header with constrained flag 0 writes back to its own bytes.
+  pub sequence-read-writes : ReadWrites
+  -- A written sequence extension parses to the fields given.
+  pub extension-written-reads : ExtensionWrittenReads
+  -- A parsed sequence extension writes back to its own bytes.
+  pub extension-read-writes : ExtensionReadWrites
+  -- ---- the model
+  -- What is counted in parts of a bit is what Annex C has in fractions: bits delivered, what a period brings, overflow and underflow; the occupancy is rounded down, the
+  -- expected delay to the nearest tick, halves up; the least end is the least that does not overflow, the greatest the last that is all there.
+  pub in-fractions : InFractions
+  -- The model refuses with 12, 13, 14, 7 and 8 by number alone, and with 9 and 10 by number and picture.
+  pub model-numbers : ModelNumbers
+  -- ---- the pictures of a stream
+  -- A walk from picture to picture finds the pictures of the stream, in order, and no others.
+  pub walk-gives-pictures : WalkGivesPictures
+  -- They lie one behind another, within the stream.
+  pub pictures-in-order : PicturesInOrder
+  -- ---- the check
+  -- A stream is accepted, with these records, exactly when it passes the tests before the run and at every removal the buffer holds at most B bits, all bits of the picture among them.
+  pub accepted-exactly : AcceptedExactly
+  -- In the records of an accepted stream no difference is cut off at 0.
+  pub nothing-cut : NothingCut
+  -- A refusal is one of paper 01's numbers; only 9 to 11 carry picture, coded and expected.
+  pub check-numbers : CheckNumbers
+  -- The recorder gives the verdict's records one by one, and no more than there are places.
+  pub records-yielded : RecordsYielded
+  -- The number of records that an answer tells is the verdict's.
+  pub records-counted : RecordsCounted
+  -- In a record the delays have 16 bits, the data bits are at most 2^48 and the occupancy at most the largest buffer.
+  pub records-small : RecordsSmall
+  -- ---- the writer
+  -- Demand 3: of every list of offers and withdrawals on a writer that was created.
+  pub demand-3 : Demand3
+  -- The same for lists of calls from C on the bytes of a state.
+  pub from-c : OwedFromC
+  -- From C a refusal leaves state and output part as they were, but that 21 closes the pending picture.
+  pub refusals : OwedOfRefusals
+  -- ---- figures
+  -- The figures of paper 01 that are marked P.
+  pub figures : Figures
+  -- The edges of the rule by which a quantiser goes up, stays or goes down.
+  pub steering : Steering

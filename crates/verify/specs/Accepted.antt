@@ -1,0 +1,75 @@
+-- Which streams the check accepts, in the terms of Annex C (ISO/IEC 13818-2 Annex C; 11172-2 C.1.4): those that pass the tests before the run and whose removals all conform, and no others.
+-- What is delivered is counted in 1/unit bit; vbv/specs/Fractions.antt says that these are the standard's fractions. Assumes nothing.
+use Prim.Native.Nat.{ℕ, _+_, _*_, _^_, _≤_}
+use mathlib.Core.Path.{_≡_}
+use mathlib.Core.Logic.{_↔_}
+use mathlib.Core.Bool.{true}
+use mathlib.Core.List.{List, [], _∷_}
+use lib.ListN.{length}
+use Rattle.bits.specs.Refusals.{value}
+use Rattle.vbv.specs.Annex.{unit, firstDelivered, gain, expectedDelay}
+use Rattle.vbv.specs.Model.{paramsFit, periods}
+use Rattle.vbv.specs.declared.VbvParams.{VbvParams}
+use Rattle.verify.specs.Sequence.{declared}
+use Rattle.verify.specs.Coded.{codedPictures}
+use Rattle.verify.specs.Run.{recordOf}
+use Rattle.verify.specs.Check.{Accepted, verdict}
+use Rattle.verify.specs.declared.VbvStandard.{VbvStandard}
+use Rattle.verify.specs.declared.CodedPicture.{CodedPicture}
+use Rattle.verify.specs.declared.VbvPictureRecord.{VbvPictureRecord}
+
+-- picture c is removed with d delivered, all before `previous` removed, and r is recorded
+pub record Conforms (p : VbvParams) (previous d : ℕ) (c : CodedPicture) (r : VbvPictureRecord) : Type 0 where
+  -- 7: its start code has come
+  pub begun : c .«pos_bits» * unit p ≤ d
+  -- 8: the expected delay can be coded
+  pub sayable : expectedDelay p (c .«pos_bits») d ≤ 65534
+  -- 11: the coded and the expected delay differ by at most 1
+  pub coded-most : c .«vbv_delay» ≤ expectedDelay p (c .«pos_bits») d + 1
+  pub expected-most : expectedDelay p (c .«pos_bits») d ≤ c .«vbv_delay» + 1
+  -- 9 (C.5): just before the removal at most B bits are in the buffer
+  pub no-overflow : d ≤ (previous + p .«buffer_size_bits») * unit p
+  -- 10 (C.6): and all bits of the picture are
+  pub no-underflow : c .«end_bits» * unit p ≤ d
+  pub record-is : r ≡ recordOf p previous d c
+
+-- one removal after another, each with its record; by the next one the picture's interval brings its gain (C.9, C.11)
+pub data Along (p : VbvParams) (Each : ℕ → ℕ → CodedPicture → VbvPictureRecord → Type 0) : ℕ → ℕ → List CodedPicture → List VbvPictureRecord → Type 0 where
+  none : {previous d : ℕ} → Along p Each previous d [] []
+  more : {previous d : ℕ} {c : CodedPicture} {cs : List CodedPicture} {r : VbvPictureRecord} {rs : List VbvPictureRecord} → Each previous d c r
+      → Along p Each (c .«end_bits») (d + gain p (periods (c .interval))) cs rs → Along p Each previous d (c ∷ cs) (r ∷ rs)
+
+-- a stream that declares p, whose pictures are recorded as rs
+pub record Passes (standard : VbvStandard) (s : List ℕ) (places : ℕ) (p : VbvParams) (rs : List VbvPictureRecord) : Type 0 where
+  -- 14: it has 2^48 bits at most
+  pub short : 8 * length s ≤ 2 ^ 48
+  -- 3, 1, 2, 6: its first sequence header can be read
+  pub declares : declared standard s ≡ value p
+  -- 1, 2, 4: every picture header can be read, and there is one
+  pub first : CodedPicture
+  pub others : List CodedPicture
+  pub pictures-are : codedPictures standard s ≡ value (first ∷ others)
+  -- 5, 12, 15: the first delay is not 0xFFFF, the parameters are in their ranges, and there is a place for each record
+  pub constant-rate : first .«vbv_delay» ≡ 0xFFFF → ⊥
+  pub params-fit : paramsFit p ≡ true
+  pub places-suffice : length (first ∷ others) ≤ places
+  -- every removal conforms; at the first one all is delivered up to the first picture's position, and what its coded delay brings (C.3.1)
+  pub removals : Along p (Conforms p) 0 (firstDelivered p (first .«pos_bits») (first .«vbv_delay»)) (first ∷ others) rs
+
+-- what is owed: accepted exactly when it passes
+abbrev pub AcceptedExactly : Type 0
+AcceptedExactly =
+    (standard : VbvStandard) (s : List ℕ) (places : ℕ) (a : Accepted)
+    → (verdict standard s places ≡ value a) ↔ Passes standard s places (a .params) (a .first ∷ a .others)
+
+-- the records subtract in ℕ, where a difference is cut off at 0. In those of an accepted stream none is: of its data bits, its occupancy before and after
+-- (of its expected delay, see `begun`; that of a refusal stands behind the test of 7)
+pub record Uncut (p : VbvParams) (previous d : ℕ) (c : CodedPicture) (r : VbvPictureRecord) : Type 0 where
+  pub for-data : previous ≤ c .«end_bits»
+  pub for-before : previous * unit p ≤ d
+  pub for-after : r .«data_bits» ≤ r .«occupancy_before_bits»
+
+abbrev pub NothingCut : Type 0
+NothingCut =
+    (standard : VbvStandard) (s : List ℕ) (places : ℕ) (p : VbvParams) (rs : List VbvPictureRecord) (a : Passes standard s places p rs)
+    → Along p (Uncut p) 0 (firstDelivered p (a .first .«pos_bits») (a .first .«vbv_delay»)) (a .first ∷ a .others) rs
