@@ -1,7 +1,7 @@
 //! Streams with a name: one for each difference from the standards in which the original wins (docs/DIFFERENCES.md).
 
 /// Name, kind, and the bytes of the stream.
-pub const KNOWN: [(&str, u8, &str); 10] = [
+const KNOWN: [(&str, u8, &str); 19] = [
     (
         "paper 01's own stream",
         18,
@@ -47,10 +47,76 @@ pub const KNOWN: [(&str, u8, &str); 10] = [
         "000001B301001013000020A0 000001B5148200030000 0000010000080008 000001B58FFFF34180 00000101",
     ),
     ("a picture before the first sequence header counts", 17, "00000100000AB330 00000101 000001B301001013027120A0"),
+    (
+        "22,401 bits a second, rounded up to 57 x 400",
+        17,
+        "000001B301001013000E6008 0000010000091940 00000101 0000010000097DB0 00000101",
+    ),
+    (
+        "a buffer that lasts longer than a delay can say",
+        18,
+        "000001B30100101304E22380 000001B5148200010000 0000010000091940 000001B58FFFF34180 00000101",
+    ),
+    (
+        "low_delay is not read",
+        18,
+        "000001B301001013027120A0 000001B5148200010080 0000010000080000 000001B58FFFF34180 00000101",
+    ),
+    (
+        "a sequence behind a sequence_end_code goes on in the same run",
+        18,
+        "000001B301001013027120A0 000001B5148200010000 00000100000AB330 000001B58FFFF34180 00000101 000001B7 \
+         000001B301001013027120A0 000001B5148200010000 00000100000B22A0 000001B58FFFF34180 00000101 000001B7",
+    ),
+    ("bytes before the first sequence header are data", 17, "4170 000001B301001013027120A0 00000100000AB330 00000101"),
+    ("a D picture among others", 17, "000001B301001013027120A0 00000100000AB330 00000101 0000010000232368 00000101"),
+    (
+        "fields of one parity, 4:2:2 in Main profile, flags that do not go together",
+        18,
+        "000001B301001013027120A0 000001B5148C00010000 00000100025AB333B8 000001B581E29DC100 00000101 \
+         00000100025AEAF3B8 000001B58FFFF1C100 00000101",
+    ),
+    (
+        "slices out of order, and other codes around them",
+        18,
+        "000001B301001013027120A0 000001B5148200010000 000001B0 000001B5F0 00000100000AB330 000001B58FFFF34180 \
+         00000105 00000101 000001B4 00000102 000001E0 00000100000B22D8 000001B58FFFF34180 00000101",
+    ),
+    (
+        "a group header is not read",
+        18,
+        "000001B301001013027120A0 000001B5148200010000 000001B8FFF7FFE0 000001000012B33380 000001B58FFFF34180 00000101",
+    ),
 ];
 
+/// The streams of a kind: name and bytes.
+pub fn known(kind: u8) -> Vec<(&'static str, Vec<u8>)> {
+    let mut streams: Vec<_> = KNOWN.iter().filter(|k| k.1 == kind).map(|&(name, _, hex)| (name, bytes(hex))).collect();
+    if kind == 17 {
+        streams.push(("a Video CD: 1,151,929 bits a second, rounded up to 2880 x 400", video_cd()));
+    }
+    streams
+}
+
+/// Eight pictures of 5,760 bytes at a Video CD's rate, each with the delay that this rate gives, to the nearest tick.
+fn video_cd() -> Vec<u8> {
+    const RATE: usize = 1_151_929;
+    let mut stream = bytes("000001B3 16012083 02D020A4 000001B8 00080040");
+    let first = stream.len();
+    for n in 0..8 {
+        let at = stream.len();
+        let ticks = (8 * (at - first) * 90_000 + RATE / 2) / RATE;
+        let delay = 22_500 + 3_600 * n - ticks;
+        stream.extend([0, 0, 1, 0]);
+        stream.extend(((n << 22 | 1 << 19 | delay << 3) as u32).to_be_bytes());
+        stream.extend([0, 0, 1, 1]);
+        stream.resize(at + 5_760, 0);
+    }
+    stream
+}
+
 /// The bytes that hexadecimal digits give.
-pub fn bytes(hex: &str) -> Vec<u8> {
+fn bytes(hex: &str) -> Vec<u8> {
     let digits: Vec<u8> = hex.chars().filter_map(|c| c.to_digit(16)).map(|d| d as u8).collect();
     digits.chunks(2).map(|pair| 16 * pair[0] + pair[1]).collect()
 }
