@@ -1,7 +1,20 @@
-//! Streams with a name: one for each difference from the standards in which the original wins (docs/DIFFERENCES.md).
+//! Headers and streams with a name: one for each difference from the standards in which the original wins
+//! (docs/DIFFERENCES.md).
 
-/// Name, kind, and the bytes of the stream.
-const KNOWN: [(&str, u8, &str); 19] = [
+/// Name, kind, and the bytes of the header or stream.
+const KNOWN: [(&str, u8, &str); 31] = [
+    ("low 18 rate bits of zero are refused", 1, "000001B301001013000020A0"),
+    ("constrained_parameters_flag 1", 1, "000001B301001013027120A4"),
+    ("reserved aspect and rate codes", 1, "000001B3010010F9027120A0"),
+    ("MPEG-1's aspect code 2", 1, "000001B301001023027120A0"),
+    ("4:2:2 in Main profile", 2, "000001B5148400010000"),
+    ("forward_f_code 0", 4, "000001000010000000"),
+    ("extra_information_picture", 4, "000001000008000400"),
+    ("reserved f_codes", 5, "000001B58AAAA34180"),
+    ("a field picture with frame_pred_frame_dct and top_field_first", 5, "000001B58FFFF1C100"),
+    ("zeros of a start code lie in the header before it", 6, "000001000008000001B58FFFF34180"),
+    ("padding that is not zero, of a picture header", 6, "0000010000080001000001B58FFFF34180"),
+    ("padding that is not zero, of a coding extension", 5, "000001B58FFFF341BF"),
     (
         "paper 01's own stream",
         18,
@@ -89,13 +102,22 @@ const KNOWN: [(&str, u8, &str); 19] = [
     ),
 ];
 
-/// The streams of a kind: name and bytes.
+/// Those of a kind: name and bytes. Of kinds 8 and 10 these are a writer's numbers and output part.
 pub fn known(kind: u8) -> Vec<(&'static str, Vec<u8>)> {
-    let mut streams: Vec<_> = KNOWN.iter().filter(|k| k.1 == kind).map(|&(name, _, hex)| (name, bytes(hex))).collect();
-    if kind == 17 {
-        streams.push(("a Video CD: 1,151,929 bits a second, rounded up to 2880 x 400", video_cd()));
+    let mut inputs: Vec<_> = KNOWN.iter().filter(|k| k.1 == kind).map(|&(name, _, hex)| (name, bytes(hex))).collect();
+    match kind {
+        1 => inputs.push(("a matrix of zeros", [bytes("000001B301001013027120A2"), vec![0; 64]].concat())),
+        8 => {
+            let numbers = bytes("1000 1000 0F 0F C4090000 1400 01");
+            inputs.push(("reserved codes and a matrix of zeros", [numbers, vec![0; 64 + 65 + 76]].concat()));
+        }
+        10 => {
+            inputs.push(("hours 31, drop_frame_flag and broken_link", bytes("01 1F 3F 3F 3F 00 01 0000000000000000")))
+        }
+        17 => inputs.push(("a Video CD: 1,151,929 bits a second, rounded up to 2880 x 400", video_cd())),
+        _ => {}
     }
-    streams
+    inputs
 }
 
 /// Eight pictures of 5,760 bytes at a Video CD's rate, each with the delay that this rate gives, to the nearest tick.
