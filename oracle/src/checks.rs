@@ -2,7 +2,6 @@
 
 use crate::draw::Draw;
 use crate::headers::damage;
-use crate::known::{KNOWN, bytes};
 use crate::streams::{self, Fault};
 use original::vbv::{VbvStandard, verify_cbr_stream};
 
@@ -27,9 +26,9 @@ pub fn drawn(kind: u8, d: &mut Draw) -> Vec<u8> {
     input(32 * places + more, &stream)
 }
 
-/// The streams of a kind that have a name, each with room for three records.
-pub fn known(kind: u8) -> impl Iterator<Item = (&'static str, Vec<u8>)> {
-    KNOWN.iter().filter(move |k| k.1 == kind).map(|&(name, _, hex)| (name, input(96, &bytes(hex))))
+/// A stream with room for its records, and for three at least.
+pub fn with_room(stream: &[u8]) -> Vec<u8> {
+    input(32 * pictures(stream).max(3), stream)
 }
 
 /// What the original answers, in words.

@@ -1,7 +1,20 @@
-//! Streams with a name: one for each difference from the standards in which the original wins (docs/DIFFERENCES.md).
+//! Headers and streams with a name: one for each difference from the standards in which the original wins
+//! (docs/DIFFERENCES.md).
 
-/// Name, kind, and the bytes of the stream.
-pub const KNOWN: [(&str, u8, &str); 10] = [
+/// Name, kind, and the bytes of the header or stream.
+const KNOWN: [(&str, u8, &str); 31] = [
+    ("low 18 rate bits of zero are refused", 1, "000001B301001013000020A0"),
+    ("constrained_parameters_flag 1", 1, "000001B301001013027120A4"),
+    ("reserved aspect and rate codes", 1, "000001B3010010F9027120A0"),
+    ("MPEG-1's aspect code 2", 1, "000001B301001023027120A0"),
+    ("4:2:2 in Main profile", 2, "000001B5148400010000"),
+    ("forward_f_code 0", 4, "000001000010000000"),
+    ("extra_information_picture", 4, "000001000008000400"),
+    ("reserved f_codes", 5, "000001B58AAAA34180"),
+    ("a field picture with frame_pred_frame_dct and top_field_first", 5, "000001B58FFFF1C100"),
+    ("zeros of a start code lie in the header before it", 6, "000001000008000001B58FFFF34180"),
+    ("padding that is not zero, of a picture header", 6, "0000010000080001000001B58FFFF34180"),
+    ("padding that is not zero, of a coding extension", 5, "000001B58FFFF341BF"),
     (
         "paper 01's own stream",
         18,
@@ -47,10 +60,85 @@ pub const KNOWN: [(&str, u8, &str); 10] = [
         "000001B301001013000020A0 000001B5148200030000 0000010000080008 000001B58FFFF34180 00000101",
     ),
     ("a picture before the first sequence header counts", 17, "00000100000AB330 00000101 000001B301001013027120A0"),
+    (
+        "22,401 bits a second, rounded up to 57 x 400",
+        17,
+        "000001B301001013000E6008 0000010000091940 00000101 0000010000097DB0 00000101",
+    ),
+    (
+        "a buffer that lasts longer than a delay can say",
+        18,
+        "000001B30100101304E22380 000001B5148200010000 0000010000091940 000001B58FFFF34180 00000101",
+    ),
+    (
+        "low_delay is not read",
+        18,
+        "000001B301001013027120A0 000001B5148200010080 0000010000080000 000001B58FFFF34180 00000101",
+    ),
+    (
+        "a sequence behind a sequence_end_code goes on in the same run",
+        18,
+        "000001B301001013027120A0 000001B5148200010000 00000100000AB330 000001B58FFFF34180 00000101 000001B7 \
+         000001B301001013027120A0 000001B5148200010000 00000100000B22A0 000001B58FFFF34180 00000101 000001B7",
+    ),
+    ("bytes before the first sequence header are data", 17, "4170 000001B301001013027120A0 00000100000AB330 00000101"),
+    ("a D picture among others", 17, "000001B301001013027120A0 00000100000AB330 00000101 0000010000232368 00000101"),
+    (
+        "fields of one parity, 4:2:2 in Main profile, flags that do not go together",
+        18,
+        "000001B301001013027120A0 000001B5148C00010000 00000100025AB333B8 000001B581E29DC100 00000101 \
+         00000100025AEAF3B8 000001B58FFFF1C100 00000101",
+    ),
+    (
+        "slices out of order, and other codes around them",
+        18,
+        "000001B301001013027120A0 000001B5148200010000 000001B0 000001B5F0 00000100000AB330 000001B58FFFF34180 \
+         00000105 00000101 000001B4 00000102 000001E0 00000100000B22D8 000001B58FFFF34180 00000101",
+    ),
+    (
+        "a group header is not read",
+        18,
+        "000001B301001013027120A0 000001B5148200010000 000001B8FFF7FFE0 000001000012B33380 000001B58FFFF34180 00000101",
+    ),
 ];
 
+/// Those of a kind: name and bytes. Of kinds 8 and 10 these are a writer's numbers and output part.
+pub fn known(kind: u8) -> Vec<(&'static str, Vec<u8>)> {
+    let mut inputs: Vec<_> = KNOWN.iter().filter(|k| k.1 == kind).map(|&(name, _, hex)| (name, bytes(hex))).collect();
+    match kind {
+        1 => inputs.push(("a matrix of zeros", [bytes("000001B301001013027120A2"), vec![0; 64]].concat())),
+        8 => {
+            let numbers = bytes("1000 1000 0F 0F C4090000 1400 01");
+            inputs.push(("reserved codes and a matrix of zeros", [numbers, vec![0; 64 + 65 + 76]].concat()));
+        }
+        10 => {
+            inputs.push(("hours 31, drop_frame_flag and broken_link", bytes("01 1F 3F 3F 3F 00 01 0000000000000000")))
+        }
+        17 => inputs.push(("a Video CD: 1,151,929 bits a second, rounded up to 2880 x 400", video_cd())),
+        _ => {}
+    }
+    inputs
+}
+
+/// Eight pictures of 5,760 bytes at a Video CD's rate, each with the delay that this rate gives, to the nearest tick.
+fn video_cd() -> Vec<u8> {
+    const RATE: usize = 1_151_929;
+    let mut stream = bytes("000001B3 16012083 02D020A4 000001B8 00080040");
+    let first = stream.len();
+    for n in 0..8 {
+        let at = stream.len();
+        let ticks = (8 * (at - first) * 90_000 + RATE / 2) / RATE;
+        let delay = 22_500 + 3_600 * n - ticks;
+        stream.extend([0, 0, 1, 0]);
+        stream.extend(((n << 22 | 1 << 19 | delay << 3) as u32).to_be_bytes());
+        stream.extend([0, 0, 1, 1]);
+        stream.resize(at + 5_760, 0);
+    }
+    stream
+}
+
 /// The bytes that hexadecimal digits give.
-pub fn bytes(hex: &str) -> Vec<u8> {
+fn bytes(hex: &str) -> Vec<u8> {
     let digits: Vec<u8> = hex.chars().filter_map(|c| c.to_digit(16)).map(|d| d as u8).collect();
     digits.chunks(2).map(|pair| 16 * pair[0] + pair[1]).collect()
 }

@@ -2,7 +2,7 @@
 //!
 //!     cases [known] [short] [edges] SEED COUNT KIND..|19|small
 //!
-//! known: first the streams that have a name; short: then all inputs of at most two bytes; edges: then those around each
+//! known: first the headers and streams that have a name; short: then all inputs of at most two bytes; edges: then those around each
 //! boundary; then COUNT drawn ones. Kind 19, lists of calls of the writer, goes to another program and stands alone;
 //! small: the same, but only lists of few bytes.
 //!
@@ -12,7 +12,7 @@
 
 use oracle::answers::{KINDS, answer};
 use oracle::draw::Draw;
-use oracle::{calls, check, checks, headers, sends, writers};
+use oracle::{calls, check, checks, headers, known, sends, writers};
 use original::vbv::VbvStandard;
 use std::collections::BTreeMap;
 use std::io::{BufWriter, Stdout, Write, stdout};
@@ -40,9 +40,13 @@ impl Cases {
     }
 
     fn known(&mut self, kind: u8) {
-        for (name, input) in checks::known(kind) {
+        for (name, bytes) in known::known(kind) {
+            let input = if kind < 17 { bytes } else { checks::with_room(&bytes) };
             self.put(kind, &input);
-            eprintln!("known: {name}: {}", checks::told(kind, &input));
+            match kind {
+                17 | 18 => eprintln!("known: {name}: {}", checks::told(kind, &input)),
+                _ => eprintln!("known: {name}: {}", answer(kind, &input).bytes[0]),
+            }
         }
     }
 
