@@ -13,3 +13,4 @@ pub mod Starting
 pub mod Storing
 pub mod Writing
 pub mod Over
+pub mod Numbering

@@ -2,3 +2,4 @@ pub mod Bits
 pub mod Refusals
 pub mod Fields
 pub mod Answers
+pub mod Numbers

@@ -7,3 +7,4 @@ pub mod SequenceHeader
 pub mod SequenceRoundTrip
 pub mod StartCode
 pub mod StreamWriter
+pub mod Numbering

@@ -6,3 +6,4 @@ pub mod SequenceExtension
 pub mod Sequence
 pub mod StreamWriter
 pub mod RoundTrips
+pub mod Numbers

@@ -6,3 +6,4 @@ pub mod Picture
 pub mod PictureHeader
 pub mod OtherDelay
 pub mod Cases
+pub mod Numbering

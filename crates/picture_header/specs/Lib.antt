@@ -4,3 +4,4 @@ pub mod Picture
 pub mod Answers
 pub mod Steps
 pub mod Stability
+pub mod Numbers

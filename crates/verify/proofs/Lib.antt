@@ -13,5 +13,4 @@ pub mod Accepting
 pub mod Telling
 pub mod Bounds
 pub mod Cases
-pub mod Unread
 pub mod Numbering

@@ -7,40 +7,28 @@ use Prim.Native.Nat.{ℕ, suc, _+_}
 use lib.Dec.{eqb}
 use lib.ListN.{drop}
 use borrow.Author.Tests.{eqb-true}
-use Rattle.bits.specs.Refusals.{Answer, andThen}
+use Rattle.bits.specs.Refusals.{Answer}
 use Rattle.bits.proofs.Flags.{pick-elim}
-use Rattle.headers.specs.SequenceHeader.{sequenceHeader}
-use Rattle.headers.specs.Sequence.{sequence}
-use Rattle.headers.specs.declared.sequence_header.Answer.{Answer as HeaderAnswer}
-use Rattle.headers.specs.declared.sequence_header.Answer.the-variants as h
-use Rattle.picture_header.specs.PictureHeader.{pictureHeader}
-use Rattle.picture_header.specs.Picture.{picture}
-use Rattle.picture_header.specs.declared.PictureHeaderRead.{PictureHeaderRead}
-use Rattle.picture_header.specs.declared.PictureHeaderRead.the-variants as p
-use Rattle.picture_header.specs.declared.PictureRead.{PictureRead}
-use Rattle.picture_header.specs.declared.PictureRead.the-variants as r
 use Rattle.vbv.specs.Annex.{gain, firstDelivered}
-use Rattle.vbv.specs.Answers.{frameRate}
 use Rattle.vbv.specs.Model.{periods}
-use Rattle.vbv.specs.Numbers.{oneOf, Numbered, a-value, by-number, by-all}
+use Rattle.bits.specs.Numbers.{oneOf, Numbered, a-value, by-number, by-all}
 use Rattle.vbv.specs.declared.VbvParams.{VbvParams}
-use Rattle.vbv.proofs.Numbering.{and-then, more-numbers, model-numbers}
+use Rattle.bits.proofs.Numbering.{and-then, more-numbers}
+use Rattle.headers.proofs.Numbering.{header-numbers}
+use Rattle.picture_header.proofs.Numbering.{picture-numbers}
+use Rattle.vbv.proofs.Numbering.{model-numbers}
 use Rattle.scan.specs.Pictures.{Pic, pictures}
 use Rattle.scan.specs.declared.Found.{Found}
 use Rattle.scan.specs.declared.Found.the-variants.{At, Nothing}
-use Rattle.verify.specs.Sequence.{rated, ifParsed, declaredBy, declaredAt, declared}
-use Rattle.verify.specs.Coded.{toldByHeader, toldByPicture, told, behind, headers, codedPictures}
+use Rattle.verify.specs.Sequence.{rated, declaredBy, declaredAt, declared}
+use Rattle.verify.specs.Coded.{told, codedAt, headers, codedPictures}
 use Rattle.verify.specs.Run.{removal, run}
 use Rattle.verify.specs.Check.{accepted, withPictures, verdict}
 use Rattle.verify.specs.Numbers.{CheckNumbers}
 use Rattle.verify.specs.declared.CodedPicture.{CodedPicture}
-use Rattle.verify.specs.declared.Told.{Told}
-use Rattle.verify.specs.declared.Told.the-variants.{Delay, Refused}
 use Rattle.verify.specs.declared.VbvPictureRecord.{VbvPictureRecord}
 use Rattle.verify.specs.declared.VbvStandard.{VbvStandard}
 use Rattle.verify.specs.declared.VbvStandard.the-variants.{Mpeg1, Mpeg2}
-use Rattle.headers.specs.Answers.{errorNumber}
-use Rattle.verify.proofs.Unread.{OfHeader, OfPictureHeader, OfPicture, header-unread, sequence-unread, picture-header-unread, picture-unread}
 
 abbrev alone : List ℕ
 alone = 14 ∷ 3 ∷ 1 ∷ 2 ∷ 6 ∷ 4 ∷ 5 ∷ 12 ∷ 15 ∷ 7 ∷ 8 ∷ []
@@ -66,47 +54,34 @@ one-or-two n q = go (eqb n 1) refl (eqb n 2) refl q
 
 -- ---- what is declared
 
-parsed-numbered : (a : HeaderAnswer) (rate buffer code : ℕ) → OfHeader a → Of (ifParsed a rate buffer code)
-unfolding ifParsed rated
-parsed-numbered h.Parsed rate buffer code g = and-then _ (more-numbers six (model-numbers .rate code)) (λ f. a-value)
-parsed-numbered (h.Refused k) rate buffer code g = by-number (one-or-two (errorNumber k) g)
+rated-numbered : (rate buffer code : ℕ) → Of (rated rate buffer code)
+unfolding rated
+rated-numbered rate buffer code = and-then _ (more-numbers six (model-numbers .rate code)) (λ f. a-value)
 
 declared-numbered : (standard : VbvStandard) (s : List ℕ) (f : Found) → Of (declaredAt standard s f)
 unfolding declaredAt declaredBy
-declared-numbered Mpeg1 s (At o c) = parsed-numbered _ _ _ _ (header-unread (drop o s))
-declared-numbered Mpeg2 s (At o c) = parsed-numbered _ _ _ _ (sequence-unread (drop o s))
+declared-numbered Mpeg1 s (At o c) = and-then _ (more-numbers one-or-two (header-numbers .sequence-header (drop o s))) (λ h. rated-numbered _ _ _)
+declared-numbered Mpeg2 s (At o c) = and-then _ (more-numbers one-or-two (header-numbers .both (drop o s))) (λ q. rated-numbered _ _ _)
 declared-numbered standard s Nothing = by-number refl
 
 -- ---- the pictures
 
-abbrev OfTold : Told → Type 0
-OfTold (Delay d i) = Unit {0}
-OfTold (Refused k) = oneOf (1 ∷ 2 ∷ []) (errorNumber k) ≡ true
-
-by-header : (a : PictureHeaderRead) → OfPictureHeader a → OfTold (toldByHeader a)
-unfolding toldByHeader
-by-header (p.Parsed y) g = tt
-by-header (p.Refused k) g = g
-
-by-picture : (a : PictureRead) → OfPicture a → OfTold (toldByPicture a)
-unfolding toldByPicture
-by-picture (r.Parsed y z) g = tt
-by-picture (r.Refused k) g = g
-
-told-numbered : (standard : VbvStandard) (s : List ℕ) → OfTold (told standard s)
+told-numbered : (standard : VbvStandard) (s : List ℕ) → Of (told standard s)
 unfolding told
-told-numbered Mpeg1 s = by-header (pictureHeader s) (picture-header-unread s)
-told-numbered Mpeg2 s = by-picture (picture s) (picture-unread s)
+told-numbered Mpeg1 s = and-then _ (more-numbers one-or-two (picture-numbers .picture-header s)) (λ h. a-value)
+told-numbered Mpeg2 s = and-then _ (more-numbers one-or-two (picture-numbers .both s)) (λ p. a-value)
 
-behind-numbered : (q : Pic) (t : Told) (rest : Answer (List CodedPicture)) → OfTold t → Of rest → Of (behind q t rest)
-unfolding behind
-behind-numbered q (Delay d i) rest g f = and-then _ f (λ cs. a-value)
-behind-numbered q (Refused k) rest g f = by-number (one-or-two (errorNumber k) g)
+coded-numbered : (standard : VbvStandard) (s : List ℕ) (q : Pic) → Of (codedAt standard s q)
+unfolding codedAt
+coded-numbered standard s q = and-then _ (told-numbered standard (drop (q .start) s)) (λ t. a-value)
 
 headers-numbered : (standard : VbvStandard) (s : List ℕ) (qs : List Pic) → Of (headers standard s qs)
 unfolding headers
 headers-numbered standard s [] = a-value
-headers-numbered standard s (q ∷ qs) = behind-numbered q _ _ (told-numbered standard (drop (q .start) s)) (headers-numbered standard s qs)
+headers-numbered standard s (q ∷ qs) =
+    and-then _ (coded-numbered standard s q) λ c.
+    and-then _ (headers-numbered standard s qs) λ cs.
+    a-value
 
 -- ---- the run
 

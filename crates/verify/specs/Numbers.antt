@@ -2,7 +2,7 @@
 -- Assumes nothing.
 use Prim.Native.Nat.{ℕ}
 use mathlib.Core.List.{List, [], _∷_}
-use Rattle.vbv.specs.Numbers.{Numbered}
+use Rattle.bits.specs.Numbers.{Numbered}
 use Rattle.verify.specs.Check.{verdict}
 use Rattle.verify.specs.declared.VbvStandard.{VbvStandard}
 
