@@ -1,180 +1,101 @@
--- Every refusal has a number: 0 from the check says that the stream is accepted, 0 from a creation that there is a state.
+-- Every refusal of an entry is one of paper 01's for it.
 -- Assumes nothing.
-use mathlib.Core.Path.{_≡_, refl, subst}
-use Prim.Native.Nat.{ℕ, suc, _+_, _/_, _≤_}
+use mathlib.Core.Path.{_≡_, refl}
+use mathlib.Core.Bool.{true}
+use Prim.Native.Nat.{ℕ, _/_}
 use mathlib.Core.List.{List, [], _∷_}
 use lib.ListN.{length}
-use native.Mathlib.Omega.{arith}
 use Rattle.bits.specs.Refusals.{Answer, value, refused, andThen}
 use Rattle.bits.proofs.Flags.{pick-elim}
-use Rattle.headers.specs.Answers.{errorNumber}
-use Rattle.headers.specs.declared.Error.{Error}
-use Rattle.headers.specs.declared.Error.the-variants as h
-use Rattle.headers.specs.declared.sequence_header.Answer.{Answer as HeaderAnswer}
-use Rattle.headers.specs.declared.sequence_header.Answer.the-variants.{Parsed, Refused as HeaderRefused}
-use Rattle.vbv.specs.Annex.{gain, firstDelivered}
-use Rattle.vbv.specs.Answers.{errorNumber as modelNumber, violationNumber, frameRate}
-use Rattle.vbv.specs.Model.{periods}
-use Rattle.vbv.specs.declared.VbvError.{VbvError}
-use Rattle.vbv.specs.declared.VbvError.the-variants as m
-use Rattle.vbv.specs.declared.VbvParams.{VbvParams}
-use Rattle.vbv.specs.declared.VbvViolation.{VbvViolation}
-use Rattle.vbv.specs.declared.VbvViolation.the-variants.{Overflow, Underflow, DelayMismatch}
-use Rattle.scan.specs.Pictures.{Pic, pictures}
-use Rattle.scan.specs.declared.Found.{Found}
-use Rattle.scan.specs.declared.Found.the-variants.{At, Nothing}
-use Rattle.verify.specs.Sequence.{rated, ifParsed, declaredBy, declaredAt, declared}
-use Rattle.verify.specs.Coded.{behind, headers, codedPictures}
-use Rattle.verify.specs.Run.{removal, run}
-use Rattle.verify.specs.Check.{accepted, withPictures, verdict}
-use Rattle.verify.specs.declared.CodedPicture.{CodedPicture}
-use Rattle.verify.specs.declared.Told.{Told as ToldBy}
-use Rattle.verify.specs.declared.Told.the-variants.{Delay, Refused as Unread}
-use Rattle.verify.specs.declared.VbvPictureRecord.{VbvPictureRecord}
+use Rattle.vbv.specs.Patch.{patchPicture}
+use Rattle.verify.specs.Check.{verdict}
 use Rattle.verify.specs.declared.VbvStandard.{VbvStandard}
 use Rattle.verify.specs.declared.VbvStandard.the-variants.{Mpeg1, Mpeg2}
-use Rattle.rate_control.specs.Answers.{refusalOf as sentRefusal}
-use Rattle.rate_control.specs.declared.CbrError.{CbrError}
-use Rattle.rate_control.specs.declared.CbrError.the-variants as s
+use Rattle.rate_control.specs.Create.{create}
+use Rattle.rate_control.specs.Offer.{Offer, offer, withdraw}
+use Rattle.rate_control.specs.declared.CbrConfig.{CbrConfig}
+use Rattle.rate_control.specs.declared.CbrWriter.{CbrWriter}
+use Rattle.rate_control.proofs.Refusing.{create-number, offer-number, withdraw-number}
+use Rattle.layout.specs.State.{writerAt}
 use Rattle.hipokuta.specs.Check.{checked}
+use Rattle.hipokuta.specs.Send.{creation, COffer, reach, answered, withdrawal}
+use Rattle.hipokuta.specs.Numbers.{among, RefusedBy, Numbers}
+use Rattle.hipokuta.proofs.Verdict.{verdict-number}
 
-header-number : (e : Error) → 1 ≤ errorNumber e
-header-number h.ShortHeader = omega arith
-header-number h.InvalidBitstream = omega arith
-header-number h.FrameRateCode = omega arith
-header-number h.FieldToWrite = omega arith
-header-number h.ShortOutput = omega arith
+module _ (ns : List ℕ) where
+  abbrev In : {X : Type 0} → Answer X → Type 0
+  In a = RefusedBy ns a
 
--- the model's numbers: no 0, no 19, none above 20
-model-range : (e : VbvError) → (1 ≤ modelNumber e) × (modelNumber e ≡ 19 → ⊥) × (modelNumber e ≤ 20)
-model-range m.FrameRateCode = (omega arith, λ h. omega arith, omega arith)
-model-range m.Early = (omega arith, λ h. omega arith, omega arith)
-model-range m.DelayTooLong = (omega arith, λ h. omega arith, omega arith)
-model-range m.Params = (omega arith, λ h. omega arith, omega arith)
-model-range m.Order = (omega arith, λ h. omega arith, omega arith)
-model-range m.Range = (omega arith, λ h. omega arith, omega arith)
-model-range m.NotAPicture = (omega arith, λ h. omega arith, omega arith)
+  listed : {X : Type 0} (a : Answer X) → ((n k c e : ℕ) → a ≡ refused n k c e → among n ns ≡ true) → In a
+  listed (value x) h = tt
+  listed (refused n k c e) h = h n k c e refl
 
-pub model-number : (e : VbvError) → 1 ≤ modelNumber e
-model-number e = model-range e .0
+abbrev ofCheck : List ℕ
+ofCheck = 19 ∷ 12 ∷ 14 ∷ 3 ∷ 1 ∷ 2 ∷ 6 ∷ 4 ∷ 5 ∷ 15 ∷ 7 ∷ 8 ∷ 11 ∷ 9 ∷ 10 ∷ []
 
-violation-range : (v : VbvViolation) → (1 ≤ violationNumber v) × (violationNumber v ≤ 11)
-violation-range (Overflow n c e) = (omega arith, omega arith)
-violation-range (Underflow n c e) = (omega arith, omega arith)
-violation-range (DelayMismatch n c e) = (omega arith, omega arith)
+verdict-listed : (standard : VbvStandard) (s : List ℕ) (places : ℕ) → RefusedBy ofCheck (verdict standard s places)
+verdict-listed standard s places =
+    listed ofCheck (verdict standard s places) λ n k c e h.
+    verdict-number (λ m. among m ofCheck ≡ true) refl refl refl refl refl refl refl refl refl refl refl refl refl refl standard s places h
 
--- the numbers of an offer's refusals: no 0; 19 is the output part's alone, and 21 the size's
-offer-range : (e : CbrError) → (1 ≤ sentRefusal e .number) × (sentRefusal e .number ≡ 19 → e ≡ s.Output) × (sentRefusal e .number ≡ 21 → e ≡ s.TooLarge)
-offer-range (s.Model e) = let m = model-range e in (m .0, λ h. absurd (m .1 h), λ h. absurd (omega (arith, m .2)))
-offer-range (s.Violation v) =
-    let m = violation-range v in
-    (m .0, λ h. absurd (omega (arith, m .1)), λ h. absurd (omega (arith, m .1)))
-offer-range s.Kind = (omega arith, λ h. absurd (omega arith), λ h. absurd (omega arith))
-offer-range s.Headers = (omega arith, λ h. absurd (omega arith), λ h. absurd (omega arith))
-offer-range s.Layer = (omega arith, λ h. absurd (omega arith), λ h. absurd (omega arith))
-offer-range s.TooLarge = (omega arith, λ h. absurd (omega arith), λ h. refl)
-offer-range s.Stuffing = (omega arith, λ h. absurd (omega arith), λ h. absurd (omega arith))
-offer-range s.Output = (omega arith, λ h. refl, λ h. absurd (omega arith))
-
-pub offer-number : (e : CbrError) → 1 ≤ sentRefusal e .number
-offer-number e = offer-range e .0
-
-pub only-output : (e : CbrError) → sentRefusal e .number ≡ 19 → e ≡ s.Output
-only-output e = offer-range e .1
-
-pub only-size : (e : CbrError) → sentRefusal e .number ≡ 21 → e ≡ s.TooLarge
-only-size e = offer-range e .2
-
--- ---- the check, down its chain of tests
-
-abbrev Told : {X : Type 0} → Answer X → Type 0
-Told (value x) = Unit {0}
-Told (refused n k c e) = 1 ≤ n
-
-and-then : {X Y : Type 0} (a : Answer X) (next : X → Answer Y) → Told a → ((x : X) → Told (next x)) → Told (andThen a next)
-and-then (value x) next h k = k x
-and-then (refused n k c e) next h f = h
-
-rate-told : (c : ℕ) → Told (frameRate c)
-unfolding frameRate
-rate-told c =
-    pick-elim Told _ (λ e. tt) λ e.
-    pick-elim Told _ (λ e. tt) λ e.
-    pick-elim Told _ (λ e. tt) λ e.
-    pick-elim Told _ (λ e. tt) λ e.
-    pick-elim Told _ (λ e. tt) λ e.
-    pick-elim Told _ (λ e. tt) λ e.
-    pick-elim Told _ (λ e. tt) λ e.
-    pick-elim Told _ (λ e. tt) λ e.
-    omega arith
-
-parsed-told : (a : HeaderAnswer) (rate buffer code : ℕ) → Told (ifParsed a rate buffer code)
-unfolding ifParsed rated
-parsed-told Parsed rate buffer code = and-then (frameRate code) _ (rate-told code) (λ f. tt)
-parsed-told (HeaderRefused e) rate buffer code = header-number e
-
-declared-told : (standard : VbvStandard) (s : List ℕ) (f : Found) → Told (declaredAt standard s f)
-unfolding declaredAt declaredBy
-declared-told Mpeg1 s (At o c) = parsed-told _ _ _ _
-declared-told Mpeg2 s (At o c) = parsed-told _ _ _ _
-declared-told standard s Nothing = omega arith
-
-behind-told : (q : Pic) (t : ToldBy) (rest : Answer (List CodedPicture)) → Told rest → Told (behind q t rest)
-unfolding behind
-behind-told q (Delay d i) rest h = and-then rest _ h (λ cs. tt)
-behind-told q (Unread e) rest h = header-number e
-
-headers-told : (standard : VbvStandard) (s : List ℕ) (qs : List Pic) → Told (headers standard s qs)
-unfolding headers
-headers-told standard s [] = tt
-headers-told standard s (q ∷ qs) = behind-told q _ _ (headers-told standard s qs)
-
-removal-told : (p : VbvParams) (n previous d : ℕ) (c : CodedPicture) → Told (removal p n previous d c)
-unfolding removal
-removal-told p n previous d c =
-    pick-elim Told _ (λ e. omega arith) λ e.
-    pick-elim Told _ (λ e. omega arith) λ e.
-    pick-elim Told _ (λ e. omega arith) λ e.
-    pick-elim Told _ (λ e. omega arith) λ e.
-    pick-elim Told _ (λ e. omega arith) λ e.
-    tt
-
-run-told : (p : VbvParams) (n previous d : ℕ) (cs : List CodedPicture) → Told (run p n previous d cs)
-unfolding run
-run-told p n previous d [] = tt
-run-told p n previous d (c ∷ cs) =
-    and-then (removal p n previous d c) _ (removal-told p n previous d c) λ r.
-    and-then (run p (suc n) (c .«end_bits») (d + gain p (periods (c .interval))) cs) _ (run-told p (suc n) (c .«end_bits») (d + gain p (periods (c .interval))) cs) λ rs.
-    tt
-
-accepted-told : (p : VbvParams) (rs : List VbvPictureRecord) → Told (accepted p rs)
-accepted-told p [] = omega arith
-accepted-told p (r ∷ rs) = tt
-
-pictures-told : (places : ℕ) (p : VbvParams) (cs : List CodedPicture) → Told (withPictures places p cs)
-unfolding withPictures
-pictures-told places p [] = omega arith
-pictures-told places p (c ∷ cs) =
-    pick-elim Told _ (λ e. omega arith) λ e.
-    pick-elim Told _ (λ e. omega arith) λ e.
-    pick-elim Told _ (λ e. omega arith) λ e.
-    and-then (run p 0 0 (firstDelivered p (c .«pos_bits») (c .«vbv_delay»)) (c ∷ cs)) (accepted p) (run-told p 0 0 _ (c ∷ cs)) (accepted-told p)
-
-verdict-told : (standard : VbvStandard) (s : List ℕ) (places : ℕ) → Told (verdict standard s places)
-unfolding verdict declared codedPictures
-verdict-told standard s places =
-    pick-elim Told _ (λ e. omega arith) λ e.
-    and-then (declared standard s) _ (declared-told standard s _) λ p.
-    and-then (codedPictures standard s) _ (headers-told standard s (pictures s)) λ cs.
-    pictures-told places p cs
-
-checked-told : (s : List ℕ) (standard : ℕ) (report recs refusal : List ℕ) → Told (checked s standard report recs refusal)
+checked-listed : (s : List ℕ) (standard : ℕ) (report recs refusal : List ℕ) → RefusedBy ofCheck (checked s standard report recs refusal)
 unfolding checked
-checked-told s standard report recs refusal =
-    pick-elim Told _ (λ e. omega arith) λ e.
-    pick-elim Told _ (λ e. verdict-told Mpeg1 s (length recs / 32)) λ e.
-    pick-elim Told _ (λ e. verdict-told Mpeg2 s (length recs / 32)) λ e.
-    omega arith
+checked-listed s standard report recs refusal =
+    pick-elim (In ofCheck) _ (λ e. refl) λ e.
+    pick-elim (In ofCheck) _ (λ e. verdict-listed Mpeg1 s (length recs / 32)) λ e.
+    pick-elim (In ofCheck) _ (λ e. verdict-listed Mpeg2 s (length recs / 32)) λ e.
+    refl
 
-pub refusal-number : (s : List ℕ) (standard : ℕ) (report recs refusal : List ℕ) (n k c x : ℕ) → checked s standard report recs refusal ≡ refused n k c x → 1 ≤ n
-refusal-number s standard report recs refusal n k c x e = subst Told e (checked-told s standard report recs refusal)
+patch-listed : (picture : List ℕ) → RefusedBy (20 ∷ []) (patchPicture picture)
+unfolding patchPicture
+patch-listed picture = pick-elim (In (20 ∷ [])) _ (λ e. refl) λ e. tt
+
+-- ---- the writer's entries
+
+abbrev ofCreation : List ℕ
+ofCreation = 19 ∷ 12 ∷ 6 ∷ []
+
+creation-listed : (c : CbrConfig) (place : List ℕ) → RefusedBy ofCreation (creation c place)
+unfolding creation
+creation-listed c place =
+    pick-elim (In ofCreation) _ (λ e. refl) λ e.
+    listed ofCreation (create c) λ n k i j h.
+    create-number (λ m. among m ofCreation ≡ true) refl refl c h
+
+abbrev ofOffer : List ℕ
+ofOffer = 12 ∷ 19 ∷ 17 ∷ 18 ∷ 20 ∷ 14 ∷ 7 ∷ 9 ∷ 21 ∷ 22 ∷ []
+
+offer-listed : (w : CbrWriter) (o : Offer) → RefusedBy ofOffer (offer w o)
+offer-listed w o =
+    listed ofOffer (offer w o) λ n k i j h.
+    offer-number (λ m. among m ofOffer ≡ true) refl refl refl refl refl refl refl refl refl refl w o h
+
+after-reaching : (r : Answer (CbrWriter × Offer)) → RefusedBy ofOffer r → RefusedBy ofOffer (andThen r (λ x. offer (x .0) (x .1)))
+after-reaching (value x) h = offer-listed (x .0) (x .1)
+after-reaching (refused n k c e) h = h
+
+answered-listed : (s : List ℕ) (o : COffer) → RefusedBy ofOffer (answered s o)
+unfolding answered reach
+answered-listed s o =
+    after-reaching (reach s o)
+    (pick-elim (In ofOffer) _ (λ e. refl) λ e.
+    pick-elim (In ofOffer) _ (λ e. refl) λ e.
+    pick-elim (In ofOffer) _ (λ e. refl) λ e.
+    tt)
+
+withdrawal-listed : (s : List ℕ) → RefusedBy (12 ∷ []) (withdrawal s)
+unfolding withdrawal
+withdrawal-listed s =
+    pick-elim (In (12 ∷ [])) _ (λ e. refl) λ e.
+    listed (12 ∷ []) (withdraw (writerAt s)) λ n k i j h.
+    withdraw-number (λ m. among m (12 ∷ []) ≡ true) refl (writerAt s) h
+
+pub numbers : Numbers
+numbers =
+    record {
+      vbv-check = checked-listed;
+      vbv-patch-delay = patch-listed;
+      cbr-create = creation-listed;
+      cbr-offer = answered-listed;
+      cbr-withdraw = withdrawal-listed;
+    }

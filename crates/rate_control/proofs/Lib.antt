@@ -22,3 +22,4 @@ pub mod Lower
 pub mod Knowing
 pub mod Answering
 pub mod Demand
+pub mod Refusing
