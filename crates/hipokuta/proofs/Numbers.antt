@@ -3,7 +3,7 @@
 use mathlib.Core.Path.{_≡_, refl}
 use mathlib.Core.Bool.{true}
 use Prim.Native.Nat.{ℕ, _/_}
-use mathlib.Core.List.{List, [], _∷_}
+use mathlib.Core.List.{List}
 use lib.ListN.{length}
 use Rattle.bits.specs.Refusals.{Answer, value, refused, andThen}
 use Rattle.bits.proofs.Flags.{pick-elim}
@@ -23,79 +23,76 @@ use Rattle.hipokuta.specs.Numbers.{among, RefusedBy, Numbers}
 use Rattle.hipokuta.proofs.Verdict.{verdict-number}
 
 module _ (ns : List ℕ) where
+  abbrev Is : ℕ → Type 0
+  Is n = among n ns ≡ true
+
   abbrev In : {X : Type 0} → Answer X → Type 0
   In a = RefusedBy ns a
 
-  listed : {X : Type 0} (a : Answer X) → ((n k c e : ℕ) → a ≡ refused n k c e → among n ns ≡ true) → In a
+  listed : {X : Type 0} (a : Answer X) → ((n k c e : ℕ) → a ≡ refused n k c e → Is n) → In a
   listed (value x) h = tt
   listed (refused n k c e) h = h n k c e refl
 
-abbrev ofCheck : List ℕ
-ofCheck = 19 ∷ 12 ∷ 14 ∷ 3 ∷ 1 ∷ 2 ∷ 6 ∷ 4 ∷ 5 ∷ 15 ∷ 7 ∷ 8 ∷ 11 ∷ 9 ∷ 10 ∷ []
+  -- ---- the check and the patch
 
-verdict-listed : (standard : VbvStandard) (s : List ℕ) (places : ℕ) → RefusedBy ofCheck (verdict standard s places)
-verdict-listed standard s places =
-    listed ofCheck (verdict standard s places) λ n k c e h.
-    verdict-number (λ m. among m ofCheck ≡ true) refl refl refl refl refl refl refl refl refl refl refl refl refl refl standard s places h
+  module _ (h19 : Is 19) (h12 : Is 12) (h14 : Is 14) (h3 : Is 3) (h1 : Is 1) (h2 : Is 2) (h6 : Is 6) (h4 : Is 4) (h5 : Is 5) (h15 : Is 15) (h7 : Is 7)
+      (h8 : Is 8) (h11 : Is 11) (h9 : Is 9) (h10 : Is 10) where
+    verdict-listed : (standard : VbvStandard) (s : List ℕ) (places : ℕ) → In (verdict standard s places)
+    verdict-listed standard s places =
+        listed (verdict standard s places) λ n k c e h.
+        verdict-number Is h14 h3 h1 h2 h6 h4 h5 h12 h15 h7 h8 h11 h9 h10 standard s places h
 
-checked-listed : (s : List ℕ) (standard : ℕ) (report recs refusal : List ℕ) → RefusedBy ofCheck (checked s standard report recs refusal)
-unfolding checked
-checked-listed s standard report recs refusal =
-    pick-elim (In ofCheck) _ (λ e. refl) λ e.
-    pick-elim (In ofCheck) _ (λ e. verdict-listed Mpeg1 s (length recs / 32)) λ e.
-    pick-elim (In ofCheck) _ (λ e. verdict-listed Mpeg2 s (length recs / 32)) λ e.
-    refl
+    checked-listed : (s : List ℕ) (standard : ℕ) (report recs refusal : List ℕ) → In (checked s standard report recs refusal)
+    unfolding checked
+    checked-listed s standard report recs refusal =
+        pick-elim In _ (λ e. h19) λ e.
+        pick-elim In _ (λ e. verdict-listed Mpeg1 s (length recs / 32)) λ e.
+        pick-elim In _ (λ e. verdict-listed Mpeg2 s (length recs / 32)) λ e.
+        h12
 
-patch-listed : (picture : List ℕ) → RefusedBy (20 ∷ []) (patchPicture picture)
-unfolding patchPicture
-patch-listed picture = pick-elim (In (20 ∷ [])) _ (λ e. refl) λ e. tt
+  -- TEMPORARY: a law for vbv
+  patch-listed : Is 20 → (picture : List ℕ) → In (patchPicture picture)
+  unfolding patchPicture
+  patch-listed h20 picture = pick-elim In _ (λ e. h20) λ e. tt
 
--- ---- the writer's entries
+  -- ---- the writer's entries
 
-abbrev ofCreation : List ℕ
-ofCreation = 19 ∷ 12 ∷ 6 ∷ []
+  creation-listed : Is 19 → Is 12 → Is 6 → (c : CbrConfig) (place : List ℕ) → In (creation c place)
+  unfolding creation
+  creation-listed h19 h12 h6 c place =
+      pick-elim In _ (λ e. h19) λ e.
+      listed (create c) λ n k i j h.
+      create-number Is h12 h6 c h
 
-creation-listed : (c : CbrConfig) (place : List ℕ) → RefusedBy ofCreation (creation c place)
-unfolding creation
-creation-listed c place =
-    pick-elim (In ofCreation) _ (λ e. refl) λ e.
-    listed ofCreation (create c) λ n k i j h.
-    create-number (λ m. among m ofCreation ≡ true) refl refl c h
+  module _ (h12 : Is 12) (h19 : Is 19) (h17 : Is 17) (h18 : Is 18) (h20 : Is 20) (h14 : Is 14) (h7 : Is 7) (h9 : Is 9) (h21 : Is 21) (h22 : Is 22) where
+    reached-listed : (r : Answer (CbrWriter × Offer)) → In r → In (andThen r (λ x. offer (x .0) (x .1)))
+    reached-listed (value x) h =
+        listed (offer (x .0) (x .1)) λ n k i j e.
+        offer-number Is h12 h17 h18 h20 h14 h7 h9 h21 h22 h19 (x .0) (x .1) e
+    reached-listed (refused n k c e) h = h
 
-abbrev ofOffer : List ℕ
-ofOffer = 12 ∷ 19 ∷ 17 ∷ 18 ∷ 20 ∷ 14 ∷ 7 ∷ 9 ∷ 21 ∷ 22 ∷ []
+    answered-listed : (s : List ℕ) (o : COffer) → In (answered s o)
+    unfolding answered reach
+    answered-listed s o =
+        reached-listed (reach s o)
+        (pick-elim In _ (λ e. h12) λ e.
+        pick-elim In _ (λ e. h19) λ e.
+        pick-elim In _ (λ e. h12) λ e.
+        tt)
 
-offer-listed : (w : CbrWriter) (o : Offer) → RefusedBy ofOffer (offer w o)
-offer-listed w o =
-    listed ofOffer (offer w o) λ n k i j h.
-    offer-number (λ m. among m ofOffer ≡ true) refl refl refl refl refl refl refl refl refl refl w o h
-
-after-reaching : (r : Answer (CbrWriter × Offer)) → RefusedBy ofOffer r → RefusedBy ofOffer (andThen r (λ x. offer (x .0) (x .1)))
-after-reaching (value x) h = offer-listed (x .0) (x .1)
-after-reaching (refused n k c e) h = h
-
-answered-listed : (s : List ℕ) (o : COffer) → RefusedBy ofOffer (answered s o)
-unfolding answered reach
-answered-listed s o =
-    after-reaching (reach s o)
-    (pick-elim (In ofOffer) _ (λ e. refl) λ e.
-    pick-elim (In ofOffer) _ (λ e. refl) λ e.
-    pick-elim (In ofOffer) _ (λ e. refl) λ e.
-    tt)
-
-withdrawal-listed : (s : List ℕ) → RefusedBy (12 ∷ []) (withdrawal s)
-unfolding withdrawal
-withdrawal-listed s =
-    pick-elim (In (12 ∷ [])) _ (λ e. refl) λ e.
-    listed (12 ∷ []) (withdraw (writerAt s)) λ n k i j h.
-    withdraw-number (λ m. among m (12 ∷ []) ≡ true) refl (writerAt s) h
+  withdrawal-listed : Is 12 → (s : List ℕ) → In (withdrawal s)
+  unfolding withdrawal
+  withdrawal-listed h12 s =
+      pick-elim In _ (λ e. h12) λ e.
+      listed (withdraw (writerAt s)) λ n k i j h.
+      withdraw-number Is h12 (writerAt s) h
 
 pub numbers : Numbers
 numbers =
     record {
-      vbv-check = checked-listed;
-      vbv-patch-delay = patch-listed;
-      cbr-create = creation-listed;
-      cbr-offer = answered-listed;
-      cbr-withdraw = withdrawal-listed;
+      vbv-check = checked-listed _ refl refl refl refl refl refl refl refl refl refl refl refl refl refl refl;
+      vbv-patch-delay = patch-listed _ refl;
+      cbr-create = creation-listed _ refl refl refl;
+      cbr-offer = answered-listed _ refl refl refl refl refl refl refl refl refl refl;
+      cbr-withdraw = withdrawal-listed _ refl;
     }
