@@ -6,27 +6,27 @@ use mathlib.Core.Bool.{Bool, true, false}
 use mathlib.Core.List.{List, [], _∷_}
 use Prim.Native.Nat.{ℕ, _≤_}
 use native.Mathlib.Omega.{arith}
-use lib.Dec.{leb, ltb}
+use lib.Dec.{ltb}
 use lib.ListN.{length}
-use borrow.Author.Tests.{leb-true, leb-false, ltb-false, lt-ltb, le-ltb}
+use borrow.Author.Tests.{ltb-false}
 use Rattle.bits.specs.Bits.{pick}
+use Rattle.bits.specs.Refusals.{Answer, value, refused, orElse, number}
 use Rattle.rate_control.specs.Create.{create}
+use Rattle.rate_control.specs.Offer.{Offer, withdraw}
 use Rattle.rate_control.specs.Calls.{Call, offering, withdrawing, run, final, after as afterCall}
 use Rattle.rate_control.specs.declared.CbrConfig.{CbrConfig}
 use Rattle.rate_control.specs.declared.CbrWriter.{CbrWriter}
-use Rattle.rate_control.specs.declared.CbrCreation.{CbrCreation}
-use Rattle.rate_control.specs.declared.CbrCreation.the-variants.{Created, Refused}
+use Rattle.rate_control.proofs.Creation.{creation as made}
 use Rattle.rate_control.proofs.Demand.{demand}
 use Rattle.rate_control.proofs.Lists.{run-none, run-one, run-append, final-none, final-one, final-append, after-offer, after-withdrawal, step-offer, step-withdrawal}
 use Rattle.rate_control.proofs.Keeping.{Whole, created-whole, after-whole, final-whole}
+use Rattle.rate_control.proofs.Refusing.{create-number}
 use Rattle.layout.specs.State.{stateBytes, stateFits, writerAt}
 use Rattle.words.specs.Words.{laid}
 use Rattle.layout.proofs.RoundTrip.{read-put, length-state}
 use Rattle.words.proofs.Laying.{laid-laid}
-use Rattle.rate_control.specs.Answers.{creationNumber}
-use Rattle.hipokuta.specs.Send.{createNumber, createState, created, COffer, choicesFit, offerOf, stopped, reached, asking, reach, offerNumber, offerState, offerOut, offerAnswer, withdrawNumber, withdrawState}
-use Rattle.hipokuta.specs.Calls.{CCall, offers, withdraws, after, offerSteps, steps, runC, finalC, callsOf, calls, seen, seenC, shownStep, turnedAway, shown, shownAll, OwedFromC}
-use Rattle.hipokuta.proofs.Numbers.{model-number}
+use Rattle.hipokuta.specs.Send.{stateAfter, creation, COffer, choicesFit, offerOf, reach, answered, offerState, offerOut, offerPlace, withdrawal}
+use Rattle.hipokuta.specs.Calls.{CCall, offers, withdraws, after, offerSteps, steps, runC, finalC, callsOf, calls, seen, seenC, shownAs, shownStep, shown, shownAll, FromCreation, OwedFromC}
 
 -- ---- a call on a writer's state in a place
 
@@ -48,13 +48,13 @@ module _ (w : CbrWriter) (h : Whole w) (place : List ℕ) (room : 152 ≤ length
 
   -- what C sees
   sees-offer : (o : COffer) (a f : Bool) → ltb (length (o .answer)) 72 ≡ a → choicesFit o ≡ f → seen bytes (offers o) ≡ shown w (offers o)
-  unfolding seen shown shownStep turnedAway reach asking offerNumber offerOut offerAnswer pick
+  unfolding seen shown shownAs shownStep reach answered offerOut offerPlace pick
   sees-offer o true f e g = rw (fits, e)
   sees-offer o false false e g = rw (fits, e, g)
   sees-offer o false true e g = rw (fits, e, g, read, step-offer w (offerOf o))
 
   sees : (c : CCall) → seen bytes c ≡ shown w c
-  unfolding seen shown shownStep withdrawNumber pick
+  unfolding seen shown shownStep withdrawal pick
   sees (offers o) = sees-offer o _ _ refl refl
   sees withdraws = rw (fits, read, step-withdrawal w)
 
@@ -63,35 +63,42 @@ module _ (w : CbrWriter) (h : Whole w) (place : List ℕ) (room : 152 ≤ length
     same : steps bytes c ≡ run w (callsOf c)
     left : after bytes c ≡ laid (stateBytes (final w (callsOf c))) place
 
-  asks-nothing : (o : COffer) (n : ℕ) → reach bytes o ≡ stopped n → callsOf (offers o) ≡ [] → Asks (offers o)
-  unfolding steps offerSteps after offerState
+  asks-nothing : (o : COffer) (n : ℕ) → reach bytes o ≡ refused n 0 0 0 → callsOf (offers o) ≡ [] → Asks (offers o)
+  unfolding steps offerSteps after offerState stateAfter
   asks-nothing o n e f = record { same = rw (e, f) (sym (run-none w)); left = rw (e, f, final-none w) }
 
-  asks-offer : (o : COffer) → reach bytes o ≡ reached w (offerOf o) → callsOf (offers o) ≡ offering (offerOf o) ∷ [] → Asks (offers o)
-  unfolding steps offerSteps after offerState
+  asks-offer : (o : COffer) → reach bytes o ≡ value (w, offerOf o) → callsOf (offers o) ≡ offering (offerOf o) ∷ [] → Asks (offers o)
+  unfolding steps offerSteps after offerState stateAfter
   asks-offer o e f =
       record {
         same = rw (e, f) (sym (run-one w (offering (offerOf o))));
         left = rw (e, f, final-one w (offering (offerOf o)), ← after-offer w (offerOf o)) (next-laid (offering (offerOf o)));
       }
 
+  withdrawal-leaves : (a : Answer CbrWriter) → withdraw w ≡ a → laid (stateBytes (orElse w a)) bytes ≡ laid (stateBytes (orElse w a)) place
+      → stateAfter a bytes ≡ laid (stateBytes (orElse w a)) place
+  unfolding stateAfter
+  withdrawal-leaves (value v) e l = l
+  withdrawal-leaves (refused n k c x) e l = refl
+
   asks-withdrawal : Asks withdraws
-  unfolding steps after withdrawState callsOf pick
+  unfolding steps after withdrawal callsOf pick
   asks-withdrawal =
       record {
         same = rw (fits, read) (sym (run-one w withdrawing));
-        left = rw (fits, read, final-one w withdrawing, ← after-withdrawal w) (next-laid withdrawing);
+        left = rw (fits, read, final-one w withdrawing, after-withdrawal w)
+            (withdrawal-leaves (withdraw w) refl (rw (← after-withdrawal w) (next-laid withdrawing)));
       }
 
   asks : (c : CCall) → Asks c
-  unfolding reach asking callsOf pick
+  unfolding reach callsOf pick
   asks withdraws = asks-withdrawal
-  asks (offers o) = go (leb 72 (length (o .answer))) (choicesFit o) refl refl
+  asks (offers o) = go (ltb (length (o .answer)) 72) (choicesFit o) refl refl
     where
-      go : (a t : Bool) → leb 72 (length (o .answer)) ≡ a → choicesFit o ≡ t → Asks (offers o)
-      go true true e f = asks-offer o (rw (fits, le-ltb (length (o .answer)) 72 (leb-true _ _ e), f, read)) (rw (e, f))
-      go true false e f = asks-nothing o 12 (rw (fits, le-ltb (length (o .answer)) 72 (leb-true _ _ e), f)) (rw (e, f))
-      go false t e f = asks-nothing o 19 (rw (fits, lt-ltb (length (o .answer)) 72 (leb-false _ _ e))) (rw e)
+      go : (a t : Bool) → ltb (length (o .answer)) 72 ≡ a → choicesFit o ≡ t → Asks (offers o)
+      go true t e f = asks-nothing o 19 (rw (fits, e)) (rw e)
+      go false false e f = asks-nothing o 12 (rw (fits, e, f)) (rw (e, f))
+      go false true e f = asks-offer o (rw (fits, e, f, read)) (rw (e, f))
 
 -- ---- lists of calls
 
@@ -112,24 +119,34 @@ ask-all w h place room (c ∷ cs) =
       left = rw (a .left, final-append w (callsOf c) (calls cs)) (b .left);
     }
 
--- an accepted creation has made a state, and found room for it
-accepted : (c : CbrConfig) (place : List ℕ) → createNumber c place ≡ 0 → (create c .answer ≡ Created) × (152 ≤ length place)
-unfolding createNumber pick
-accepted c place h = go (ltb (length place) 152) (create c .answer) refl refl h
-  where
-    go : (t : Bool) (a : CbrCreation) → ltb (length place) 152 ≡ t → create c .answer ≡ a → pick t 19 (creationNumber a) ≡ 0
-        → (create c .answer ≡ Created) × (152 ≤ length place)
-    go true a e f h = absurd (omega arith)
-    go false Created e f h = (f, ltb-false _ _ e)
-    go false (Refused x) e f h = absurd (omega (arith, model-number x))
+-- ---- creation
 
-created-state : (c : CbrConfig) (place : List ℕ) → create c .answer ≡ Created → createState c place ≡ laid (stateBytes (create c .writer)) place
-unfolding createState created
-created-state c place h = rw h
+created-state : (c : CbrConfig) (w : CbrWriter) (place : List ℕ) → create c ≡ value w → ltb (length place) 152 ≡ false
+    → stateAfter (creation c place) place ≡ laid (stateBytes w) place
+unfolding creation stateAfter pick
+created-state c w place h e = rw (e, h)
 
+accepted : (c : CbrConfig) (w : CbrWriter) (place : List ℕ) → create c ≡ value w → ltb (length place) 152 ≡ false → FromCreation c place
+accepted c w place h e =
+    let m = made c w h in
+    let s = created-state c w place h e in
+    record {
+      rate = m .frames;
+      writer = w;
+      rate-is = m .frames-are;
+      writer-is = h;
+      from-c =
+          λ cs b.
+          let a = ask-all w (created-whole c w h) place (ltb-false (length place) 152 e) cs in
+          record { same = rw s (a .same); sees = rw s (a .sees); left = rw s (a .left); demand = demand c (m .frames) w (calls cs) (m .frames-are) h b };
+    }
+
+-- 0 says that there is room, and a writer
 pub from-c : OwedFromC
-from-c c place cs n b =
-    let m = accepted c place n in
-    let a = ask-all (create c .writer) (created-whole c (m .0)) place (m .1) cs in
-    let e = created-state c place (m .0) in
-    record { same = rw e (a .same); sees = rw e (a .sees); left = rw e (a .left); demand = demand c (calls cs) (m .0) b }
+unfolding creation pick
+from-c c place n = go (ltb (length place) 152) (create c) refl refl n
+  where
+    go : (t : Bool) (a : Answer CbrWriter) → ltb (length place) 152 ≡ t → create c ≡ a → number (pick t (refused 19 0 0 0) a) ≡ 0 → FromCreation c place
+    go true a e f h = absurd (omega arith)
+    go false (value w) e f h = accepted c w place f e
+    go false (refused m k i j) e f h = absurd (omega (arith, create-number (λ x. 1 ≤ x) (omega arith) (omega arith) c f))

@@ -1,6 +1,7 @@
 pub mod Patching
 pub mod Checking
-pub mod Numbers
 pub mod Sending
+pub mod Verdict
+pub mod Numbers
 pub mod Refusals
 pub mod FromC

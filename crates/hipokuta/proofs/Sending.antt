@@ -1,7 +1,7 @@
 -- The ways through the writer's entries.
 -- Assumes nothing.
-use mathlib.Core.Path.{_≡_, refl, sym, _∙_}
-use mathlib.Core.Bool.{Bool, true, false, _&&_}
+use mathlib.Core.Path.{_≡_, refl, sym, ap, _∙_}
+use mathlib.Core.Bool.{Bool, true, false, _&&_, true≢false}
 use mathlib.Core.List.{List}
 use Prim.Native.Nat.{ℕ, _≤_, _<_}
 use native.Mathlib.Omega.{arith}
@@ -9,71 +9,71 @@ use lib.Dec.{leb, eqb}
 use lib.ListN.{length}
 use borrow.Author.Tests.{lt-ltb, le-ltb}
 use Rattle.bits.specs.Bits.{pick}
-use Rattle.vbv.specs.Answers.{errorNumber}
+use Rattle.bits.specs.Refusals.{Answer, value, refused, number}
+use Rattle.vbv.specs.Answers.{errorNumber, refusal}
 use Rattle.vbv.specs.declared.RemovalInterval.{RemovalInterval}
 use Rattle.vbv.specs.declared.VbvError.{VbvError}
 use Rattle.verify.specs.Answers.{plain}
 use Rattle.verify.specs.declared.VbvRefusal.{VbvRefusal}
 use Rattle.layers.specs.declared.PictureKind.{PictureKind}
+use Rattle.rate_control.specs.Answers.{offerAnswer, creationAnswer, createdAnswer, withdrawalAnswer, withdrawnAnswer}
 use Rattle.rate_control.specs.Create.{create}
-use Rattle.rate_control.specs.Offer.{Offer, offer, outAfter, withdraw}
+use Rattle.rate_control.specs.Offer.{Offer, offer, left, outAfter, withdraw}
 use Rattle.rate_control.specs.declared.CbrConfig.{CbrConfig}
+use Rattle.rate_control.specs.declared.CbrWriter.{CbrWriter}
 use Rattle.rate_control.specs.declared.CbrCreated.{CbrCreated}
-use Rattle.rate_control.specs.declared.CbrCreation.{CbrCreation}
 use Rattle.rate_control.specs.declared.CbrCreation.the-variants.{Created, Refused as NotCreated}
 use Rattle.rate_control.specs.declared.CbrOffered.{CbrOffered}
 use Rattle.rate_control.specs.declared.CbrWithdrawal.the-variants.{Withdrawn, Refused as NotWithdrawn}
 use Rattle.rate_control.specs.declared.CbrWithdrawn.{CbrWithdrawn}
 use Rattle.rate_control.proofs.Creation.{within-is}
-use Rattle.rate_control.proofs.Keeping.{created-whole}
-use Rattle.layout.specs.Answers.{refusedWords, answerWords}
-use Rattle.layout.specs.State.{stateBytes, held}
+use Rattle.rate_control.proofs.Refusing.{withdraws}
+use Rattle.layout.specs.Answers.{answerWords}
+use Rattle.layout.specs.State.{stateBytes, writerAt, held}
 use Rattle.words.specs.Words.{wordsBytes, laid}
 use Rattle.layout.specs.declared.CbrState.{CbrState}
 use Rattle.layout.proofs.Answering.{length-refused}
 use Rattle.layout.proofs.Held.{holds, holds-none}
-use Rattle.layout.proofs.RoundTrip.{length-state}
+use Rattle.layout.proofs.RoundTrip.{state-fits}
 use Rattle.words.proofs.Laying.{laid-short}
-use Rattle.rate_control.specs.Answers.{answerNumber}
-use Rattle.hipokuta.specs.Send.{createNumber, created, createState, COffer, kindFor, intervalFor, choicesFit, offerOf, Reached, stopped, reached, asking, reach, offerNumber, offerState, offerOut, offerAnswer, withdrawNumber, withdrawState}
+use Rattle.hipokuta.specs.Send.{stateAfter, creation, COffer, kindFor, intervalFor, choicesFit, offerOf, reach, answered, offerState, offerOut, offerPlace, withdrawal}
 
 -- ---- creation: the number, and the place afterwards
 
 module _ (c : CbrConfig) (place : List ℕ) where
   abbrev Creates : ℕ → List ℕ → Type 0
-  Creates n after = (n ≡ createNumber c place) × (after ≡ createState c place)
-
-  -- a new state has no room
-  pub short-state : length place < 152 → (a : CbrCreation) → create c .answer ≡ a → place ≡ created a (create c .writer) place
-  unfolding created
-  short-state h Created e =
-      let w = created-whole c e in
-      sym (laid-short (stateBytes (create c .writer)) place (omega (arith, length-state (create c .writer) (w .targets) (w .inv .three))))
-  short-state h (NotCreated v) e = refl
+  Creates n after = (n ≡ number (creation c place)) × (after ≡ stateAfter (creation c place) place)
 
   pub no-state-place : length place < 152 → Creates 19 place
-  unfolding createNumber createState pick
-  no-state-place h = rw (lt-ltb (length place) 152 h) (refl, short-state h (create c .answer) refl)
+  unfolding creation stateAfter pick
+  no-state-place h = rw (lt-ltb (length place) 152 h) (refl, refl)
 
-  module _ (room : 152 ≤ length place) (r : CbrCreated) (e : r ≡ create c) where
+  module _ (room : 152 ≤ length place) (r : CbrCreated) (e : createdAnswer r ≡ create c) where
     pub is-created : (after : List ℕ) → r .answer ≡ Created → after ≡ laid (stateBytes (r .writer)) place → Creates 0 after
-    unfolding createNumber createState created pick
-    is-created after h g = rw (le-ltb (length place) 152 room, ← e, h) (refl, g)
+    unfolding creation stateAfter pick
+    is-created after h g =
+        let a : create c ≡ value (r .writer) = sym e ∙ ap (λ x. creationAnswer x (r .writer)) h in
+        rw (le-ltb (length place) 152 room, a) (refl, g)
 
     pub not-created : (v : VbvError) (n : ℕ) → r .answer ≡ NotCreated v → n ≡ errorNumber v → Creates n place
-    unfolding createNumber createState created pick
-    not-created v n h g = rw (le-ltb (length place) 152 room, ← e, h) (g, refl)
+    unfolding creation stateAfter pick
+    not-created v n h g =
+        let a : create c ≡ refusal v = sym e ∙ ap (λ x. creationAnswer x (r .writer)) h in
+        rw (le-ltb (length place) 152 room, a) (g, refl)
 
 -- ---- an offer: the number, and state, output part and answer place afterwards
 
 module _ (s : List ℕ) (o : COffer) where
-  abbrev Leaves : Reached → ℕ → List ℕ → List ℕ → List ℕ → Type 0
-  Leaves r n after out answer = (n ≡ offerNumber r) × ((after ≡ offerState r s) × ((out ≡ offerOut r (o .out)) × (answer ≡ offerAnswer r (o .answer))))
+  abbrev Leaves : ℕ → List ℕ → List ℕ → List ℕ → Type 0
+  Leaves n after out answer = (n ≡ number (answered s o)) × ((after ≡ offerState s o) × ((out ≡ offerOut s o) × (answer ≡ offerPlace s o)))
 
-  leaves-stopped : (n : ℕ) {r : VbvRefusal} {answer : List ℕ} → r ≡ plain n → answer ≡ laid (wordsBytes (refusedWords r)) (o .answer)
-      → Leaves (stopped n) n s (o .out) answer
-  unfolding offerNumber offerState offerOut offerAnswer
-  leaves-stopped n e f = (refl, (refl, (refl, rw (← e) f)))
+  -- a refusal's words in the answer place
+  abbrev worded : VbvRefusal → List ℕ
+  worded r = laid (wordsBytes (answerWords (refused (r .number) (r .picture) (r .coded) (r .expected)))) (o .answer)
+
+  stopped : (n : ℕ) → reach s o ≡ refused n 0 0 0 → {r : VbvRefusal} {answer : List ℕ} → r ≡ plain n → answer ≡ worded r → Leaves n s (o .out) answer
+  unfolding answered offerState offerOut offerPlace stateAfter
+  stopped n e f g = rw e (refl, (refl, (refl, g ∙ ap worded f)))
 
   -- the test of kind, interval and flag as the code has it, and the offer with what they stand for
   abbrev codes : Bool
@@ -87,57 +87,63 @@ module _ (s : List ℕ) (o : COffer) where
   codes-told = rw (within-is 1 2 (o .interval))
 
   module _ (x : CbrState) (e : x ≡ held s) where
-    pub no-state : x .fits ≡ false → {r : VbvRefusal} {answer : List ℕ} → r ≡ plain 12 → answer ≡ laid (wordsBytes (refusedWords r)) (o .answer)
-        → Leaves (reach s o) 12 s (o .out) answer
-    unfolding reach asking pick
-    no-state h f g = rw (holds-none s x e h) (leaves-stopped 12 f g)
+    pub no-state : x .fits ≡ false → {r : VbvRefusal} {answer : List ℕ} → r ≡ plain 12 → answer ≡ worded r → Leaves 12 s (o .out) answer
+    unfolding reach pick
+    no-state h f g = stopped 12 (rw (holds-none s x e h)) f g
 
     module _ (h : x .fits ≡ true) where
-      pub no-answer-place : length (o .answer) < 72 → Leaves (reach s o) 19 s (o .out) (o .answer)
-      unfolding reach asking pick
+      pub no-answer-place : length (o .answer) < 72 → Leaves 19 s (o .out) (o .answer)
+      unfolding reach pick
       no-answer-place l =
-          let short = laid-short (wordsBytes (refusedWords (plain 19))) (o .answer) (omega (arith, length-refused (plain 19))) in
-          rw (holds s x e h .0, lt-ltb (length (o .answer)) 72 l) (leaves-stopped 19 refl (sym short))
+          let short = laid-short (wordsBytes (answerWords (refused 19 0 0 0))) (o .answer) (omega (arith, length-refused 19 0 0 0)) in
+          stopped 19 (rw (holds s x e h .0, lt-ltb (length (o .answer)) 72 l)) refl (sym short)
 
       module _ (l : 72 ≤ length (o .answer)) where
-        pub no-code : codes ≡ false
-            → {r : VbvRefusal} {answer : List ℕ} → r ≡ plain 12 → answer ≡ laid (wordsBytes (refusedWords r)) (o .answer)
-            → Leaves (reach s o) 12 s (o .out) answer
-        unfolding reach asking pick
-        no-code t f g = rw (holds s x e h .0, le-ltb (length (o .answer)) 72 l, sym codes-told ∙ t) (leaves-stopped 12 f g)
+        pub no-code : codes ≡ false → {r : VbvRefusal} {answer : List ℕ} → r ≡ plain 12 → answer ≡ worded r → Leaves 12 s (o .out) answer
+        unfolding reach pick
+        no-code t f g = stopped 12 (rw (holds s x e h .0, le-ltb (length (o .answer)) 72 l, sym codes-told ∙ t)) f g
 
         -- the writer is asked
         module _ (t : codes ≡ true) where
-          reaches : reach s o ≡ reached (x .writer) (offerOf o)
-          unfolding reach asking pick
+          reaches : reach s o ≡ value (x .writer, offerOf o)
+          unfolding reach pick
           reaches =
               let k = holds s x e h in
               rw (k .0, le-ltb (length (o .answer)) 72 l, sym codes-told ∙ t, k .1)
 
           pub asked : (k : PictureKind) (i : RemovalInterval) → k ≡ kindFor (o .kind) → i ≡ intervalFor (o .interval)
-              → (r : CbrOffered) → r ≡ offer (x .writer) (offered k i)
-              → {n : ℕ} {after out answer : List ℕ} → n ≡ answerNumber (r .answer) → after ≡ laid (stateBytes (r .writer)) s
+              → (r : CbrOffered) → offerAnswer (r .answer) ≡ offer (x .writer) (offered k i) → r .writer ≡ left (x .writer) (offered k i)
+              → {n : ℕ} {after out answer : List ℕ} → n ≡ number (offerAnswer (r .answer)) → after ≡ laid (stateBytes (r .writer)) s
               → out ≡ outAfter (x .writer) (offered k i)
-              → answer ≡ laid (wordsBytes (answerWords (r .answer))) (o .answer)
-              → Leaves (reach s o) n after out answer
-          unfolding offerNumber offerState offerOut offerAnswer offerOf
-          asked k i kind interval r f n after out answer = rw (reaches, ← kind, ← interval, ← f) (n, (after, (out, answer)))
+              → answer ≡ laid (wordsBytes (answerWords (offerAnswer (r .answer)))) (o .answer)
+              → Leaves n after out answer
+          unfolding answered offerState offerOut offerPlace stateAfter offerOf
+          asked k i kind interval r f g n after out answer =
+              rw (reaches, ← kind, ← interval)
+              (n ∙ ap number f, (after ∙ ap (λ y. laid (stateBytes y) s) g, (out, answer ∙ ap (λ y. laid (wordsBytes (answerWords y)) (o .answer)) f)))
 
 -- ---- a withdrawal: the number, and the state afterwards
 
 module _ (s : List ℕ) (x : CbrState) (e : x ≡ held s) where
   abbrev Withdraws : ℕ → List ℕ → Type 0
-  Withdraws n after = (n ≡ withdrawNumber s) × (after ≡ withdrawState s)
+  Withdraws n after = (n ≡ number (withdrawal s)) × (after ≡ stateAfter (withdrawal s) s)
 
   pub no-writer : x .fits ≡ false → Withdraws 12 s
-  unfolding withdrawNumber withdrawState pick
+  unfolding withdrawal stateAfter pick
   no-writer h = rw (holds-none s x e h) (refl, refl)
 
-  module _ (h : x .fits ≡ true) (r : CbrWithdrawn) (f : r ≡ withdraw (x .writer)) {after : List ℕ} (g : after ≡ laid (stateBytes (r .writer)) s) where
-    pub is-withdrawn : r .answer ≡ Withdrawn → Withdraws 0 after
-    unfolding withdrawNumber withdrawState pick
-    is-withdrawn a = let k = holds s x e h in rw (k .0, ← k .1, ← f, a) (refl, g)
+  module _ (h : x .fits ≡ true) (r : CbrWithdrawn) (f : withdrawnAnswer r ≡ withdraw (x .writer)) where
+    told : r .answer ≡ Withdrawn → withdraw (writerAt s) ≡ value (r .writer)
+    told a = ap withdraw (sym (holds s x e h .1)) ∙ (sym f ∙ ap (λ y. withdrawalAnswer y (r .writer)) a)
 
-    pub not-withdrawn : (v : VbvError) {n : ℕ} → r .answer ≡ NotWithdrawn v → n ≡ errorNumber v → Withdraws n after
-    unfolding withdrawNumber withdrawState pick
-    not-withdrawn v a m = let k = holds s x e h in rw (k .0, ← k .1, ← f, a) (m, g)
+    pub is-withdrawn : {after : List ℕ} → after ≡ laid (stateBytes (r .writer)) s → r .answer ≡ Withdrawn → Withdraws 0 after
+    unfolding withdrawal stateAfter pick
+    is-withdrawn g a = rw (holds s x e h .0, told a) (refl, g)
+
+    -- a writer that fits is not refused
+    pub not-withdrawn : (v : VbvError) {n : ℕ} {after : List ℕ} → r .answer ≡ NotWithdrawn v → Withdraws n after
+    not-withdrawn v a =
+        let k = holds s x e h in
+        let b : refusal v ≡ withdraw (x .writer) = sym (ap (λ y. withdrawalAnswer y (r .writer)) a) ∙ f in
+        let d : withdraw (x .writer) ≡ value _ = ap withdraw (k .1) ∙ withdraws (writerAt s) (state-fits s (k .0) .2) in
+        absurd (true≢false cc)

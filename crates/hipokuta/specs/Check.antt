@@ -5,6 +5,7 @@ use mathlib.Core.Bool.{_||_}
 use mathlib.Core.List.{List, _∷_}
 use lib.Dec.{ltb, eqb}
 use lib.ListN.{length}
+use denote.Ref.{now}
 use Rattle.bits.specs.Bits.{pick}
 use Rattle.bits.specs.Answers.{over}
 use Rattle.bits.specs.Refusals.{Answer, value, refused, refuse}
@@ -14,6 +15,7 @@ use Rattle.verify.specs.declared.VbvStandard.the-variants.{Mpeg1, Mpeg2}
 use Rattle.verify.specs.declared.VbvStreamReport.{VbvStreamReport}
 use Rattle.words.specs.Words.{wordsBytes, laid}
 use Rattle.layout.specs.Answers.{reportWords, refusalWords}
+use Rattle.hipokuta.specs.Lent.{Slice}
 
 -- of a stream, the standard's number and the places for report, records and refusal; a record place is 32 bytes
 unfoldable pub checked : List ℕ → ℕ → List ℕ → List ℕ → List ℕ → Answer Accepted
@@ -22,6 +24,10 @@ checked s standard report recs refusal =
     (pick (eqb standard 1) (verdict Mpeg1 s (length recs / 32))
     (pick (eqb standard 2) (verdict Mpeg2 s (length recs / 32))
     (refused 12 0 0 0)))
+
+-- by what the slices hold when `vbv_check` is called
+abbrev pub checkedIn : Slice → ℕ → Slice → Slice → Slice → Answer Accepted
+checkedIn stream standard report recs refusal = checked (now (stream .entry)) standard (now (report .entry)) (now (recs .entry)) (now (refusal .entry))
 
 -- the places afterwards; a refusal place that is too short is left alone
 unfoldable pub reportAfter : Answer VbvStreamReport → List ℕ → List ℕ

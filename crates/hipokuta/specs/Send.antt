@@ -1,40 +1,47 @@
 -- `cbr_create`, `cbr_offer` and `cbr_withdraw` (paper 01, 'A placed picture' and 'Rust forms to replace'; docs/LAYOUT.md): the writer's own answers, its state as bytes.
--- First a state that holds no writer is 12; then a place too short for a new state or an answer is 19; then a kind, interval or flag that is none is 12.
 -- Assumes nothing.
 use Prim.Native.Nat.{ℕ}
 use mathlib.Core.List.{List}
 use mathlib.Core.Bool.{Bool, not, _&&_}
 use lib.Dec.{leb, ltb, eqb}
 use lib.ListN.{length}
+use denote.Ref.{now}
 use Rattle.bits.specs.Bits.{pick}
+use Rattle.bits.specs.Refusals.{Answer, value, refused, refuse, andThen, orElse}
 use Rattle.vbv.specs.declared.RemovalInterval.{RemovalInterval}
 use Rattle.vbv.specs.declared.RemovalInterval.the-variants.{Frame, Field}
-use Rattle.verify.specs.Answers.{plain}
 use Rattle.layers.specs.declared.PictureKind.{PictureKind}
 use Rattle.layers.specs.declared.PictureKind.the-variants.{I, P, B}
-use Rattle.rate_control.specs.Answers.{creationNumber, answerNumber, withdrawalNumber}
+use Rattle.rate_control.specs.Answers.{Given}
 use Rattle.rate_control.specs.Create.{create, within}
-use Rattle.rate_control.specs.Offer.{Offer, offer, outAfter, withdraw}
+use Rattle.rate_control.specs.Offer.{Offer, offer, left, outAfter, withdraw}
 use Rattle.rate_control.specs.declared.CbrConfig.{CbrConfig}
-use Rattle.rate_control.specs.declared.CbrCreation.{CbrCreation}
-use Rattle.rate_control.specs.declared.CbrCreation.the-variants.{Created, Refused as NotCreated}
 use Rattle.rate_control.specs.declared.CbrWriter.{CbrWriter}
 use Rattle.words.specs.Words.{wordsBytes, laid}
 use Rattle.layout.specs.State.{stateBytes, stateFits, writerAt}
-use Rattle.layout.specs.Answers.{refusedWords, answerWords}
+use Rattle.layout.specs.Answers.{answerWords}
+use Rattle.hipokuta.specs.Lent.{Slice}
+
+-- the place of a state afterwards: the new writer's state over its first bytes; as it was beside a refusal
+unfoldable pub stateAfter : Answer CbrWriter → List ℕ → List ℕ
+stateAfter (value w) place = laid (stateBytes w) place
+stateAfter (refused n k c e) place = place
 
 -- ---- creation
 
-unfoldable pub createNumber : CbrConfig → List ℕ → ℕ
-createNumber c place = pick (ltb (length place) 152) 19 (creationNumber (create c .answer))
+abbrev pub configOf : ℕ → ℕ → ℕ → ℕ → ℕ → ℕ → CbrConfig
+configOf rate buffer code quantiser between anchors = record {
+  «bit_rate_value» = rate;
+  «vbv_buffer_size_value» = buffer;
+  «frame_rate_code» = code;
+  «initial_quantiser_scale_code» = quantiser;
+  «b_between» = between;
+  «anchors_per_gop» = anchors;
+}
 
--- the new state, where there is one and it has room
-unfoldable pub created : CbrCreation → CbrWriter → List ℕ → List ℕ
-created Created w place = laid (stateBytes w) place
-created (NotCreated e) w place = place
-
-unfoldable pub createState : CbrConfig → List ℕ → List ℕ
-createState c place = created (create c .answer) (create c .writer) place
+-- 19 for a place too short for a state, then the creation's own answer
+unfoldable pub creation : CbrConfig → List ℕ → Answer CbrWriter
+creation c place = refuse 19 (ltb (length place) 152) (create c)
 
 -- ---- an offer
 
@@ -47,6 +54,18 @@ pub record COffer : Type 0 where
   pub layer : List ℕ
   pub out : List ℕ
   pub answer : List ℕ
+
+-- by what the slices hold when `cbr_offer` is called
+abbrev pub brought : Slice → ℕ → ℕ → ℕ → Slice → Slice → Slice → COffer
+brought headers kind interval last layer out answer = record {
+  headers = now (headers .entry);
+  kind = kind;
+  interval = interval;
+  last = last;
+  layer = now (layer .entry);
+  out = now (out .entry);
+  answer = now (answer .entry);
+}
 
 -- kinds 0 I, 1 P, 2 B; intervals 1 a field, 2 a frame; a flag 0 or 1
 unfoldable pub kindFor : ℕ → PictureKind
@@ -68,46 +87,30 @@ offerOf o = record {
   out = o .out;
 }
 
--- stopped ahead of the writer, by a number; or the writer that it reaches, and the offer there
-pub data Reached : Type 0 where
-  stopped : ℕ → Reached
-  reached : CbrWriter → Offer → Reached
+-- 12 for a state that holds no writer, 19 for a place too short for an answer, 12 for a kind, interval or flag that is none; then the writer that is asked, and what it is offered
+unfoldable pub reach : List ℕ → COffer → Answer (CbrWriter × Offer)
+reach s o =
+    refuse 12 (not (stateFits s))
+    (refuse 19 (ltb (length (o .answer)) 72)
+    (refuse 12 (not (choicesFit o))
+    (value (writerAt s, offerOf o))))
 
--- of whether the state fits, and its writer
-unfoldable pub asking : Bool → CbrWriter → COffer → Reached
-asking fits w o =
-    pick (not fits) (stopped 12)
-    (pick (ltb (length (o .answer)) 72) (stopped 19)
-    (pick (not (choicesFit o)) (stopped 12)
-    (reached w (offerOf o))))
-
--- of the state's bytes
-unfoldable pub reach : List ℕ → COffer → Reached
-unfolding asking
-reach s o = asking (stateFits s) (writerAt s) o
-
--- the value returned: 0 for a picture that is placed or wanted again
-unfoldable pub offerNumber : Reached → ℕ
-offerNumber (stopped n) = n
-offerNumber (reached w o) = answerNumber (offer w o .answer)
+-- then the writer's own answer
+unfoldable pub answered : List ℕ → COffer → Answer Given
+answered s o = andThen (reach s o) (λ x. offer (x .0) (x .1))
 
 -- state, output part and answer place afterwards
-unfoldable pub offerState : Reached → List ℕ → List ℕ
-offerState (stopped n) s = s
-offerState (reached w o) s = laid (stateBytes (offer w o .writer)) s
+unfoldable pub offerState : List ℕ → COffer → List ℕ
+offerState s o = stateAfter (andThen (reach s o) (λ x. value (left (x .0) (x .1)))) s
 
-unfoldable pub offerOut : Reached → List ℕ → List ℕ
-offerOut (stopped n) out = out
-offerOut (reached w o) out = outAfter w o
+unfoldable pub offerOut : List ℕ → COffer → List ℕ
+offerOut s o = orElse (o .out) (andThen (reach s o) (λ x. value (outAfter (x .0) (x .1))))
 
-unfoldable pub offerAnswer : Reached → List ℕ → List ℕ
-offerAnswer (stopped n) place = laid (wordsBytes (refusedWords (plain n))) place
-offerAnswer (reached w o) place = laid (wordsBytes (answerWords (offer w o .answer))) place
+unfoldable pub offerPlace : List ℕ → COffer → List ℕ
+offerPlace s o = laid (wordsBytes (answerWords (answered s o))) (o .answer)
 
 -- ---- a withdrawal
 
-unfoldable pub withdrawNumber : List ℕ → ℕ
-withdrawNumber s = pick (stateFits s) (withdrawalNumber (withdraw (writerAt s) .answer)) 12
-
-unfoldable pub withdrawState : List ℕ → List ℕ
-withdrawState s = pick (stateFits s) (laid (stateBytes (withdraw (writerAt s) .writer)) s) s
+-- 12 for a state that holds no writer, then the withdrawal's own answer
+unfoldable pub withdrawal : List ℕ → Answer CbrWriter
+withdrawal s = refuse 12 (not (stateFits s)) (withdraw (writerAt s))

@@ -5,7 +5,7 @@ ghost use Rattle.verify.specs.Answers.{verifiedAnswer};
 ghost use Rattle.verify.specs.Check.{reported};
 ghost use Rattle.words.specs.Words.{wordsBytes, laid};
 ghost use Rattle.layout.specs.Answers.{refusalWords};
-ghost use Rattle.hipokuta.specs.Check.{checked, reportAfter, recordsAfter, refusalAfter};
+ghost use Rattle.hipokuta.specs.Check.{checkedIn, reportAfter, recordsAfter, refusalAfter};
 use layout::put_refusal;
 use layout::put_report;
 use verify::VbvRefusal;
@@ -51,10 +51,10 @@ pub extern "C" fn vbv_check(
     records: &mut [u8],
     refusal: &mut [u8],
 ) -> u64
-    ensures { λ r. ⌜ r ≡ number (checked (now (stream .entry)) standard (now (report .entry)) (now (records .entry)) (now (refusal .entry))) ⌝ }
-    ensures { λ r. ⌜ now (report .exit) ≡ reportAfter (reported (checked (now (stream .entry)) standard (now (report .entry)) (now (records .entry)) (now (refusal .entry)))) (now (report .entry)) ⌝ }
-    ensures { λ r. ⌜ now (records .exit) ≡ recordsAfter (checked (now (stream .entry)) standard (now (report .entry)) (now (records .entry)) (now (refusal .entry))) (now (records .entry)) ⌝ }
-    ensures { λ r. ⌜ now (refusal .exit) ≡ refusalAfter (checked (now (stream .entry)) standard (now (report .entry)) (now (records .entry)) (now (refusal .entry))) (now (refusal .entry)) ⌝ }
+    ensures { λ r. ⌜ r ≡ number (checkedIn stream standard report records refusal) ⌝ }
+    ensures { λ r. ⌜ now (report .exit) ≡ reportAfter (reported (checkedIn stream standard report records refusal)) (now (report .entry)) ⌝ }
+    ensures { λ r. ⌜ now (records .exit) ≡ recordsAfter (checkedIn stream standard report records refusal) (now (records .entry)) ⌝ }
+    ensures { λ r. ⌜ now (refusal .exit) ≡ refusalAfter (checkedIn stream standard report records refusal) (now (refusal .entry)) ⌝ }
 {
     if (refusal.len() < REFUSAL_BYTES) | (report.len() < REPORT_BYTES) {
         return refuse(refusal, plain(19));

@@ -1,7 +1,8 @@
 // The constant-rate writer, its state as bytes.
 ghost use mathlib.Core.Path.{_≡_};
-ghost use Rattle.rate_control.specs.Answers.{answerNumber};
-ghost use Rattle.hipokuta.specs.Send.{createNumber, createState, kindFor, intervalFor, reach, offerNumber, offerState, offerOut, offerAnswer, withdrawNumber, withdrawState};
+ghost use Rattle.bits.specs.Refusals.{number};
+ghost use Rattle.rate_control.specs.Answers.{offerAnswer};
+ghost use Rattle.hipokuta.specs.Send.{stateAfter, configOf, creation, brought, kindFor, intervalFor, answered, offerState, offerOut, offerPlace, withdrawal};
 use layers::PictureKind;
 use layout::put_answer;
 use layout::put_refused;
@@ -30,8 +31,8 @@ pub extern "C" fn cbr_create(
     anchors_per_gop: u8,
     state: &mut [u8],
 ) -> u64
-    ensures { λ r. ⌜ r ≡ createNumber (record { «bit_rate_value» = «bit_rate_value»; «vbv_buffer_size_value» = «vbv_buffer_size_value»; «frame_rate_code» = «frame_rate_code»; «initial_quantiser_scale_code» = quantiser; «b_between» = «b_between»; «anchors_per_gop» = «anchors_per_gop» }) (now (state .entry)) ⌝ }
-    ensures { λ r. ⌜ now (state .exit) ≡ createState (record { «bit_rate_value» = «bit_rate_value»; «vbv_buffer_size_value» = «vbv_buffer_size_value»; «frame_rate_code» = «frame_rate_code»; «initial_quantiser_scale_code» = quantiser; «b_between» = «b_between»; «anchors_per_gop» = «anchors_per_gop» }) (now (state .entry)) ⌝ }
+    ensures { λ r. ⌜ r ≡ number (creation (configOf «bit_rate_value» «vbv_buffer_size_value» «frame_rate_code» quantiser «b_between» «anchors_per_gop») (now (state .entry))) ⌝ }
+    ensures { λ r. ⌜ now (state .exit) ≡ stateAfter (creation (configOf «bit_rate_value» «vbv_buffer_size_value» «frame_rate_code» quantiser «b_between» «anchors_per_gop») (now (state .entry))) (now (state .entry)) ⌝ }
 {
     if state.len() < STATE_BYTES {
         return 19;
@@ -77,7 +78,7 @@ fn interval_of(interval: u8) -> RemovalInterval
 }
 
 fn answer_number(answer: CbrAnswer) -> u64
-    ensures { λ r. ⌜ r ≡ answerNumber answer ⌝ }
+    ensures { λ r. ⌜ r ≡ number (offerAnswer answer) ⌝ }
 {
     match answer {
         CbrAnswer::Placed {
@@ -103,10 +104,10 @@ pub extern "C" fn cbr_offer(
     out: &mut [u8],
     answer: &mut [u8],
 ) -> u64
-    ensures { λ r. ⌜ r ≡ offerNumber (reach (now (state .entry)) (record { headers = now (headers .entry); kind = kind; interval = interval; last = last; layer = now (layer .entry); out = now (out .entry); answer = now (answer .entry) })) ⌝ }
-    ensures { λ r. ⌜ now (state .exit) ≡ offerState (reach (now (state .entry)) (record { headers = now (headers .entry); kind = kind; interval = interval; last = last; layer = now (layer .entry); out = now (out .entry); answer = now (answer .entry) })) (now (state .entry)) ⌝ }
-    ensures { λ r. ⌜ now (out .exit) ≡ offerOut (reach (now (state .entry)) (record { headers = now (headers .entry); kind = kind; interval = interval; last = last; layer = now (layer .entry); out = now (out .entry); answer = now (answer .entry) })) (now (out .entry)) ⌝ }
-    ensures { λ r. ⌜ now (answer .exit) ≡ offerAnswer (reach (now (state .entry)) (record { headers = now (headers .entry); kind = kind; interval = interval; last = last; layer = now (layer .entry); out = now (out .entry); answer = now (answer .entry) })) (now (answer .entry)) ⌝ }
+    ensures { λ r. ⌜ r ≡ number (answered (now (state .entry)) (brought headers kind interval last layer out answer)) ⌝ }
+    ensures { λ r. ⌜ now (state .exit) ≡ offerState (now (state .entry)) (brought headers kind interval last layer out answer) ⌝ }
+    ensures { λ r. ⌜ now (out .exit) ≡ offerOut (now (state .entry)) (brought headers kind interval last layer out answer) ⌝ }
+    ensures { λ r. ⌜ now (answer .exit) ≡ offerPlace (now (state .entry)) (brought headers kind interval last layer out answer) ⌝ }
 {
     let held = read_state(state);
     if held.fits {
@@ -136,8 +137,8 @@ pub extern "C" fn cbr_offer(
 // Closes the pending picture, if there is one: 0, or 12 where the state holds no writer.
 #[no_mangle]
 pub extern "C" fn cbr_withdraw(state: &mut [u8]) -> u64
-    ensures { λ r. ⌜ r ≡ withdrawNumber (now (state .entry)) ⌝ }
-    ensures { λ r. ⌜ now (state .exit) ≡ withdrawState (now (state .entry)) ⌝ }
+    ensures { λ r. ⌜ r ≡ number (withdrawal (now (state .entry))) ⌝ }
+    ensures { λ r. ⌜ now (state .exit) ≡ stateAfter (withdrawal (now (state .entry))) (now (state .entry)) ⌝ }
 {
     let held = read_state(state);
     if held.fits {

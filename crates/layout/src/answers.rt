@@ -1,7 +1,9 @@
 // Report, refusal and the answer to an offer in their places; a place that is too short is left alone.
 ghost use mathlib.Core.Path.{_≡_};
 ghost use Rattle.words.specs.Words.{wordsBytes, laid};
-ghost use Rattle.layout.specs.Answers.{reportWords, refusalWords, refusedWords, answerWords};
+ghost use Rattle.bits.specs.Refusals.{refused};
+ghost use Rattle.rate_control.specs.Answers.{offerAnswer};
+ghost use Rattle.layout.specs.Answers.{reportWords, refusalWords, answerWords};
 use rate_control::CbrAnswer;
 use verify::VbvRefusal;
 use verify::VbvStreamReport;
@@ -36,7 +38,7 @@ pub fn put_refusal(place: &mut [u8], r: VbvRefusal)
 
 // A refused offer.
 pub fn put_refused(place: &mut [u8], refusal: VbvRefusal)
-    ensures { λ n. ⌜ now (place .exit) ≡ laid (wordsBytes (refusedWords refusal)) (now (place .entry)) ⌝ }
+    ensures { λ n. ⌜ now (place .exit) ≡ laid (wordsBytes (answerWords (refused (refusal .«number») (refusal .picture) (refusal .coded) (refusal .expected)))) (now (place .entry)) ⌝ }
 {
     let words = [
         2,
@@ -54,7 +56,7 @@ pub fn put_refused(place: &mut [u8], refusal: VbvRefusal)
 
 // The answer to an offer.
 pub fn put_answer(place: &mut [u8], answer: CbrAnswer)
-    ensures { λ n. ⌜ now (place .exit) ≡ laid (wordsBytes (answerWords answer)) (now (place .entry)) ⌝ }
+    ensures { λ n. ⌜ now (place .exit) ≡ laid (wordsBytes (answerWords (offerAnswer answer))) (now (place .entry)) ⌝ }
 {
     match answer {
         CbrAnswer::Placed {

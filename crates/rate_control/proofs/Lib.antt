@@ -23,3 +23,4 @@ pub mod Knowing
 pub mod Answering
 pub mod Creating
 pub mod Demand
+pub mod Refusing

@@ -32,12 +32,12 @@ returns-2 : tie.Need-returns-2
 returns-2 c =
     let k = c .before .before in
     let m = k .before .before in
-    is-created _ _ (omega arith) _ (m .before .before .create .ensures) _ (m .enum-told .given .1) (k .put-state .ensures)
+    is-created _ _ (omega arith) _ (m .before .before .create .ensures .0) _ (m .enum-told .given .1) (k .put-state .ensures)
 
 returns-3 : tie.Need-returns-3
 returns-3 c =
     let k = c .before .before in
-    not-created _ _ (omega arith) _ (k .before .before .create .ensures) _ _ (k .answer .given .1) (c .number .ensures)
+    not-created _ _ (omega arith) _ (k .before .before .create .ensures .0) _ _ (k .answer .given .1) (c .number .ensures)
 
 pub cbr-create-spec : {M : Type 1} → statement M
 cbr-create-spec =

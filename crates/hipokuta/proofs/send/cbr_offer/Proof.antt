@@ -49,7 +49,8 @@ returns-2 c =
     let i = f .before .before in
     let t = i .before .before .before in
     asked _ _ _ (t .before .before .before .read-state .ensures) (t .before .before .if1 .taken) (omega arith) (t .if3 .taken) _ _ (i .before .kind-of .ensures)
-    (i .interval-of .ensures) _ (f .offer .ensures .0) (c .answer-number .ensures) (p .put-state .ensures) (f .offer .ensures .1 .0) (a .put-answer .ensures)
+    (i .interval-of .ensures) (f .offer .result) (f .offer .ensures .0) (f .offer .ensures .1 .0) (c .answer-number .ensures) (p .put-state .ensures) (f .offer .ensures .1 .1)
+    (a .put-answer .ensures)
 
 plain-requires : tie.Need-plain-requires
 plain-requires c κs = search needs

@@ -31,7 +31,7 @@ returns : tie.Need-returns
 returns c =
     let k = c .before .before .before .before in
     let m = k .before .before in
-    is-withdrawn _ _ (m .before .before .read-state .ensures) (m .before .if1 .taken) _ (m .withdraw .ensures) (k .put-state .ensures) (c .enum-told .given .1)
+    is-withdrawn _ _ (m .before .before .read-state .ensures) (m .before .if1 .taken) _ (m .withdraw .ensures .0) (k .put-state .ensures) (c .enum-told .given .1)
 
 same-length-2 : tie.Need-same-length-2
 same-length-2 c = search needs
@@ -41,8 +41,7 @@ returns-2 c =
     let a = c .before .before in
     let k = a .before .before .before .before in
     let m = k .before .before in
-    not-withdrawn _ _ (m .before .before .read-state .ensures) (m .before .if1 .taken) _ (m .withdraw .ensures) (k .put-state .ensures) _
-    (a .answer .given .1) (c .number .ensures)
+    not-withdrawn _ _ (m .before .before .read-state .ensures) (m .before .if1 .taken) _ (m .withdraw .ensures .0) _ (a .answer .given .1)
 
 same-length-3 : tie.Need-same-length-3
 same-length-3 c = search needs

@@ -1,5 +1,5 @@
 use borrow.Author.Needs.{needs}
-use Rattle.layout.specs.Answers.{refusedWords}
+use Rattle.layout.specs.Answers.{answerWords}
 use Rattle.layout.proofs.answers.put_refused.Statement.{statement}
 use Rattle.layout.proofs.answers.put_refused.Tie as tie
 
@@ -22,7 +22,7 @@ same-length : tie.Need-same-length
 same-length c = search needs
 
 returns : tie.Need-returns
-unfolding refusedWords
+unfolding answerWords
 returns c = c .before .before .put-words .ensures
 
 pub put-refused-spec : {M : Type 1} → statement M
