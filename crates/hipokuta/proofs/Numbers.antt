@@ -3,15 +3,18 @@
 use mathlib.Core.Path.{_≡_, refl, subst}
 use Prim.Native.Nat.{ℕ, suc, _+_, _/_, _≤_}
 use mathlib.Core.List.{List, [], _∷_}
-use lib.ListN.{length}
+use lib.ListN.{length, drop}
 use native.Mathlib.Omega.{arith}
 use Rattle.bits.specs.Refusals.{Answer, value, refused, andThen}
 use Rattle.bits.proofs.Flags.{pick-elim}
-use Rattle.headers.specs.Answers.{errorNumber}
-use Rattle.headers.specs.declared.Error.{Error}
-use Rattle.headers.specs.declared.Error.the-variants as h
-use Rattle.headers.specs.declared.sequence_header.Answer.{Answer as HeaderAnswer}
-use Rattle.headers.specs.declared.sequence_header.Answer.the-variants.{Parsed, Refused as HeaderRefused}
+use Rattle.headers.specs.StartCode.{nextStartCode}
+use Rattle.headers.specs.SequenceHeader.{sequenceHeader, sequenceHeaderBytes}
+use Rattle.headers.specs.SequenceExtension.{extensionStartCode, sequenceExtensionFields, sequenceExtension}
+use Rattle.headers.specs.Sequence.{sequence}
+use Rattle.headers.specs.declared.sequence_header.Mpeg2SequenceHeader.{Mpeg2SequenceHeader}
+use Rattle.headers.proofs.SequenceHeader as sh
+use Rattle.headers.proofs.SequenceHeader.{header-seen}
+use Rattle.bits.proofs.Reading as rd
 use Rattle.vbv.specs.Annex.{gain, firstDelivered}
 use Rattle.vbv.specs.Answers.{errorNumber as modelNumber, violationNumber, frameRate}
 use Rattle.vbv.specs.Model.{periods}
@@ -23,7 +26,7 @@ use Rattle.vbv.specs.declared.VbvViolation.the-variants.{Overflow, Underflow, D
 use Rattle.scan.specs.Pictures.{Pic, pictures}
 use Rattle.scan.specs.declared.Found.{Found}
 use Rattle.scan.specs.declared.Found.the-variants.{At, Nothing}
-use Rattle.verify.specs.Sequence.{rated, ifParsed, declaredBy, declaredAt, declared}
+use Rattle.verify.specs.Sequence.{rated, declaredBy, declaredAt, declared}
 use Rattle.verify.specs.Coded.{codedAt, headers, codedPictures}
 use Rattle.verify.specs.Run.{removal, run}
 use Rattle.verify.specs.Check.{accepted, withPictures, verdict}
@@ -31,19 +34,12 @@ use Rattle.verify.specs.declared.CodedPicture.{CodedPicture}
 use Rattle.verify.specs.declared.VbvPictureRecord.{VbvPictureRecord}
 use Rattle.verify.specs.declared.VbvStandard.{VbvStandard}
 use Rattle.verify.specs.declared.VbvStandard.the-variants.{Mpeg1, Mpeg2}
-use Rattle.picture_header.proofs.Following.{Seen, cut, broken, whole}
+use Rattle.picture_header.proofs.Following.{Seen, cut, broken, whole, table-seen, then-seen}
 use Rattle.verify.proofs.Coding.{coded-seen}
 use Rattle.rate_control.specs.Answers.{refusalOf as sentRefusal}
 use Rattle.rate_control.specs.declared.CbrError.{CbrError}
 use Rattle.rate_control.specs.declared.CbrError.the-variants as s
 use Rattle.hipokuta.specs.Check.{checked}
-
-header-number : (e : Error) → 1 ≤ errorNumber e
-header-number h.ShortHeader = omega arith
-header-number h.InvalidBitstream = omega arith
-header-number h.FrameRateCode = omega arith
-header-number h.FieldToWrite = omega arith
-header-number h.ShortOutput = omega arith
 
 -- the model's numbers: no 0, no 19, none above 20
 model-range : (e : VbvError) → (1 ≤ modelNumber e) × (modelNumber e ≡ 19 → ⊥) × (modelNumber e ≤ 20)
@@ -107,21 +103,36 @@ rate-told c =
     pick-elim Told _ (λ e. tt) λ e.
     omega arith
 
-parsed-told : (a : HeaderAnswer) (rate buffer code : ℕ) → Told (ifParsed a rate buffer code)
-unfolding ifParsed rated
-parsed-told Parsed rate buffer code = and-then (frameRate code) _ (rate-told code) (λ f. tt)
-parsed-told (HeaderRefused e) rate buffer code = header-number e
-
-declared-told : (standard : VbvStandard) (s : List ℕ) (f : Found) → Told (declaredAt standard s f)
-unfolding declaredAt declaredBy
-declared-told Mpeg1 s (At o c) = parsed-told _ _ _ _
-declared-told Mpeg2 s (At o c) = parsed-told _ _ _ _
-declared-told standard s Nothing = omega arith
-
 seen-told : {X : Type 0} {a : Answer X} → Seen a → Told a
 seen-told cut = omega arith
 seen-told broken = omega arith
 seen-told (whole x) = tt
+
+rated-told : (rate buffer code : ℕ) → Told (rated rate buffer code)
+unfolding rated
+rated-told rate buffer code = and-then (frameRate code) _ (rate-told code) (λ f. tt)
+
+header-told : (s : List ℕ) → Told (sequenceHeader s)
+header-told s = case (header-seen s)
+  where
+    case : {a : Answer Mpeg2SequenceHeader} → sh.Seen s a → Told a
+    case sh.cut = omega arith
+    case (sh.broken e) = omega arith
+    case (sh.whole h i n e f g) = tt
+
+sequence-told : (s : List ℕ) → Told (sequence s)
+unfolding sequence sequenceExtension nextStartCode
+sequence-told s =
+    and-then (sequenceHeader s) _ (header-told s) λ h.
+    and-then (nextStartCode s (sequenceHeaderBytes h)) _ (pick-elim Told _ (λ e. omega arith) λ e. tt) λ p.
+    and-then (sequenceExtension (drop p s)) _ (seen-told (then-seen (table-seen (rd.header-seen extensionStartCode sequenceExtensionFields (drop p s))) λ vs. whole _)) λ x.
+    tt
+
+declared-told : (standard : VbvStandard) (s : List ℕ) (f : Found) → Told (declaredAt standard s f)
+unfolding declaredAt declaredBy
+declared-told Mpeg1 s (At o c) = and-then (sequenceHeader (drop o s)) _ (header-told (drop o s)) λ h. rated-told _ _ _
+declared-told Mpeg2 s (At o c) = and-then (sequence (drop o s)) _ (sequence-told (drop o s)) λ q. rated-told _ _ _
+declared-told standard s Nothing = omega arith
 
 headers-told : (standard : VbvStandard) (s : List ℕ) (qs : List Pic) → Told (headers standard s qs)
 unfolding headers
