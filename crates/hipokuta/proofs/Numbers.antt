@@ -7,13 +7,10 @@ use lib.ListN.{length, drop}
 use native.Mathlib.Omega.{arith}
 use Rattle.bits.specs.Refusals.{Answer, value, refused, andThen}
 use Rattle.bits.proofs.Flags.{pick-elim}
-use Rattle.headers.specs.StartCode.{nextStartCode}
-use Rattle.headers.specs.SequenceHeader.{sequenceHeader, sequenceHeaderBytes}
-use Rattle.headers.specs.SequenceExtension.{extensionStartCode, sequenceExtensionFields, sequenceExtension}
+use Rattle.headers.specs.SequenceHeader.{sequenceHeader}
 use Rattle.headers.specs.Sequence.{sequence}
-use Rattle.headers.specs.declared.sequence_header.Mpeg2SequenceHeader.{Mpeg2SequenceHeader}
-use Rattle.headers.proofs.SequenceHeader as sh
 use Rattle.headers.proofs.SequenceHeader.{header-seen}
+use Rattle.headers.proofs.Sequence.{sequence-seen}
 use Rattle.bits.proofs.Reading as rd
 use Rattle.vbv.specs.Annex.{gain, firstDelivered}
 use Rattle.vbv.specs.Answers.{errorNumber as modelNumber, violationNumber, frameRate}
@@ -34,7 +31,7 @@ use Rattle.verify.specs.declared.CodedPicture.{CodedPicture}
 use Rattle.verify.specs.declared.VbvPictureRecord.{VbvPictureRecord}
 use Rattle.verify.specs.declared.VbvStandard.{VbvStandard}
 use Rattle.verify.specs.declared.VbvStandard.the-variants.{Mpeg1, Mpeg2}
-use Rattle.picture_header.proofs.Following.{Seen, cut, broken, whole, table-seen, then-seen}
+use Rattle.picture_header.proofs.Following.{Seen, cut, broken, whole}
 use Rattle.verify.proofs.Coding.{coded-seen}
 use Rattle.rate_control.specs.Answers.{refusalOf as sentRefusal}
 use Rattle.rate_control.specs.declared.CbrError.{CbrError}
@@ -112,26 +109,15 @@ rated-told : (rate buffer code : ℕ) → Told (rated rate buffer code)
 unfolding rated
 rated-told rate buffer code = and-then (frameRate code) _ (rate-told code) (λ f. tt)
 
-header-told : (s : List ℕ) → Told (sequenceHeader s)
-header-told s = case (header-seen s)
-  where
-    case : {a : Answer Mpeg2SequenceHeader} → sh.Seen s a → Told a
-    case sh.cut = omega arith
-    case (sh.broken e) = omega arith
-    case (sh.whole h i n e f g) = tt
-
-sequence-told : (s : List ℕ) → Told (sequence s)
-unfolding sequence sequenceExtension nextStartCode
-sequence-told s =
-    and-then (sequenceHeader s) _ (header-told s) λ h.
-    and-then (nextStartCode s (sequenceHeaderBytes h)) _ (pick-elim Told _ (λ e. omega arith) λ e. tt) λ p.
-    and-then (sequenceExtension (drop p s)) _ (seen-told (then-seen (table-seen (rd.header-seen extensionStartCode sequenceExtensionFields (drop p s))) λ vs. whole _)) λ x.
-    tt
+read-told : {X : Type 0} {a : Answer X} → rd.Seen a → Told a
+read-told rd.cut = omega arith
+read-told rd.broken = omega arith
+read-told (rd.whole x) = tt
 
 declared-told : (standard : VbvStandard) (s : List ℕ) (f : Found) → Told (declaredAt standard s f)
 unfolding declaredAt declaredBy
-declared-told Mpeg1 s (At o c) = and-then (sequenceHeader (drop o s)) _ (header-told (drop o s)) λ h. rated-told _ _ _
-declared-told Mpeg2 s (At o c) = and-then (sequence (drop o s)) _ (sequence-told (drop o s)) λ q. rated-told _ _ _
+declared-told Mpeg1 s (At o c) = and-then (sequenceHeader (drop o s)) _ (read-told (header-seen (drop o s))) λ h. rated-told _ _ _
+declared-told Mpeg2 s (At o c) = and-then (sequence (drop o s)) _ (read-told (sequence-seen (drop o s))) λ q. rated-told _ _ _
 declared-told standard s Nothing = omega arith
 
 headers-told : (standard : VbvStandard) (s : List ℕ) (qs : List Pic) → Told (headers standard s qs)
