@@ -8,6 +8,7 @@ pub mod Patching
 pub mod Putting
 pub mod ReadLoop
 pub mod Reading
+pub mod Following
 pub mod Same
 pub mod Starting
 pub mod Storing

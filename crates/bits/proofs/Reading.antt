@@ -180,16 +180,17 @@ module _ (w : ℕ) (fs : List Field) (s : List ℕ) (i : ℕ) where
       read-more (any w) fs s i (f .0) (obeys-is (any w) (bitsAt s i w) zero-le (omega (arith, bits-bound s i w)))
       ∙ rw (f .1)
 
--- what reading a table finds: bits that end in it, a rule broken, or the values
-pub data Seen : Answer (List ℕ) → Type 0 where
+-- what a read finds: bytes that end in it (1), a rule broken (2), or what is there
+pub data Seen {X : Type 0} : Answer X → Type 0 where
   cut : Seen (refused 1 0 0 0)
   broken : Seen (refused 2 0 0 0)
-  whole : (vs : List ℕ) → Seen (value vs)
+  whole : (x : X) → Seen (value x)
 
-seen-after : {a : Answer (List ℕ)} (us : List ℕ) → Seen a → Seen (after us a)
-seen-after us cut = cut
-seen-after us broken = broken
-seen-after us (whole vs) = whole (us ++ vs)
+-- one read after another
+pub then-seen : {X Y : Type 0} {a : Answer X} {f : X → Answer Y} → Seen a → ((x : X) → Seen (f x)) → Seen (andThen a f)
+then-seen cut g = cut
+then-seen broken g = broken
+then-seen (whole x) g = g x
 
 pub fields-seen : (fs : List Field) (s : List ℕ) (i : ℕ) → Seen (readFields fs s i)
 unfolding readFields
@@ -197,7 +198,7 @@ fields-seen [] s i = whole []
 fields-seen (f ∷ fs) s i =
     pick-elim Seen (not (there s i (f .width))) (λ t. cut)
     (λ t. pick-elim Seen (not (obeys f (bitsAt s i (f .width)))) (λ o. broken)
-    (λ o. seen-after (bitsAt s i (f .width) ∷ []) (fields-seen fs s (i + f .width))))
+    (λ o. then-seen (fields-seen fs s (i + f .width)) (λ vs. whole _)))
 
 -- no rule is broken where there is none
 pub never-bad : (n w : ℕ) (s : List ℕ) (i : ℕ) → readFields (replicate n (any w)) s i ≡ refused 2 0 0 0 → ⊥
@@ -335,12 +336,6 @@ read-append (f ∷ fs) s t i h =
     case true false e u r = rw (there-append s t i (f .width) e, e, same e, u)
     case true true e u r = rw (there-append s t i (f .width) e, e, same e, u, r (λ z. h (rw (e, u, z))))
 
--- so what is short with more behind it is short
-short-cut : {p : Answer (List ℕ)} → Seen p → (q : Answer (List ℕ)) → ((p ≡ refused 1 0 0 0 → ⊥) → q ≡ p) → q ≡ refused 1 0 0 0 → p ≡ refused 1 0 0 0
-short-cut cut q f e = refl
-short-cut broken q f e = sym (f (λ z. let n = ap number z in omega arith)) ∙ e
-short-cut (whole vs) q f e = sym (f (λ z. let n = ap number z in omega arith)) ∙ e
-
 -- two tables end to end: the second is read where the first ends
 pub read-join : (fs gs : List Field) (s : List ℕ) (i : ℕ)
     → readFields (fs ++ gs) s i ≡ andThen (readFields fs s i) (λ vs. after vs (readFields gs s (i + total fs)))
@@ -468,10 +463,6 @@ pub header-seen : (code : List ℕ) (fs : List Field) (s : List ℕ) → Seen (r
 unfolding readHeader
 header-seen code fs s =
     pick-elim Seen (ltb (length s) 4) (λ t. cut) (λ t. pick-elim Seen (not (sameBytes (take 4 s) code)) (λ o. broken) (λ o. fields-seen fs s 32))
-
-pub header-short-cut : (code : List ℕ) (fs : List Field) (s t : List ℕ) → readHeader code fs (s ++ t) ≡ refused 1 0 0 0
-    → readHeader code fs s ≡ refused 1 0 0 0
-header-short-cut code fs s t = short-cut (header-seen code fs s) (readHeader code fs (s ++ t)) (header-append code fs s t)
 
 -- the values in 24 places, each where it was
 pub places-at : (vs : List ℕ) (k : ℕ) → getD (places vs) k 0 ≡ getD vs k 0

@@ -1,4 +1,5 @@
 pub mod Answers
+pub mod Cases
 pub mod MatrixLoop
 pub mod QuantMatrix
 pub mod Sequence

@@ -11,7 +11,8 @@ use Rattle.bits.specs.Refusals.{value, refused}
 use Rattle.bits.specs.Fields.{any, readFields}
 use Rattle.bits.specs.Answers.{readBits}
 use Rattle.bits.proofs.Reading.{after, after-none, after-after, read-none, any-missed, any-found}
-use Rattle.headers.specs.QuantMatrix.{matrixBytes, loaded, loadedAt}
+use Rattle.headers.specs.QuantMatrix.{matrixBytes, loaded}
+use Rattle.headers.specs.Steps.{loadedAt}
 
 -- the code's loop, after k of 64 bytes: they stand first in bytes, and the others are read behind them
 pub record Reading (s : List ℕ) (at : ℕ) (bytes : List ℕ) (k : ℕ) : Type 0 where

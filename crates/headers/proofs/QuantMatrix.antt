@@ -10,10 +10,12 @@ use Rattle.bits.specs.Bits.{pick, bitsAt}
 use Rattle.bits.specs.Refusals.{Answer, value, refused, andThen, number, orElse}
 use Rattle.bits.specs.Fields.{any, readFields, total}
 use Rattle.bits.specs.Answers.{readBits}
-use Rattle.bits.proofs.Reading.{Bit, absent, present, bits-seen, found-bound, there-true, Seen, cut, broken, whole, fields-seen, never-bad, read-length, read-append, total-none, total-more, total-same, first-found, after, read-none, any-missed, any-found}
+use Rattle.bits.proofs.Reading.{Bit, absent, present, bits-seen, found-bound, there-true, Seen, cut, broken, whole, then-seen, fields-seen, never-bad, read-length, read-append, total-none, total-more, total-same, first-found, after, read-none, any-missed, any-found}
+use Rattle.bits.proofs.Following.{Stays, then-stays}
 use Rattle.bits.proofs.Writing.{read-room}
-use Rattle.headers.specs.Answers.{flagOf, matrixIf, matrixAnswer}
-use Rattle.headers.specs.QuantMatrix.{matrixBytes, readMatrix, noMatrix, matrixOf, matrixAt, loadedAt, matrixFields, matrixValues, asRead}
+use Rattle.headers.specs.Answers.{flagOf}
+use Rattle.headers.specs.Steps.{matrixAt, loadedAt, matrixAnswer}
+use Rattle.headers.specs.QuantMatrix.{matrixBytes, readMatrix, noMatrix, loaded, matrixOf, matrixFields, matrixValues, asRead}
 use Rattle.headers.specs.declared.quant_matrix_extension.QuantiserMatrix.{QuantiserMatrix}
 use Rattle.headers.specs.declared.quant_matrix_extension.MatrixRead.{MatrixRead}
 
@@ -51,7 +53,7 @@ module _ (s : List ℕ) (i : ℕ) where
       let z : v ≡ 1 = omega (arith, n, found-bound s i 1 v e) in
       rw (one-loaded (rw z at (e))) (behind (readFields (matrixBytes 1) s (i + 1)))
     where
-      behind : (p : Answer (List ℕ)) → andThen (after (1 ∷ []) p) (λ vs. value (matrixOf vs)) ≡ andThen p (λ bytes. value (record { load = true; bytes = bytes }))
+      behind : (p : Answer (List ℕ)) → andThen (after (1 ∷ []) p) (λ vs. value (matrixOf vs)) ≡ andThen p (λ bytes. value (loaded bytes))
       behind (value vs) = refl
       behind (refused m p c x) = refl
 
@@ -135,11 +137,17 @@ module _ (s : List ℕ) (i : ℕ) (vs : List ℕ) (e : readMatrix s i ≡ value 
 pub table-as-matrix : (s : List ℕ) (i : ℕ) (vs : List ℕ) → readFields (any 1 ∷ matrixBytes (getD vs 0 0)) s i ≡ value vs → readMatrix s i ≡ value vs
 table-as-matrix s i vs e = flag-table s i (getD vs 0 0) (first-found (any 1) (matrixBytes (getD vs 0 0)) s i vs e) ∙ e
 
--- what stands behind does not matter
-pub matrix-append : (s t : List ℕ) (i : ℕ) (vs : List ℕ) → readMatrix s i ≡ value vs → readMatrix (s ++ t) i ≡ value vs
-matrix-append s t i vs e =
-    let r = matrix-as-table s i vs e in
-    table-as-matrix (s ++ t) i vs (read-append (any 1 ∷ matrixBytes (getD vs 0 0)) s t i (λ z. let n : _≡_ {A = ℕ} 0 1 = cc in omega arith) ∙ r)
+-- too few bits or a matrix, and what stands behind does not matter to one
+module _ (s : List ℕ) (i : ℕ) where
+  pub matrix-found : Seen (readMatrix s i)
+  unfolding readMatrix
+  matrix-found = then-seen (fields-seen (any 1 ∷ []) s i) (λ f. then-seen (fields-seen (matrixBytes (getD f 0 0)) s (i + 1)) (λ bytes. whole _))
+
+  pub matrix-stays : (t : List ℕ) → Stays (readMatrix s i) (readMatrix (s ++ t) i)
+  unfolding readMatrix
+  matrix-stays t =
+      then-stays (readFields (any 1 ∷ []) s i) _ _ _ (read-append (any 1 ∷ []) s t i) (λ f.
+      then-stays (readFields (matrixBytes (getD f 0 0)) s (i + 1)) _ _ _ (read-append (matrixBytes (getD f 0 0)) s t (i + 1)) (λ bytes k. refl))
 
 -- a matrix that was read is written again
 module _ (s : List ℕ) (i : ℕ) (vs : List ℕ) (e : readMatrix s i ≡ value vs) where

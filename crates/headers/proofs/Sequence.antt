@@ -7,16 +7,17 @@ use native.Mathlib.Omega.{arith}
 use lib.ListN.{length, take, drop}
 use lib.Seq.{drop-append-le}
 use Rattle.bits.specs.Refusals.{Answer, value, refused, andThen, number, orElse}
-use Rattle.bits.proofs.Reading.{rest-is}
+use Rattle.bits.proofs.Reading.{Seen, whole, then-seen, rest-is}
+use Rattle.bits.proofs.Following.{then-value}
 use Rattle.headers.specs.Answers.{refusal, flagged, headerAnswer, sequenceAnswer}
 use Rattle.headers.specs.StartCode.{nextStartCode}
 use Rattle.headers.specs.SequenceHeader.{sequenceHeader, sequenceHeaderBytes}
 use Rattle.headers.specs.SequenceExtension.{sequenceExtension}
 use Rattle.headers.specs.Sequence.{sequenceOf, noSequence, sequence}
 use Rattle.headers.specs.RoundTrips.{SequenceStays}
-use Rattle.headers.proofs.StartCode.{next-found, next-append}
-use Rattle.headers.proofs.SequenceHeader.{HeaderBounds, sequence-header-bounds, sequence-header-append}
-use Rattle.headers.proofs.SequenceExtension.{extension-append}
+use Rattle.headers.proofs.StartCode.{next-seen, next-found, next-append}
+use Rattle.headers.proofs.SequenceHeader.{HeaderBounds, header-seen, sequence-header-bounds, sequence-header-append}
+use Rattle.headers.proofs.SequenceExtension.{extension-seen, extension-append}
 use Rattle.headers.specs.declared.Error.{Error}
 use Rattle.headers.specs.declared.sequence_header.Answer.{Answer as Flag}
 use Rattle.headers.specs.declared.sequence_header.Answer.the-variants.{Parsed, Refused}
@@ -69,31 +70,28 @@ pub record SequenceParts (s : List ℕ) (q : Mpeg2Sequence) : Type 0 where
 
 pub sequence-parts : (s : List ℕ) (q : Mpeg2Sequence) → sequence s ≡ value q → SequenceParts s q
 unfolding sequence
-sequence-parts s q a = headed (sequenceHeader s) refl a
-  where
-    extended : (h : Mpeg2SequenceHeader) → sequenceHeader s ≡ value h → (p : ℕ) → nextStartCode s (sequenceHeaderBytes h) ≡ value p
-        → (x : Answer Mpeg2SequenceExtension) → sequenceExtension (drop p s) ≡ x → andThen x (λ y. value (sequenceOf h y)) ≡ value q → SequenceParts s q
-    extended h u p f (refused m k c y) v z = let n : _≡_ {A = ℕ} 0 1 = cc in absurd (omega arith)
-    extended h u p f (value x) v z = record {
-      place = p;
-      header = h;
-      extension = x;
-      header-parsed = u;
-      code-found = f;
-      extension-parsed = v;
+sequence-parts s q e =
+    let a = then-value (sequenceHeader s) e in
+    let b = then-value (nextStartCode s (sequenceHeaderBytes (a .0))) (a .2) in
+    let c = then-value (sequenceExtension (drop (b .0) s)) (b .2) in
+    record {
+      place = b .0;
+      header = a .0;
+      extension = c .0;
+      header-parsed = a .1;
+      code-found = b .1;
+      extension-parsed = c .1;
       sequence-is = cc;
     }
 
-    placed : (h : Mpeg2SequenceHeader) → sequenceHeader s ≡ value h → (n : Answer ℕ) → nextStartCode s (sequenceHeaderBytes h) ≡ n
-        → andThen n (λ place. andThen (sequenceExtension (drop place s)) (λ y. value (sequenceOf h y))) ≡ value q → SequenceParts s q
-    placed h u (refused m k c y) f z = let n : _≡_ {A = ℕ} 0 1 = cc in absurd (omega arith)
-    placed h u (value p) f z = extended h u p f (sequenceExtension (drop p s)) refl z
-
-    headed : (r : Answer Mpeg2SequenceHeader) → sequenceHeader s ≡ r
-        → andThen r (λ h. andThen (nextStartCode s (sequenceHeaderBytes h)) (λ place. andThen (sequenceExtension (drop place s)) (λ y. value (sequenceOf h y)))) ≡ value q
-        → SequenceParts s q
-    headed (refused m k c y) u z = let n : _≡_ {A = ℕ} 0 1 = cc in absurd (omega arith)
-    headed (value h) u z = placed h u (nextStartCode s (sequenceHeaderBytes h)) refl z
+-- it is a sequence, or refused with 1 or 2
+pub sequence-seen : (s : List ℕ) → Seen (sequence s)
+unfolding sequence
+sequence-seen s =
+    then-seen (header-seen s) (λ h.
+    then-seen (next-seen s (sequenceHeaderBytes h)) (λ place.
+    then-seen (extension-seen (drop place s)) (λ x.
+    whole _)))
 
 -- what stands behind a parsed sequence does not matter
 pub sequence-append : SequenceStays

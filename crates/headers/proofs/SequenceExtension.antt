@@ -9,15 +9,16 @@ use lib.Dec.{eqb}
 use lib.ListN.{getD}
 use Rattle.bits.specs.Bits.{pick}
 use Rattle.bits.specs.Fields.{Field, readHeader, writeHeader, fitsAll, total}
-use Rattle.bits.specs.Refusals.{Answer, value, refused, andThen}
+use Rattle.bits.specs.Refusals.{Answer, value}
 use Rattle.bits.specs.Answers.{places}
-use Rattle.bits.proofs.Reading.{places-at, header-got, read-range, read-length, header-append, header-short-cut, total-none, total-more}
+use Rattle.bits.proofs.Reading.{places-at, Seen, whole, then-seen, header-seen, header-got, read-range, read-length, header-append, total-none, total-more}
+use Rattle.bits.proofs.Following.{then-value, then-stays, short-cut}
 use Rattle.bits.proofs.Checking.{Fits, fits-none, fits-more, fits-all}
 use Rattle.bits.proofs.Writing.{header-read-written, header-write-read, read-fits}
 use Rattle.headers.specs.Answers.{flagOf, extensionAnswer}
 use Rattle.headers.specs.SequenceExtension.{extensionStartCode, sequenceExtensionFields, chromaFormat, chromaCode, extensionOf, sequenceExtension, extensionValues}
 use Rattle.headers.specs.StreamWriter.{plainExtension}
-use Rattle.headers.specs.RoundTrips.{ExtensionWrittenReads, ExtensionReadWrites, ExtensionStays}
+use Rattle.headers.specs.RoundTrips.{ExtensionWrittenReads, ExtensionReadWrites, ExtensionStays, ExtensionCut}
 use Rattle.headers.proofs.Answers.{flag-bound, flag-same, flag-back, spread, spread-is}
 use Rattle.headers.specs.declared.sequence_extension.ChromaFormat.{ChromaFormat}
 use Rattle.headers.specs.declared.sequence_extension.ChromaFormat.the-variants.{Yuv420, Yuv422, Yuv444}
@@ -33,12 +34,9 @@ extension-places vs = simp places-at
 pub extension-got : (s : List ℕ) (e : Mpeg2SequenceExtension) → sequenceExtension s ≡ value e
     → (vs : List ℕ) × (readHeader extensionStartCode sequenceExtensionFields s ≡ value vs) × (e ≡ extensionOf vs)
 unfolding sequenceExtension
-extension-got s e q = case (readHeader extensionStartCode sequenceExtensionFields s) refl q
-  where
-    case : (p : Answer (List ℕ)) → readHeader extensionStartCode sequenceExtensionFields s ≡ p → andThen p (λ vs. value (extensionOf vs)) ≡ value e
-        → (vs : List ℕ) × (readHeader extensionStartCode sequenceExtensionFields s ≡ value vs) × (e ≡ extensionOf vs)
-    case (refused n p c x) r y = ([], (cc), (cc))
-    case (value vs) r y = (vs, r, cc)
+extension-got s e q =
+    let a = then-value (readHeader extensionStartCode sequenceExtensionFields s) q in
+    (a .0, a .1, cc)
 
 pub record ExtensionBounds (e : Mpeg2SequenceExtension) : Type 0 where
   pub profile : e .«profile_and_level» ≤ 255
@@ -67,18 +65,16 @@ extension-bounds s e q =
 -- what stands behind does not matter, unless the bytes are too short
 pub extension-append : ExtensionStays
 unfolding sequenceExtension
-extension-append s t h = rw (header-append extensionStartCode sequenceExtensionFields s t (λ z. h (rw z)))
+extension-append s t =
+    then-stays (readHeader extensionStartCode sequenceExtensionFields s) _ _ _ (header-append extensionStartCode sequenceExtensionFields s t) (λ vs k. refl)
 
-pub extension-short-cut : (s t : List ℕ) → sequenceExtension (s ++ t) ≡ refused 1 0 0 0 → sequenceExtension s ≡ refused 1 0 0 0
+-- it is an extension, or refused with 1 or 2
+pub extension-seen : (s : List ℕ) → Seen (sequenceExtension s)
 unfolding sequenceExtension
-extension-short-cut s t q = case (readHeader extensionStartCode sequenceExtensionFields (s ++ t)) refl q
-  where
-    case : (p : Answer (List ℕ)) → readHeader extensionStartCode sequenceExtensionFields (s ++ t) ≡ p
-        → andThen p (λ vs. value (extensionOf vs)) ≡ refused 1 0 0 0 → sequenceExtension s ≡ refused 1 0 0 0
-    case (refused n p c x) r y =
-        let z : readHeader extensionStartCode sequenceExtensionFields (s ++ t) ≡ refused 1 0 0 0 = cc in
-        rw (header-short-cut extensionStartCode sequenceExtensionFields s t z)
-    case (value vs) r y = cc
+extension-seen s = then-seen (header-seen extensionStartCode sequenceExtensionFields s) (λ vs. whole _)
+
+pub extension-short-cut : ExtensionCut
+extension-short-cut s t = short-cut (extension-seen s) (extension-append s t)
 
 -- a case of the answer, by what it tells
 pub extension-case : {r x : SequenceExtensionRead} {a : Answer Mpeg2SequenceExtension} → r ≡ x → extensionAnswer r ≡ a → extensionAnswer x ≡ a

@@ -7,21 +7,22 @@ use Prim.Native.Nat.{ℕ, _+_, _*_, _≤_}
 use native.Mathlib.Omega.{arith}
 use lib.Dec.{eqb}
 use lib.ListN.{getD}
-use Rattle.bits.specs.Refusals.{Answer, value, refused, number, orElse}
+use Rattle.bits.specs.Refusals.{Answer, value, refused, orElse}
 use Rattle.bits.specs.Fields.{readHeader}
-use Rattle.bits.proofs.Reading.{both-true, read-range, header-got, header-append}
-use Rattle.bits.proofs.Reading as rd
-use Rattle.headers.specs.Answers.{flagOf, refusal, matrixAnswer, headerAnswer}
-use Rattle.headers.specs.QuantMatrix.{readMatrix, matrixOf, matrixAt}
+use Rattle.bits.proofs.Reading.{both-true, Seen, whole, then-seen, header-seen as table-seen, read-range, header-got, header-append}
+use Rattle.bits.proofs.Following.{then-value, then-stays, short-cut}
+use Rattle.headers.specs.Answers.{flagOf, refusal, headerAnswer}
+use Rattle.headers.specs.Steps.{matrixAt, matrixAnswer}
+use Rattle.headers.specs.QuantMatrix.{readMatrix, matrixOf}
 use Rattle.headers.specs.SequenceHeader.{sequenceHeaderCode, sequenceHeaderFields, aspectRatio, headerOf, noHeader, sequenceHeader}
-use Rattle.headers.specs.RoundTrips.{HeaderStays}
+use Rattle.headers.specs.RoundTrips.{HeaderStays, HeaderCut}
 use Rattle.headers.specs.declared.Error.{Error}
 use Rattle.headers.specs.declared.quant_matrix_extension.QuantiserMatrix.{QuantiserMatrix}
 use Rattle.headers.specs.declared.quant_matrix_extension.MatrixRead.{MatrixRead}
 use Rattle.headers.specs.declared.sequence_header.Mpeg2SequenceHeader.{Mpeg2SequenceHeader}
 use Rattle.headers.specs.declared.sequence_header.SequenceHeaderRead.{SequenceHeaderRead}
 use Rattle.headers.specs.declared.sequence_header.Answer.the-variants.{Parsed}
-use Rattle.headers.proofs.QuantMatrix.{Matrix, missing, none, one, matrix-seen, matrix-append, matrix-there, matrix-missing, matrix-flag}
+use Rattle.headers.proofs.QuantMatrix.{matrix-found, matrix-stays, matrix-there, matrix-missing, matrix-flag}
 
 -- the fields before the matrices
 abbrev pub fixedFields : List ℕ → Answer (List ℕ)
@@ -47,38 +48,6 @@ module _ (s : List ℕ) where
           → sequenceHeader s ≡ value (headerOf h intra nonIntra)
       unfolding sequenceHeader
       header-parsed nonIntra g = rw (e, f, g)
-
--- all of them: the bytes are too short; a field is bad; or the fields and both matrices are read
-pub data Seen (s : List ℕ) : Answer Mpeg2SequenceHeader → Type 0 where
-  cut : Seen s (refused 1 0 0 0)
-  broken : fixedFields s ≡ refused 2 0 0 0 → Seen s (refused 2 0 0 0)
-  whole : (h intra nonIntra : List ℕ) → fixedFields s ≡ value h → readMatrix s 94 ≡ value intra
-      → readMatrix s (95 + 512 * getD intra 0 0) ≡ value nonIntra → Seen s (value (headerOf h intra nonIntra))
-
-pub header-seen : (s : List ℕ) → Seen s (sequenceHeader s)
-header-seen s = fields (rd.header-seen sequenceHeaderCode sequenceHeaderFields s) refl
-  where
-    all : (h i n : List ℕ) → fixedFields s ≡ value h → readMatrix s 94 ≡ value i → readMatrix s (95 + 512 * getD i 0 0) ≡ value n → Seen s (sequenceHeader s)
-    all h i n e f g = rw (header-parsed s h e i f n g) (whole h i n e f g)
-
-    nonIntra : (h i : List ℕ) → fixedFields s ≡ value h → readMatrix s 94 ≡ value i
-        → {p : Answer (List ℕ)} → Matrix s (95 + 512 * getD i 0 0) p → readMatrix s (95 + 512 * getD i 0 0) ≡ p → Seen s (sequenceHeader s)
-    nonIntra h i e f missing g = rw (non-intra-refused s h e i f g) cut
-    nonIntra h i e f (none r) g = all h i _ e f g
-    nonIntra h i e f (one bytes l r) g = all h i _ e f g
-
-    behind : (h i : List ℕ) → fixedFields s ≡ value h → readMatrix s 94 ≡ value i → Seen s (sequenceHeader s)
-    behind h i e f = nonIntra h i e f (matrix-seen s (95 + 512 * getD i 0 0)) refl
-
-    intra : (h : List ℕ) → fixedFields s ≡ value h → {p : Answer (List ℕ)} → Matrix s 94 p → readMatrix s 94 ≡ p → Seen s (sequenceHeader s)
-    intra h e missing f = rw (intra-refused s h e f) cut
-    intra h e (none r) f = behind h _ e f
-    intra h e (one bytes l r) f = behind h _ e f
-
-    fields : {p : Answer (List ℕ)} → rd.Seen p → fixedFields s ≡ p → Seen s (sequenceHeader s)
-    fields rd.cut e = rw (fields-refused s e) cut
-    fields rd.broken e = rw (fields-refused s e) (broken e)
-    fields (rd.whole h) e = intra h e (matrix-seen s 94) refl
 
 -- what the code answers: its number, and the header or none
 abbrev Told : SequenceHeaderRead → Answer Mpeg2SequenceHeader → Type 0
@@ -153,18 +122,18 @@ pub record Parts (s : List ℕ) (h : Mpeg2SequenceHeader) : Type 0 where
   pub header-is : h ≡ headerOf fields intra nonIntra
 
 pub header-parts : (s : List ℕ) (h : Mpeg2SequenceHeader) → sequenceHeader s ≡ value h → Parts s h
-header-parts s h a = case (header-seen s) a
-  where
-    case : {r : Answer Mpeg2SequenceHeader} → Seen s r → r ≡ value h → Parts s h
-    case cut q = let n = ap number q in absurd (omega arith)
-    case (broken e) q = let n = ap number q in absurd (omega arith)
-    case (whole f i n e u v) q = record {
-      fields = f;
-      intra = i;
-      nonIntra = n;
-      fields-read = e;
-      intra-read = u;
-      non-intra-read = v;
+unfolding sequenceHeader
+header-parts s h e =
+    let a = then-value (fixedFields s) e in
+    let b = then-value (readMatrix s 94) (a .2) in
+    let c = then-value (readMatrix s (95 + 512 * getD (b .0) 0 0)) (b .2) in
+    record {
+      fields = a .0;
+      intra = b .0;
+      nonIntra = c .0;
+      fields-read = a .1;
+      intra-read = b .1;
+      non-intra-read = c .1;
       header-is = cc;
     }
 
@@ -197,28 +166,23 @@ sequence-header-bounds s h a =
       buffer-high = r 6 .1;
     })
 
+-- it is a header, or refused with 1 or 2
+pub header-seen : (s : List ℕ) → Seen (sequenceHeader s)
+unfolding sequenceHeader
+header-seen s =
+    then-seen (table-seen sequenceHeaderCode sequenceHeaderFields s) (λ h.
+    then-seen (matrix-found s 94) (λ intra.
+    then-seen (matrix-found s (95 + 512 * getD intra 0 0)) (λ nonIntra.
+    whole _)))
+
 -- what stands behind the bytes does not matter, unless they are too short
 pub sequence-header-append : HeaderStays
-sequence-header-append s t k = case (header-seen s) refl
-  where
-    same : {p : Answer (List ℕ)} → fixedFields s ≡ p → (refused 1 0 0 0 ≡ p → ⊥) → fixedFields (s ++ t) ≡ p
-    same e n = header-append sequenceHeaderCode sequenceHeaderFields s t (λ z. n (sym z ∙ e)) ∙ e
-
-    case : {r : Answer Mpeg2SequenceHeader} → Seen s r → sequenceHeader s ≡ r → sequenceHeader (s ++ t) ≡ sequenceHeader s
-    case cut q = absurd (k q)
-    case (broken e) q = fields-refused (s ++ t) (same e (λ z. let n = ap number z in omega arith)) ∙ sym q
-    case (whole h i n e f g) q =
-        header-parsed (s ++ t) h (same e (λ z. let n = ap number z in omega arith)) i (matrix-append s t 94 i f) n (matrix-append s t _ n g)
-        ∙ sym q
+unfolding sequenceHeader
+sequence-header-append s t =
+    then-stays (fixedFields s) _ _ _ (header-append sequenceHeaderCode sequenceHeaderFields s t) (λ h.
+    then-stays (readMatrix s 94) _ _ _ (matrix-stays s 94 t) (λ intra.
+    then-stays (readMatrix s (95 + 512 * getD intra 0 0)) _ _ _ (matrix-stays s (95 + 512 * getD intra 0 0) t) (λ nonIntra k. refl)))
 
 -- so what is too short with more behind it is too short
-pub sequence-header-short-cut : (s t : List ℕ) → sequenceHeader (s ++ t) ≡ refused 1 0 0 0 → sequenceHeader s ≡ refused 1 0 0 0
-sequence-header-short-cut s t e = case (header-seen s) refl
-  where
-    same : (sequenceHeader s ≡ refused 1 0 0 0 → ⊥) → sequenceHeader s ≡ refused 1 0 0 0
-    same k = sym (sequence-header-append s t k) ∙ e
-
-    case : {r : Answer Mpeg2SequenceHeader} → Seen s r → sequenceHeader s ≡ r → sequenceHeader s ≡ refused 1 0 0 0
-    case cut q = q
-    case (broken b) q = same (λ k. let n = ap number (sym q ∙ k) in omega arith)
-    case (whole h i n b f g) q = same (λ k. let n = ap number (sym q ∙ k) in omega arith)
+pub sequence-header-short-cut : HeaderCut
+sequence-header-short-cut s t = short-cut (header-seen s) (sequence-header-append s t)

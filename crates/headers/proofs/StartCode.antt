@@ -13,7 +13,8 @@ use borrow.Author.Tests.{eqb-true, eqb-false}
 use Rattle.bits.specs.Bits.{pick}
 use Rattle.bits.specs.Refusals.{Answer, value, refused}
 use Rattle.bits.specs.Fields.{sameBytes, startCodePrefix}
-use Rattle.bits.proofs.Reading.{same-bytes, same-self, rest-is}
+use Rattle.bits.proofs.Flags.{pick-elim}
+use Rattle.bits.proofs.Reading.{Seen, broken, whole, same-bytes, same-self, rest-is}
 use Rattle.headers.specs.StartCode.{zeros, prefixAt, nextStartCode}
 use Rattle.headers.specs.Answers.{nextAnswer}
 use Rattle.headers.specs.declared.NextStartCode.{NextStartCode}
@@ -113,6 +114,11 @@ module _ (s : List ℕ) (k e : ℕ) (h : e ≡ k + zeros (drop k s)) where
   pub next-at : prefixAt s (e - 2) ≡ true → nextStartCode s k ≡ value (e - 2)
   unfolding nextStartCode pick
   next-at q = rw (← h, q)
+
+-- it is there, or missing (2)
+pub next-seen : (s : List ℕ) (k : ℕ) → Seen (nextStartCode s k)
+unfolding nextStartCode
+next-seen s k = pick-elim Seen (not (prefixAt s (k + zeros (drop k s) - 2))) (λ e. broken) (λ e. whole _)
 
 -- a case of the answer, by what it tells
 pub next-case : {r x : NextStartCode} {a : Answer ℕ} → r ≡ x → nextAnswer r ≡ a → nextAnswer x ≡ a

@@ -9,8 +9,6 @@ use Rattle.headers.specs.declared.Written.{Written}
 use Rattle.headers.specs.declared.Written.the-variants as wr
 use Rattle.headers.specs.declared.NextStartCode.{NextStartCode}
 use Rattle.headers.specs.declared.NextStartCode.the-variants.{At, Missing}
-use Rattle.headers.specs.declared.quant_matrix_extension.QuantiserMatrix.{QuantiserMatrix}
-use Rattle.headers.specs.declared.quant_matrix_extension.MatrixRead.{MatrixRead}
 use Rattle.headers.specs.declared.sequence_header.Answer.{Answer as Flag}
 use Rattle.headers.specs.declared.sequence_header.Answer.the-variants.{Parsed, Refused}
 use Rattle.headers.specs.declared.sequence_header.Mpeg2SequenceHeader.{Mpeg2SequenceHeader}
@@ -34,14 +32,6 @@ refusal e = refused (errorNumber e) 0 0 0
 abbrev pub nextAnswer : NextStartCode → Answer ℕ
 nextAnswer (At p) = value p
 nextAnswer Missing = refused 2 0 0 0
-
--- a matrix that is not there whole: the bytes end (1)
-abbrev pub matrixIf : Bool → QuantiserMatrix → Answer QuantiserMatrix
-matrixIf true m = value m
-matrixIf false m = refused 1 0 0 0
-
-abbrev pub matrixAnswer : MatrixRead → Answer QuantiserMatrix
-matrixAnswer r = matrixIf (r .there) (r .matrix)
 
 -- what stands beside the flag, if the flag says that it was parsed
 abbrev pub flagged : {X : Type 0} → Flag → X → Answer X

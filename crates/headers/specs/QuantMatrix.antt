@@ -33,13 +33,6 @@ loaded bytes = record { load = true; bytes = bytes }
 unfoldable pub matrixOf : List ℕ → QuantiserMatrix
 matrixOf vs = pick (eqb (getD vs 0 0) 1) (loaded (drop 1 vs)) noMatrix
 
--- the matrix at bit i, and its 64 bytes alone
-abbrev pub matrixAt : List ℕ → ℕ → Answer QuantiserMatrix
-matrixAt s i = andThen (readMatrix s i) (λ vs. value (matrixOf vs))
-
-abbrev pub loadedAt : List ℕ → ℕ → Answer QuantiserMatrix
-loadedAt s i = andThen (readFields (matrixBytes 1) s i) (λ bytes. value (loaded bytes))
-
 -- the other way: the flag and, where it is 1, the bytes
 unfoldable pub matrixFields : QuantiserMatrix → List Field
 matrixFields m = any 1 ∷ matrixBytes (flagOf (m .load))

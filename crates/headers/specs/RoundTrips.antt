@@ -59,6 +59,13 @@ HeaderStays = (s behind : List ℕ) → (sequenceHeader s ≡ refused 1 0 0 0 �
 abbrev pub ExtensionStays : Type 0
 ExtensionStays = (s behind : List ℕ) → (sequenceExtension s ≡ refused 1 0 0 0 → ⊥) → sequenceExtension (s ++ behind) ≡ sequenceExtension s
 
+-- and what is too short with more bytes behind it (1) is too short without them
+abbrev pub HeaderCut : Type 0
+HeaderCut = (s behind : List ℕ) → sequenceHeader (s ++ behind) ≡ refused 1 0 0 0 → sequenceHeader s ≡ refused 1 0 0 0
+
+abbrev pub ExtensionCut : Type 0
+ExtensionCut = (s behind : List ℕ) → sequenceExtension (s ++ behind) ≡ refused 1 0 0 0 → sequenceExtension s ≡ refused 1 0 0 0
+
 -- a sequence that parses does so with more bytes behind it; a missing prefix (2) may come with them
 abbrev pub SequenceStays : Type 0
 SequenceStays = (s behind : List ℕ) (q : Mpeg2Sequence) → sequence s ≡ value q → sequence (s ++ behind) ≡ value q

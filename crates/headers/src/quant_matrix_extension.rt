@@ -2,8 +2,8 @@
 ghost use mathlib.Core.Path.{_≡_};
 ghost use Prim.Native.Nat.{_+_, _≤_};
 ghost use Rattle.bits.specs.Refusals.{orElse};
-ghost use Rattle.headers.specs.Answers.{matrixAnswer};
-ghost use Rattle.headers.specs.QuantMatrix.{noMatrix, matrixAt, loadedAt};
+ghost use Rattle.headers.specs.QuantMatrix.{noMatrix};
+ghost use Rattle.headers.specs.Steps.{matrixAt, loadedAt, matrixAnswer};
 use bits::Bits;
 
 // A matrix in zigzag order, where its flag loads one. Where it does not, a parser gives 64 zeros and a writer looks at no

@@ -20,7 +20,8 @@ use Rattle.rate_control.proofs.Creation.{creation as made}
 use Rattle.rate_control.proofs.Demand.{demand}
 use Rattle.rate_control.proofs.Lists.{run-none, run-one, run-append, final-none, final-one, final-append, after-offer, after-withdrawal, step-offer, step-withdrawal}
 use Rattle.rate_control.proofs.Keeping.{Whole, created-whole, after-whole, final-whole}
-use Rattle.rate_control.proofs.Refusing.{create-number}
+use Rattle.bits.proofs.Numbering.{refused-low}
+use Rattle.rate_control.proofs.Refusing.{writer-numbers}
 use Rattle.layout.specs.State.{stateBytes, stateFits, writerAt}
 use Rattle.words.specs.Words.{laid}
 use Rattle.layout.proofs.RoundTrip.{read-put, length-state}
@@ -149,4 +150,4 @@ from-c c place n = go (ltb (length place) 152) (create c) refl refl n
     go : (t : Bool) (a : Answer CbrWriter) → ltb (length place) 152 ≡ t → create c ≡ a → number (pick t (refused 19 0 0 0) a) ≡ 0 → FromCreation c place
     go true a e f h = absurd (omega arith)
     go false (value w) e f h = accepted c w place f e
-    go false (refused m k i j) e f h = absurd (omega (arith, create-number (λ x. 1 ≤ x) (omega arith) (omega arith) c f))
+    go false (refused m k i j) e f h = absurd (omega (arith, refused-low refl refl refl (writer-numbers .creation c) f))

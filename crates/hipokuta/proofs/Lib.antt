@@ -1,7 +1,6 @@
 pub mod Patching
 pub mod Checking
 pub mod Sending
-pub mod Verdict
 pub mod Numbers
 pub mod Refusals
 pub mod FromC

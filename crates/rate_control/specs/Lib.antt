@@ -7,5 +7,6 @@ pub mod Steps
 pub mod Calls
 pub mod Sent
 pub mod Due
+pub mod Numbers
 pub mod Figures
 pub mod Demand

@@ -10,6 +10,7 @@ use Rattle.vbv.specs.declared.VbvCbrModel.{VbvCbrModel}
 use Rattle.vbv.specs.Answers.{frameRate}
 use Rattle.vbv.specs.Model.{newModel, startModel, delayForPicture, removePicture, ofStarted, maxEndBits, minEndBits, occupancyBeforeRemoval}
 use Rattle.bits.specs.Numbers.{Numbered, a-value, by-number, by-picture}
+use Rattle.vbv.specs.Patch.{patchPicture}
 use Rattle.vbv.specs.Numbers.{ModelNumbers}
 
 rate-numbered : (c : ℕ) → Numbered (6 ∷ []) [] [] (frameRate c)
@@ -64,6 +65,10 @@ bits-numbered m b =
     pick-elim (Numbered (12 ∷ 13 ∷ []) [] []) _ (λ e. by-number refl) λ e.
     a-value
 
+patch-numbered : (s : List ℕ) → Numbered (20 ∷ []) [] [] (patchPicture s)
+unfolding patchPicture
+patch-numbered s = pick-elim (Numbered (20 ∷ []) [] []) _ (λ e. by-number refl) λ e. a-value
+
 pub model-numbers : ModelNumbers
 unfolding maxEndBits minEndBits occupancyBeforeRemoval
 model-numbers = record {
@@ -75,4 +80,5 @@ model-numbers = record {
   max-end = λ m. bits-numbered m _;
   min-end = λ m i. bits-numbered m _;
   occupancy = λ m. bits-numbered m _;
+  patch = patch-numbered;
 }

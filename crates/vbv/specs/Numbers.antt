@@ -5,6 +5,7 @@ use mathlib.Core.List.{List, [], _∷_}
 use Rattle.bits.specs.Numbers.{Numbered}
 use Rattle.vbv.specs.Answers.{frameRate}
 use Rattle.vbv.specs.Model.{newModel, startModel, delayForPicture, removePicture, maxEndBits, minEndBits, occupancyBeforeRemoval}
+use Rattle.vbv.specs.Patch.{patchPicture}
 use Rattle.vbv.specs.declared.RemovalInterval.{RemovalInterval}
 use Rattle.vbv.specs.declared.VbvParams.{VbvParams}
 use Rattle.vbv.specs.declared.VbvCbrModel.{VbvCbrModel}
@@ -19,3 +20,4 @@ pub record ModelNumbers : Type 0 where
   pub max-end : (m : VbvCbrModel) → Numbered (12 ∷ 13 ∷ []) [] [] (maxEndBits m)
   pub min-end : (m : VbvCbrModel) (i : RemovalInterval) → Numbered (12 ∷ 13 ∷ []) [] [] (minEndBits m i)
   pub occupancy : (m : VbvCbrModel) → Numbered (12 ∷ 13 ∷ []) [] [] (occupancyBeforeRemoval m)
+  pub patch : (s : List ℕ) → Numbered (20 ∷ []) [] [] (patchPicture s)

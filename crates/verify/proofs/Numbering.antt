@@ -1,19 +1,16 @@
 -- The numbers of the check's refusals, down its chain of tests.
 -- Assumes nothing.
-use mathlib.Core.Path.{_≡_, refl}
-use mathlib.Core.Bool.{Bool, true, false, _||_}
+use mathlib.Core.Path.{refl}
 use mathlib.Core.List.{List, [], _∷_}
 use Prim.Native.Nat.{ℕ, suc, _+_}
-use lib.Dec.{eqb}
 use lib.ListN.{drop}
-use borrow.Author.Tests.{eqb-true}
 use Rattle.bits.specs.Refusals.{Answer}
 use Rattle.bits.proofs.Flags.{pick-elim}
 use Rattle.vbv.specs.Annex.{gain, firstDelivered}
 use Rattle.vbv.specs.Model.{periods}
-use Rattle.bits.specs.Numbers.{oneOf, Numbered, a-value, by-number, by-all}
+use Rattle.bits.specs.Numbers.{Numbered, a-value, by-number, by-all}
 use Rattle.vbv.specs.declared.VbvParams.{VbvParams}
-use Rattle.bits.proofs.Numbering.{and-then, more-numbers}
+use Rattle.bits.proofs.Numbering.{and-then, wider}
 use Rattle.headers.proofs.Numbering.{header-numbers}
 use Rattle.picture_header.proofs.Numbering.{picture-numbers}
 use Rattle.vbv.proofs.Numbering.{model-numbers}
@@ -36,40 +33,24 @@ alone = 14 ∷ 3 ∷ 1 ∷ 2 ∷ 6 ∷ 4 ∷ 5 ∷ 12 ∷ 15 ∷ 7 ∷ 8 ∷ []
 abbrev Of : {X : Type 0} → Answer X → Type 0
 Of a = Numbered alone [] (11 ∷ 9 ∷ 10 ∷ []) a
 
--- 6, and 1 and 2, are among them
-six : (n : ℕ) → oneOf (6 ∷ []) n ≡ true → oneOf alone n ≡ true
-six n q = go (eqb n 6) refl q
-  where
-    go : (b : Bool) → eqb n 6 ≡ b → (b || false) ≡ true → oneOf alone n ≡ true
-    go true e q = rw (eqb-true n 6 e)
-    go false e q = cc
-
-one-or-two : (n : ℕ) → oneOf (1 ∷ 2 ∷ []) n ≡ true → oneOf alone n ≡ true
-one-or-two n q = go (eqb n 1) refl (eqb n 2) refl q
-  where
-    go : (a : Bool) → eqb n 1 ≡ a → (b : Bool) → eqb n 2 ≡ b → (a || (b || false)) ≡ true → oneOf alone n ≡ true
-    go true e b f q = rw (eqb-true n 1 e)
-    go false e true f q = rw (eqb-true n 2 f)
-    go false e false f q = cc
-
 -- ---- what is declared
 
 rated-numbered : (rate buffer code : ℕ) → Of (rated rate buffer code)
 unfolding rated
-rated-numbered rate buffer code = and-then _ (more-numbers six (model-numbers .rate code)) (λ f. a-value)
+rated-numbered rate buffer code = and-then _ (wider refl refl refl (model-numbers .rate code)) (λ f. a-value)
 
 declared-numbered : (standard : VbvStandard) (s : List ℕ) (f : Found) → Of (declaredAt standard s f)
 unfolding declaredAt declaredBy
-declared-numbered Mpeg1 s (At o c) = and-then _ (more-numbers one-or-two (header-numbers .sequence-header (drop o s))) (λ h. rated-numbered _ _ _)
-declared-numbered Mpeg2 s (At o c) = and-then _ (more-numbers one-or-two (header-numbers .both (drop o s))) (λ q. rated-numbered _ _ _)
+declared-numbered Mpeg1 s (At o c) = and-then _ (wider refl refl refl (header-numbers .sequence-header (drop o s))) (λ h. rated-numbered _ _ _)
+declared-numbered Mpeg2 s (At o c) = and-then _ (wider refl refl refl (header-numbers .both (drop o s))) (λ q. rated-numbered _ _ _)
 declared-numbered standard s Nothing = by-number refl
 
 -- ---- the pictures
 
 told-numbered : (standard : VbvStandard) (s : List ℕ) → Of (told standard s)
 unfolding told
-told-numbered Mpeg1 s = and-then _ (more-numbers one-or-two (picture-numbers .picture-header s)) (λ h. a-value)
-told-numbered Mpeg2 s = and-then _ (more-numbers one-or-two (picture-numbers .both s)) (λ p. a-value)
+told-numbered Mpeg1 s = and-then _ (wider refl refl refl (picture-numbers .picture-header s)) (λ h. a-value)
+told-numbered Mpeg2 s = and-then _ (wider refl refl refl (picture-numbers .both s)) (λ p. a-value)
 
 coded-numbered : (standard : VbvStandard) (s : List ℕ) (q : Pic) → Of (codedAt standard s q)
 unfolding codedAt

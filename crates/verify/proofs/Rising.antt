@@ -18,7 +18,7 @@ use Rattle.scan.specs.Pictures.{Pic, pictures}
 use Rattle.scan.specs.Walk as walk
 use Rattle.scan.specs.Walk.{InOrder}
 use Rattle.verify.specs.Coded.{intervalOf, told, codedOf, codedAt}
-use Rattle.picture_header.proofs.Following.{then-value}
+use Rattle.bits.proofs.Following.{then-value}
 use Rattle.vbv.specs.declared.RemovalInterval.the-variants.{Frame}
 use Rattle.scan.proofs.Pictures.{in-order}
 use Rattle.verify.proofs.Fold.{Reads, none, good}
