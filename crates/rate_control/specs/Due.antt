@@ -166,7 +166,7 @@ pub data Due (p : VbvParams) (x : Known) (o : Offer) : Answer Given → Type 0 w
   far-end : {z : ℕ} → Fitting p x o → Stuffs p (x .bytes) (deliveredFor p x o) o z → 2 ^ 48 < contentOf (x .bytes) o + 8 * z
       → Due p x o (refused 14 0 0 0)
   -- the paper gives 7 and 9 no condition on the count; the last one here says when each can arise: before a placing the position is always delivered, after one the stuffing
-  -- keeps overflow away. So a 9 names picture 0, and no delay, since none was coded (docs/DECISIONS.md 44)
+  -- keeps overflow away. So a 9 names picture 0, and no delay, since none was coded (docs/DECISIONS.md 40)
   early : {z : ℕ} → InRange p x o z → deliveredFor p x o < positionOf (x .bytes) o * unit p → 1 ≤ x .pictures → Due p x o (refused 7 0 0 0)
   overflow : {z : ℕ} → InRange p x o z → positionOf (x .bytes) o * unit p ≤ deliveredFor p x o
       → (8 * x .bytes + p .«buffer_size_bits») * unit p < deliveredFor p x o → x .pictures ≡ 0 → Due p x o (refused 9 0 0 0)
