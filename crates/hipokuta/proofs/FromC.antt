@@ -12,7 +12,7 @@ use borrow.Author.Tests.{ltb-false}
 use Rattle.bits.specs.Bits.{pick}
 use Rattle.bits.specs.Refusals.{Answer, value, refused, orElse, number}
 use Rattle.rate_control.specs.Create.{create}
-use Rattle.rate_control.specs.Offer.{Offer, withdraw}
+use Rattle.rate_control.specs.Offer.{withdraw}
 use Rattle.rate_control.specs.Calls.{Call, offering, withdrawing, run, final, after as afterCall}
 use Rattle.rate_control.specs.declared.CbrConfig.{CbrConfig}
 use Rattle.rate_control.specs.declared.CbrWriter.{CbrWriter}

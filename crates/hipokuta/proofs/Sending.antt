@@ -9,7 +9,7 @@ use lib.Dec.{leb, eqb}
 use lib.ListN.{length}
 use borrow.Author.Tests.{lt-ltb, le-ltb}
 use Rattle.bits.specs.Bits.{pick}
-use Rattle.bits.specs.Refusals.{Answer, value, refused, number}
+use Rattle.bits.specs.Refusals.{value, refused, number}
 use Rattle.vbv.specs.Answers.{errorNumber, refusal}
 use Rattle.vbv.specs.declared.RemovalInterval.{RemovalInterval}
 use Rattle.vbv.specs.declared.VbvError.{VbvError}
@@ -20,7 +20,6 @@ use Rattle.rate_control.specs.Answers.{offerAnswer, creationAnswer, createdAnsw
 use Rattle.rate_control.specs.Create.{create}
 use Rattle.rate_control.specs.Offer.{Offer, offer, left, outAfter, withdraw}
 use Rattle.rate_control.specs.declared.CbrConfig.{CbrConfig}
-use Rattle.rate_control.specs.declared.CbrWriter.{CbrWriter}
 use Rattle.rate_control.specs.declared.CbrCreated.{CbrCreated}
 use Rattle.rate_control.specs.declared.CbrCreation.the-variants.{Created, Refused as NotCreated}
 use Rattle.rate_control.specs.declared.CbrOffered.{CbrOffered}
