@@ -1,7 +1,15 @@
 -- The theorems hold: each by its law.
 -- Assumes nothing.
 use Rattle.headers.proofs.SequenceRoundTrip.{sequence-read-back, sequence-write-back}
-use Rattle.headers.proofs.SequenceExtension.{extension-read-back, extension-write-back}
+use Rattle.headers.proofs.SequenceHeader.{sequence-header-append, sequence-header-short-cut}
+use Rattle.headers.proofs.SequenceExtension.{extension-read-back, extension-write-back, extension-append, extension-short-cut}
+use Rattle.headers.proofs.Sequence.{sequence-append}
+use Rattle.headers.proofs.Numbering.{header-numbers}
+use Rattle.picture_header.proofs.PictureHeader.{picture-header-append, picture-header-short}
+use Rattle.picture_header.proofs.CodingExtension.{coding-append, coding-short-cut}
+use Rattle.picture_header.proofs.Picture.{picture-append}
+use Rattle.picture_header.proofs.Numbering.{picture-numbers}
+use Rattle.writers.proofs.GopHeader.{group-read-back, time-code-fits}
 use Rattle.vbv.proofs.Fractions.{fractions}
 use Rattle.vbv.proofs.Numbering.{model-numbers}
 use Rattle.scan.proofs.Pictures.{walk-gives, in-order}
@@ -9,10 +17,12 @@ use Rattle.verify.proofs.Accepted.{accepted-exactly, nothing-cut}
 use Rattle.verify.proofs.Numbering.{check-numbers}
 use Rattle.verify.proofs.Recording.{records-placed, count-is}
 use Rattle.verify.proofs.Bounds.{records-small}
-use Rattle.rate_control.proofs.Demand.{demand}
-use Rattle.rate_control.proofs.Figures.{figures, steering}
+use Rattle.rate_control.proofs.Demand.{owed}
+use Rattle.rate_control.proofs.Refusing.{writer-numbers}
+use Rattle.rate_control.proofs.Figures.{figures, shares, steering}
 use Rattle.hipokuta.proofs.FromC.{from-c}
 use Rattle.hipokuta.proofs.Refusals.{refusals}
+use Rattle.hipokuta.proofs.Numbers.{numbers}
 use Rattle.theorems.specs.Theorems.{Theorems}
 
 pub theorems : Theorems
@@ -21,6 +31,20 @@ theorems = record {
   sequence-read-writes = sequence-write-back;
   extension-written-reads = extension-read-back;
   extension-read-writes = extension-write-back;
+  group-written-reads = group-read-back;
+  time-code-writes = time-code-fits;
+  sequence-header-stays = sequence-header-append;
+  extension-stays = extension-append;
+  picture-header-stays = picture-header-append;
+  coding-stays = coding-append;
+  sequence-header-cut = sequence-header-short-cut;
+  extension-cut = extension-short-cut;
+  picture-header-cut = picture-header-short;
+  coding-cut = coding-short-cut;
+  sequence-stays = sequence-append;
+  picture-stays = picture-append;
+  header-numbers = header-numbers;
+  picture-numbers = picture-numbers;
   in-fractions = fractions;
   model-numbers = model-numbers;
   walk-gives-pictures = walk-gives;
@@ -31,9 +55,12 @@ theorems = record {
   records-yielded = records-placed;
   records-counted = count-is;
   records-small = records-small;
-  demand-3 = demand;
+  demand-3 = owed;
+  writer-numbers = writer-numbers;
   from-c = from-c;
   refusals = refusals;
+  entry-numbers = numbers;
   figures = figures;
+  shares = shares;
   steering = steering;
 }

@@ -1,6 +1,10 @@
 -- Every theorem that is owed, in one record. The promises of the public functions stand beside their code in src/; these say what the definitions in them come to.
 -- Assumes nothing.
-use Rattle.headers.specs.RoundTrips.{WrittenReads, ReadWrites, ExtensionWrittenReads, ExtensionReadWrites}
+use Rattle.headers.specs.RoundTrips.{WrittenReads, ReadWrites, ExtensionWrittenReads, ExtensionReadWrites, HeaderStays, ExtensionStays, HeaderCut, ExtensionCut, SequenceStays}
+use Rattle.headers.specs.Numbers.{HeaderNumbers}
+use Rattle.picture_header.specs.Stability.{HeaderStays as PictureHeaderStays, CodingStays, HeaderCut as PictureHeaderCut, CodingCut, PictureStays}
+use Rattle.picture_header.specs.Numbers.{PictureNumbers}
+use Rattle.writers.specs.RoundTrips.{GroupWrittenReads, TimeCodeWrites}
 use Rattle.vbv.specs.Fractions.{Owed as InFractions}
 use Rattle.vbv.specs.Numbers.{ModelNumbers}
 use Rattle.scan.specs.Walk.{WalkGivesPictures, PicturesInOrder}
@@ -8,8 +12,10 @@ use Rattle.verify.specs.Accepted.{AcceptedExactly, NothingCut}
 use Rattle.verify.specs.Numbers.{CheckNumbers}
 use Rattle.verify.specs.Recording.{RecordsYielded, RecordsCounted, RecordsSmall}
 use Rattle.rate_control.specs.Demand.{Owed as Demand3}
-use Rattle.rate_control.specs.Figures.{Figures, Steering}
+use Rattle.rate_control.specs.Numbers.{WriterNumbers}
+use Rattle.rate_control.specs.Figures.{Figures, Shares, Steering}
 use Rattle.hipokuta.specs.Calls.{OwedFromC, OwedOfRefusals}
+use Rattle.hipokuta.specs.Numbers.{Numbers as EntryNumbers}
 
 pub record Theorems : Type 0 where
   -- ---- headers
@@ -21,6 +27,24 @@ pub record Theorems : Type 0 where
   pub extension-written-reads : ExtensionWrittenReads
   -- A parsed sequence extension writes back to its own bytes.
   pub extension-read-writes : ExtensionReadWrites
+  -- A written group header reads as the values given, and the time code of a display index is never refused by its writer.
+  pub group-written-reads : GroupWrittenReads
+  pub time-code-writes : TimeCodeWrites
+  -- What is answered to a header stays the same when bytes follow, but where they ended in it (1); and what is too short with more behind it is too short without.
+  pub sequence-header-stays : HeaderStays
+  pub extension-stays : ExtensionStays
+  pub picture-header-stays : PictureHeaderStays
+  pub coding-stays : CodingStays
+  pub sequence-header-cut : HeaderCut
+  pub extension-cut : ExtensionCut
+  pub picture-header-cut : PictureHeaderCut
+  pub coding-cut : CodingCut
+  -- A header with the extension behind it that parses, parses the same when bytes follow.
+  pub sequence-stays : SequenceStays
+  pub picture-stays : PictureStays
+  -- Headers are refused with 1 and 2, writing with 16 and 19.
+  pub header-numbers : HeaderNumbers
+  pub picture-numbers : PictureNumbers
   -- ---- the model
   -- What is counted in parts of a bit is what Annex C has in fractions: bits delivered, what a period brings, overflow and underflow; the occupancy is rounded down, the
   -- expected delay to the nearest tick, halves up; the least end is the least that does not overflow, the greatest the last that is all there.
@@ -46,14 +70,20 @@ pub record Theorems : Type 0 where
   -- In a record the delays have 16 bits, the data bits are at most 2^48 and the occupancy at most the largest buffer.
   pub records-small : RecordsSmall
   -- ---- the writer
-  -- Demand 3: of every list of offers and withdrawals on a writer that was created.
+  -- Demand 3: of every creation, and of every list of offers and withdrawals on a writer that was created.
   pub demand-3 : Demand3
-  -- The same for lists of calls from C on the bytes of a state.
+  -- A writer's calls are refused with paper 01's numbers, whatever its state; an offer's 9 names its picture.
+  pub writer-numbers : WriterNumbers
+  -- Demand 3 of lists of calls from C on the bytes of a state.
   pub from-c : OwedFromC
   -- From C a refusal leaves state and output part as they were, but that 21 closes the pending picture.
   pub refusals : OwedOfRefusals
+  -- What an entry returns is 0 for an answer that is no refusal, or one of paper 01's numbers for that entry.
+  pub entry-numbers : EntryNumbers
   -- ---- figures
   -- The figures of paper 01 that are marked P.
   pub figures : Figures
+  -- The target of each kind, and targets where a picture's bits are no whole number.
+  pub shares : Shares
   -- The edges of the rule by which a quantiser goes up, stays or goes down.
   pub steering : Steering
