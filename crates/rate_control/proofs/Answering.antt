@@ -63,11 +63,11 @@ module _ (x : Known) (o : Offer) where
   unfolding clashes
   no-clash {k} e h = let g = rw h at (e) in index-same k (o .kind) (eqb-true _ _ (not-false _ g))
 
-  turn : (b : Bool) → x .finished ≡ b → (x .finished || clashes (x .pending) (o .kind)) ≡ true → OutOfTurn x o
+  pub turn : (b : Bool) → x .finished ≡ b → (x .finished || clashes (x .pending) (o .kind)) ≡ true → OutOfTurn x o
   turn true e h = last-placed e
   turn false e h = clash-is (x .pending) refl (or-other (x .finished) _ h e)
 
-  in-turn-is : (x .finished || clashes (x .pending) (o .kind)) ≡ false → OutOfTurn x o → ⊥
+  pub in-turn-is : (x .finished || clashes (x .pending) (o .kind)) ≡ false → OutOfTurn x o → ⊥
   in-turn-is h (last-placed e) = true≢false (sym e ∙ or-left _ _ h)
   in-turn-is h (other-kind e n) = n (no-clash (or-right (x .finished) _ h) e)
 
@@ -80,17 +80,17 @@ module _ (p : VbvParams) (t : List ℕ) (x : Known) (o : Offer) {n : ℕ} (h : I
   abbrev D : Answer Given → Type 0
   D a = Due p x o a
 
-  at-position : position held o ≡ positionOf (x .bytes) o
+  pub at-position : position held o ≡ positionOf (x .bytes) o
   at-position = sym (position-same (x .bytes) held o refl)
 
-  at-content : content held o ≡ contentOf (x .bytes) o
+  pub at-content : content held o ≡ contentOf (x .bytes) o
   at-content = sym (content-same (x .bytes) held o refl)
 
-  at-end : end held o ≡ contentOf (x .bytes) o + 8 * stuffing held o
+  pub at-end : end held o ≡ contentOf (x .bytes) o + 8 * stuffing held o
   unfolding end
   at-end = rw at-content
 
-  stuffs : Stuffs p (x .bytes) (deliveredFor p x o) o (stuffing held o)
+  pub stuffs : Stuffs p (x .bytes) (deliveredFor p x o) o (stuffing held o)
   unfolding deliveredNext
   stuffs = record {
     least = λ e j. rw (← delivered-known p t x o, ← at-content) (stuffing-least held o (fits-params (held .model) (writer-fits (h .fits) .model-fits)) e j);
@@ -115,7 +115,7 @@ module _ (p : VbvParams) (t : List ℕ) (x : Known) (o : Offer) {n : ℕ} (h : I
           let s : held .model .started ≡ true = rw g (any-placed k) in
           absurd (true≢false (sym e ∙ rw (delivered-later held o s) (h .room s f)))
 
-  delay-known : Placing held o → delay held o ≡ delayFor p x o
+  pub delay-known : Placing held o → delay held o ≡ delayFor p x o
   unfolding delay pick
   delay-known g = go (held .model .started) refl
     where

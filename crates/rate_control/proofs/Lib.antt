@@ -21,6 +21,7 @@ pub mod Lists
 pub mod Keeping
 pub mod Knowing
 pub mod Answering
+pub mod Only
 pub mod Creating
 pub mod Demand
 pub mod Refusing

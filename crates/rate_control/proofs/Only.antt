@@ -1,0 +1,153 @@
+-- Of what creation, the calls and their answers told, no other answer is due than the one that is given.
+-- Assumes nothing.
+use mathlib.Core.Path.{_≡_, refl, sym, ap, _∙_}
+use mathlib.Core.Bool.{Bool, true, false, not, _||_}
+use mathlib.Core.List.{List, [], _∷_}
+use Prim.Native.Nat.{ℕ, _+_, _*_, _^_, _≤_, _<_}
+use native.Mathlib.Omega.{arith}
+use lib.Dec.{ltb, eqb}
+use lib.ListN.{length}
+use borrow.Author.Tests.{ltb-false, lt-ltb, le-ltb, eq-eqb, ne-eqb}
+use Rattle.bits.specs.Bits.{pick}
+use Rattle.bits.specs.Refusals.{Answer, value, refused, refuse, violate}
+use Rattle.bits.proofs.Flags.{or-left, or-right}
+use Rattle.vbv.specs.Annex.{unit, overflows, beyond}
+use Rattle.vbv.specs.declared.VbvParams.{VbvParams}
+use Rattle.vbv.proofs.Laws.{over-units, units-over, beyond-units, units-beyond}
+use Rattle.vbv.proofs.Picks.{yes, no, held, failed}
+use Rattle.layers.specs.Headers.{headersFit}
+use Rattle.layers.specs.Layer.{layerFits}
+use Rattle.rate_control.specs.Answers.{Given, placed, again}
+use Rattle.rate_control.specs.Writer.{writerFits, clashes, asked, coarser}
+use Rattle.rate_control.specs.Offer.{Offer, position, content, end, deliveredAt, stuffing, delay, tooLarge, placedBytes, offer}
+use Rattle.rate_control.specs.Sent.{positionOf, contentOf, Stuffs}
+use Rattle.rate_control.specs.Due.{Known, anyPlaced, deliveredFor, askedFor, holding, OutOfTurn, Fitting, InRange, OnTime, AllThere, sizeOf, delayFor, Due, out-of-turn, bad-headers, bad-layer, far-position, far-end, early, overflow, too-large, largest, no-edge, no-room, room}
+use Rattle.rate_control.specs.declared.CbrWriter.{CbrWriter}
+use Rattle.rate_control.proofs.Chain.{Placing}
+use Rattle.rate_control.proofs.Placing.{placed-size}
+use Rattle.rate_control.proofs.Invariant.{Inv}
+use Rattle.rate_control.proofs.Knowing.{delivered-known}
+use Rattle.rate_control.proofs.Answering.{turn, in-turn-is, at-position, at-content, at-end, stuffs, delay-known}
+
+is-true : (b : Bool) → (b ≡ false → ⊥) → b ≡ true
+is-true true n = refl
+is-true false n = absurd (n refl)
+
+is-false : (b : Bool) → (b ≡ true → ⊥) → b ≡ false
+is-false true n = absurd (n refl)
+is-false false n = refl
+
+-- the zeros are fixed by what they do
+zeros-same : {p : VbvParams} {n d : ℕ} {o : Offer} {a b : ℕ} → Stuffs p n d o a → Stuffs p n d o b → a ≡ b
+zeros-same {o = o} {a = a} {b = b} g h = go (o .last) refl
+  where
+    go : (t : Bool) → o .last ≡ t → a ≡ b
+    go true e = g .none e ∙ sym (h .none e)
+    go false e =
+        let l = g .least e b .1 (h .least e b .0 (omega arith)) in
+        let k = h .least e a .1 (g .least e a .0 (omega arith)) in
+        omega arith
+
+module _ (p : VbvParams) (t : List ℕ) (x : Known) (o : Offer) {n : ℕ} (i : Inv n (holding p t x)) where
+  abbrev w : CbrWriter
+  w = holding p t x
+
+  -- ---- the chain of `offer`, up to a test
+
+  abbrev upTo20 : Answer Given → Answer Given
+  upTo20 r =
+      refuse 12 (not (writerFits w))
+      (refuse 17 (x .finished || clashes (x .pending) (o .kind))
+      (refuse 18 (not (headersFit p (anyPlaced x) (o .headers)))
+      (refuse 20 (not (layerFits (o .kind) (o .interval) (o .layer))) r)))
+
+  abbrev upTo14 : Answer Given → Answer Given
+  upTo14 r = upTo20 (refuse 14 (ltb (2 ^ 48) (position w o) || ltb (2 ^ 48) (end w o)) r)
+
+  abbrev upTo9 : Answer Given → Answer Given
+  upTo9 r =
+      upTo14
+      (refuse 7 (beyond p (position w o) (deliveredAt w o))
+      (violate 9 (x .pictures) 0 0 (overflows p (8 * x .bytes) (deliveredAt w o)) r))
+
+  abbrev upTo22 : Answer Given → Answer Given
+  upTo22 r =
+      upTo9
+      (pick (beyond p (content w o) (deliveredAt w o)) (tooLarge (asked w (o .kind)))
+      (refuse 22 (beyond p (end w o) (deliveredAt w o)) r))
+
+  -- ---- each test by its condition
+
+  turn-yes : OutOfTurn x o → (x .finished || clashes (x .pending) (o .kind)) ≡ true
+  turn-yes c = is-true _ (λ e. in-turn-is x o e c)
+
+  turn-no : (OutOfTurn x o → ⊥) → (x .finished || clashes (x .pending) (o .kind)) ≡ false
+  turn-no f = is-false _ (λ e. f (turn x o _ refl e))
+
+  stuffing-is : {z : ℕ} → Stuffs p (x .bytes) (deliveredFor p x o) o z → stuffing w o ≡ z
+  stuffing-is g = zeros-same (stuffs p t x o i) g
+
+  end-is : {z : ℕ} → Stuffs p (x .bytes) (deliveredFor p x o) o z → end w o ≡ contentOf (x .bytes) o + 8 * z
+  end-is g = rw (← stuffing-is g) (at-end p t x o i)
+
+  past-20 : {z r : Answer Given} → Fitting p x o → z ≡ r → z ≡ upTo20 r
+  past-20 g e =
+      held (writerFits w) _ _ (i .fits)
+      (no _ _ _ (turn-no (g .in-turn))
+      (held (headersFit p (anyPlaced x) (o .headers)) _ _ (g .headers-fit)
+      (held (layerFits (o .kind) (o .interval) (o .layer)) _ _ (g .layer-fits) e)))
+
+  past-14 : {k : ℕ} {z r : Answer Given} → InRange p x o k → z ≡ r → z ≡ upTo14 r
+  past-14 g e =
+      past-20 (g .fitting)
+      (no _ _ _ (or-no _ _ (le-ltb _ _ (rw (at-position p t x o i) (g .position-near))) (le-ltb _ _ (rw (end-is (g .stuffs)) (g .end-near)))) e)
+    where
+      or-no : (a b : Bool) → a ≡ false → b ≡ false → (a || b) ≡ false
+      or-no a b f h = rw (f, h)
+
+  past-9 : {k : ℕ} {z r : Answer Given} → OnTime p x o k → z ≡ r → z ≡ upTo9 r
+  past-9 g e =
+      past-14 (g .in-range)
+      (no _ _ _ (units-beyond p _ _ (rw (delivered-known p t x o, at-position p t x o i) (g .in-time)))
+      (no _ _ _ (units-over p _ _ (rw (delivered-known p t x o) (g .no-overflow))) e))
+
+  past-22 : {k : ℕ} {z r : Answer Given} → AllThere p x o k → z ≡ r → z ≡ upTo22 r
+  past-22 g e =
+      past-9 (g .on-time)
+      (no _ _ _ (units-beyond p _ _ (rw (delivered-known p t x o, at-content p t x o i) (omega (arith, g .end-there))))
+      (no _ _ _ (units-beyond p _ _ (rw (delivered-known p t x o, end-is (g .on-time .in-range .stuffs)) (g .end-there))) e))
+
+  -- d lies before `end`
+  not-there : (end d e f : ℕ) → end ≡ e → d ≡ f → f < e * unit p → beyond p end d ≡ true
+  not-there end d e f a b l = is-true _ (λ z. omega (arith, l, beyond-units p (e) (f) (rw (← a, ← b) z)))
+
+  -- ---- one law for all
+
+  pub only : {a : Answer Given} → Due p x o a → a ≡ offer w o
+  unfolding offer asked
+  only (out-of-turn c) = held (writerFits w) _ _ (i .fits) (yes _ _ _ (turn-yes c) refl)
+  only (bad-headers f g) =
+      held (writerFits w) _ _ (i .fits) (no _ _ _ (turn-no f) (failed (headersFit p (anyPlaced x) (o .headers)) _ _ g refl))
+  only (bad-layer f g k) =
+      held (writerFits w) _ _ (i .fits)
+      (no _ _ _ (turn-no f)
+      (held (headersFit p (anyPlaced x) (o .headers)) _ _ g
+      (failed (layerFits (o .kind) (o .interval) (o .layer)) _ _ k refl)))
+  only (far-position g l) = past-20 g (yes _ _ _ (is-true _ (λ z. omega (arith, l, at-position p t x o i, ltb-false (2 ^ 48) (position w o) (or-left _ _ z)))) refl)
+  only (far-end g s l) =
+      past-20 g (yes _ _ _ (is-true _ (λ z. omega (arith, l, end-is s, ltb-false (2 ^ 48) (end w o) (or-right (ltb (2 ^ 48) (position w o)) _ z)))) refl)
+  only (early g l k) = past-14 g (yes _ _ _ (not-there _ _ _ _ (at-position p t x o i) (delivered-known p t x o) l) refl)
+  only (overflow g a l k) =
+      past-14 g
+      (no _ _ _ (units-beyond p _ _ (rw (delivered-known p t x o, at-position p t x o i) a))
+      (yes _ _ _ (is-true _ (λ z. omega (arith, l, over-units p (8 * x .bytes) (deliveredFor p x o) (rw (← delivered-known p t x o) z)))) (rw k)))
+  only (too-large g l q) =
+      past-9 g (yes _ _ _ (not-there _ _ _ _ (at-content p t x o i) (delivered-known p t x o) l) (no _ _ _ (ne-eqb (askedFor x o) 31 (λ z. omega (arith, q, z))) refl))
+  only (largest g l q) =
+      past-9 g (yes _ _ _ (not-there _ _ _ _ (at-content p t x o i) (delivered-known p t x o) l) (yes _ _ _ (eq-eqb (askedFor x o) 31 q) refl))
+  only (no-edge g a l) =
+      past-9 g
+      (no _ _ _ (units-beyond p _ _ (rw (delivered-known p t x o, at-content p t x o i) a))
+      (yes _ _ _ (not-there _ _ _ _ (end-is (g .in-range .stuffs)) (delivered-known p t x o) l) refl))
+  only (no-room g l) = past-22 g (yes _ _ _ (lt-ltb _ _ (rw (placed-size w o, stuffing-is (g .on-time .in-range .stuffs)) l)) refl)
+  only (room g l) = past-22 g (no _ _ _ (le-ltb _ _ (rw (placed-size w o, stuffing-is (g .on-time .in-range .stuffs)) l)) ?)
