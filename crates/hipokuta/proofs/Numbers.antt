@@ -11,7 +11,6 @@ use Rattle.headers.specs.SequenceHeader.{sequenceHeader}
 use Rattle.headers.specs.Sequence.{sequence}
 use Rattle.headers.proofs.SequenceHeader.{header-seen}
 use Rattle.headers.proofs.Sequence.{sequence-seen}
-use Rattle.bits.proofs.Reading as rd
 use Rattle.vbv.specs.Annex.{gain, firstDelivered}
 use Rattle.vbv.specs.Answers.{errorNumber as modelNumber, violationNumber, frameRate}
 use Rattle.vbv.specs.Model.{periods}
@@ -31,7 +30,7 @@ use Rattle.verify.specs.declared.CodedPicture.{CodedPicture}
 use Rattle.verify.specs.declared.VbvPictureRecord.{VbvPictureRecord}
 use Rattle.verify.specs.declared.VbvStandard.{VbvStandard}
 use Rattle.verify.specs.declared.VbvStandard.the-variants.{Mpeg1, Mpeg2}
-use Rattle.picture_header.proofs.Following.{Seen, cut, broken, whole}
+use Rattle.bits.proofs.Reading.{Seen, cut, broken, whole}
 use Rattle.verify.proofs.Coding.{coded-seen}
 use Rattle.rate_control.specs.Answers.{refusalOf as sentRefusal}
 use Rattle.rate_control.specs.declared.CbrError.{CbrError}
@@ -109,15 +108,10 @@ rated-told : (rate buffer code : ℕ) → Told (rated rate buffer code)
 unfolding rated
 rated-told rate buffer code = and-then (frameRate code) _ (rate-told code) (λ f. tt)
 
-read-told : {X : Type 0} {a : Answer X} → rd.Seen a → Told a
-read-told rd.cut = omega arith
-read-told rd.broken = omega arith
-read-told (rd.whole x) = tt
-
 declared-told : (standard : VbvStandard) (s : List ℕ) (f : Found) → Told (declaredAt standard s f)
 unfolding declaredAt declaredBy
-declared-told Mpeg1 s (At o c) = and-then (sequenceHeader (drop o s)) _ (read-told (header-seen (drop o s))) λ h. rated-told _ _ _
-declared-told Mpeg2 s (At o c) = and-then (sequence (drop o s)) _ (read-told (sequence-seen (drop o s))) λ q. rated-told _ _ _
+declared-told Mpeg1 s (At o c) = and-then (sequenceHeader (drop o s)) _ (seen-told (header-seen (drop o s))) λ h. rated-told _ _ _
+declared-told Mpeg2 s (At o c) = and-then (sequence (drop o s)) _ (seen-told (sequence-seen (drop o s))) λ q. rated-told _ _ _
 declared-told standard s Nothing = omega arith
 
 headers-told : (standard : VbvStandard) (s : List ℕ) (qs : List Pic) → Told (headers standard s qs)

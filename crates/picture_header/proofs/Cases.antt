@@ -2,12 +2,8 @@
 -- Assumes nothing.
 use mathlib.Core.Path.{_≡_, refl, sym, ap, _∙_}
 use Prim.Native.Nat.{ℕ}
-use lib.Dec.{eqb}
-use Rattle.bits.specs.Bits.{pick}
 use Rattle.bits.specs.Refusals.{Answer, value, refused}
-use Rattle.headers.specs.Answers.{errorNumber}
-use Rattle.headers.specs.declared.Error.{Error}
-use Rattle.headers.specs.declared.Error.the-variants.{ShortHeader, InvalidBitstream, FieldToWrite, ShortOutput}
+use Rattle.headers.proofs.Cases.{errorOf, error-back}
 use Rattle.picture_header.specs.Answers.{pictureHeaderAnswer, codingAnswer, pictureAnswer, lengthAnswer}
 use Rattle.picture_header.specs.declared.Mpeg2PictureHeader.{Mpeg2PictureHeader}
 use Rattle.picture_header.specs.declared.PictureCodingExtension.{PictureCodingExtension}
@@ -19,17 +15,6 @@ use Rattle.picture_header.specs.declared.PictureRead.{PictureRead}
 use Rattle.picture_header.specs.declared.PictureRead.the-variants as pc
 use Rattle.picture_header.specs.declared.HeaderLength.{HeaderLength}
 use Rattle.picture_header.specs.declared.HeaderLength.the-variants as ln
-
--- back from a number
-errorOf : ℕ → Error
-errorOf n = pick (eqb n 1) ShortHeader (pick (eqb n 2) InvalidBitstream (pick (eqb n 16) FieldToWrite ShortOutput))
-
-error-back : (e : Error) → errorOf (errorNumber e) ≡ e
-unfolding errorOf pick
-error-back ShortHeader = refl
-error-back InvalidBitstream = refl
-error-back FieldToWrite = refl
-error-back ShortOutput = refl
 
 headerOf : Answer Mpeg2PictureHeader → PictureHeaderRead
 headerOf (value h) = hd.Parsed h

@@ -13,7 +13,7 @@ use Rattle.bits.specs.Answers.{placed, fieldsAnswer}
 use Rattle.bits.specs.declared.Fields.{Fields}
 use Rattle.bits.specs.declared.Outcome.the-variants.{Done, Short, Bad}
 use Rattle.bits.proofs.Flags.{pick-elim}
-use Rattle.bits.proofs.Reading.{fields-seen, header-seen, read-append, header-got, header-append, answer-short, answer-bad, fields-done, header-done}
+use Rattle.bits.proofs.Reading.{Seen, broken, whole, then-seen, fields-seen, header-seen, read-append, header-got, header-append, answer-short, answer-bad, fields-done, header-done}
 use Rattle.headers.specs.SequenceExtension.{extensionStartCode}
 use Rattle.picture_header.specs.CodingExtension.{
   motionCodeFields,
@@ -25,7 +25,8 @@ use Rattle.picture_header.specs.CodingExtension.{
 }
 use Rattle.picture_header.specs.Stability.{CodingStays, CodingCut}
 use Rattle.picture_header.specs.declared.PictureCodingExtension.{PictureCodingExtension}
-use Rattle.picture_header.proofs.Following.{Seen, broken, whole, table-seen, then-value, past-value, then-seen, then-stays, past-stays, short-cut}
+use Rattle.bits.proofs.Following.{then-value, then-stays, short-cut}
+use Rattle.picture_header.proofs.Following.{past-value, past-stays}
 
 -- the same values make the same extension
 coding-same : (h k vs ws : List ℕ) → ((i : ℕ) → getD h i 0 ≡ getD k i 0) → ((i : ℕ) → getD vs i 0 ≡ getD ws i 0)
@@ -118,9 +119,9 @@ coding-append s t =
 pub coding-seen : (s : List ℕ) → Seen (pictureCodingExtension s)
 unfolding pictureCodingExtension behindCodes
 coding-seen s =
-    then-seen (table-seen (header-seen extensionStartCode motionCodeFields s)) (λ h.
+    then-seen (header-seen extensionStartCode motionCodeFields s) (λ h.
     pick-elim Seen (not (motionCodesFit h)) (λ f. broken) (λ f.
-    then-seen (table-seen (fields-seen codingFields s 52)) (λ vs. whole _)))
+    then-seen (fields-seen codingFields s 52) (λ vs. whole _)))
 
 -- so what is too short with more behind it is too short
 pub coding-short-cut : CodingCut

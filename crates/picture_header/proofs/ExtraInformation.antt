@@ -15,11 +15,11 @@ use Rattle.bits.specs.Bits.{bitAt, bitsAt, bitList, there}
 use Rattle.bits.specs.Refusals.{Answer, value, refused, andThen}
 use Rattle.bits.specs.Answers.{readBits}
 use Rattle.bits.proofs.Laws.{bits-none, bits-more, bits-drop, bit-list-length, bit-list-append, bit-list-at}
-use Rattle.bits.proofs.Reading.{found, missed, there-is, there-true, rest-is, there-drop}
+use Rattle.bits.proofs.Reading.{Seen, cut, whole, then-seen, found, missed, there-is, there-true, rest-is, there-drop}
 use Rattle.picture_header.specs.PictureHeader.{extra, extraAt}
 use Rattle.picture_header.specs.Answers.{extraAnswer}
 use Rattle.picture_header.specs.declared.ExtraRead.{ExtraRead}
-use Rattle.picture_header.proofs.Following.{Seen, cut, whole, then-seen, Stays, then-stays}
+use Rattle.bits.proofs.Following.{Stays, then-stays}
 
 -- the case, by what is told of it
 pub extra-case : {r x : ExtraRead} {a : Answer ℕ} → r ≡ x → extraAnswer r ≡ a → extraAnswer x ≡ a

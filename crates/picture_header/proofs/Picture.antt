@@ -3,7 +3,7 @@
 -- Assumes nothing.
 use mathlib.Core.Path.{_≡_, refl, sym, ap, _∙_}
 use mathlib.Core.List.{List, _++_}
-use mathlib.Core.Bool.{Bool, true, false}
+use mathlib.Core.Bool.{true, false}
 use Prim.Native.Nat.{ℕ, _+_, _-_, _≤_, _<_}
 use native.Mathlib.Omega.{arith}
 use lib.ListN.{length, getD, take, drop, length-drop}
@@ -11,8 +11,8 @@ use lib.Seq.{getD-drop, drop-append-le}
 use Rattle.bits.specs.Bits.{pick}
 use Rattle.bits.specs.Refusals.{Answer, value, refused, andThen}
 use Rattle.bits.proofs.Flags.{pick-elim}
-use Rattle.bits.proofs.Reading.{rest-is}
-use Rattle.headers.specs.StartCode.{zeros, prefixAt, nextStartCode}
+use Rattle.bits.proofs.Reading.{Seen, broken, whole, then-seen, rest-is}
+use Rattle.headers.specs.StartCode.{nextStartCode}
 use Rattle.picture_header.specs.Answers.{pictureAnswer}
 use Rattle.picture_header.specs.declared.PictureRead.{PictureRead}
 use Rattle.headers.specs.SequenceExtension.{extensionStartCode}
@@ -25,8 +25,9 @@ use Rattle.picture_header.specs.declared.PictureCodingType.{PictureCodin
 use Rattle.picture_header.specs.declared.PictureCodingType.the-variants.{Intra, Predictive, Bidirectional, DcIntra}
 use Rattle.picture_header.specs.declared.Mpeg2PictureHeader.{Mpeg2PictureHeader}
 use Rattle.picture_header.specs.declared.PictureCodingExtension.{PictureCodingExtension}
-use Rattle.headers.proofs.StartCode.{zeros-zero, next-at, next-missing, next-found, next-append}
-use Rattle.picture_header.proofs.Following.{Seen, broken, whole, then-value, past-value, then-seen}
+use Rattle.headers.proofs.StartCode.{zeros-zero, next-seen, next-found, next-append}
+use Rattle.bits.proofs.Following.{then-value}
+use Rattle.picture_header.proofs.Following.{past-value}
 use Rattle.picture_header.proofs.PictureHeader.{picture-header-seen, picture-header-append}
 use Rattle.picture_header.proofs.CodingExtension.{coding-long, coding-code, coding-seen, coding-append}
 
@@ -120,13 +121,6 @@ extension-placed {s} {h} {x} r =
     }
 
 -- what reading both finds
-next-seen : (s : List ℕ) (k : ℕ) → Seen (nextStartCode s k)
-next-seen s k = case (prefixAt s (k + zeros (drop k s) - 2)) refl
-  where
-    case : (b : Bool) → prefixAt s (k + zeros (drop k s) - 2) ≡ b → Seen (nextStartCode s k)
-    case true e = rw (next-at s k _ refl e) (whole _)
-    case false e = rw (next-missing s k _ refl e) broken
-
 pub picture-seen : (s : List ℕ) → Seen (picture s)
 unfolding picture
 picture-seen s =

@@ -16,12 +16,12 @@ use Rattle.bits.specs.Answers.{placed, fieldsAnswer}
 use Rattle.bits.specs.declared.Fields.{Fields}
 use Rattle.bits.specs.declared.Outcome.the-variants.{Done, Short, Bad}
 use Rattle.bits.proofs.Laws.{bits-bound}
-use Rattle.bits.proofs.Reading.{Read, fields-seen, header-seen, step, obeys-true, read-append, answer-short, answer-bad, fields-done, header-done, header-got, header-append}
+use Rattle.bits.proofs.Reading.{Seen, whole, then-seen, Read, fields-seen, header-seen, step, obeys-true, read-append, answer-short, answer-bad, fields-done, header-done, header-got, header-append}
 use Rattle.picture_header.specs.PictureHeader.{pictureStartCode, pictureFields, forward, backward, vectorFields, motionFields, codingType, extraAt, extraBit, pictureOf, behindDelay, pictureHeader, pictureHeaderBytes, headerLength}
 use Rattle.picture_header.specs.Answers.{pictureHeaderAnswer}
 use Rattle.picture_header.specs.Stability.{HeaderStays, HeaderCut}
 use Rattle.picture_header.proofs.ExtraInformation.{extra-inside, extra-seen, extra-append}
-use Rattle.picture_header.proofs.Following.{Seen, whole, table-seen, then-value, then-seen, then-stays, short-cut}
+use Rattle.bits.proofs.Following.{then-value, then-stays, short-cut}
 use Rattle.picture_header.specs.declared.PictureCodingType.{PictureCodingType}
 use Rattle.picture_header.specs.declared.PictureCodingType.the-variants.{Intra, Predictive, Bidirectional, DcIntra}
 use Rattle.picture_header.specs.declared.Mpeg2PictureHeader.{Mpeg2PictureHeader}
@@ -217,8 +217,8 @@ picture-header-append s t =
 pub picture-header-seen : (s : List ℕ) → Seen (pictureHeader s)
 unfolding pictureHeader behindDelay
 picture-header-seen s =
-    then-seen (table-seen (header-seen pictureStartCode pictureFields s)) (λ h.
-    then-seen (table-seen (fields-seen (motionFields (getD h 1 0)) s 61)) (λ m.
+    then-seen (header-seen pictureStartCode pictureFields s) (λ h.
+    then-seen (fields-seen (motionFields (getD h 1 0)) s 61) (λ m.
     then-seen (extra-seen s (extraBit (getD h 1 0))) (λ n. whole _)))
 
 -- so what is too short with more behind it is too short

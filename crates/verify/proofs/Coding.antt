@@ -5,7 +5,7 @@ use Prim.Native.Nat.{ℕ, _+_, _*_}
 use mathlib.Core.List.{List, [], _∷_}
 use lib.ListN.{drop}
 use Rattle.bits.specs.Refusals.{value}
-use Rattle.picture_header.proofs.Following.{Seen, whole, then-seen}
+use Rattle.bits.proofs.Reading.{Seen, whole, then-seen}
 use Rattle.picture_header.proofs.PictureHeader.{picture-header-seen}
 use Rattle.picture_header.proofs.Picture.{picture-seen}
 use Rattle.vbv.specs.declared.RemovalInterval.{RemovalInterval}

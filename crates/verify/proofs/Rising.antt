@@ -19,7 +19,7 @@ use Rattle.verify.specs.declared.CodedPicture.{CodedPicture}
 use Rattle.scan.specs.Pictures.{Pic, pictures}
 use Rattle.scan.specs.Walk.{nextPicture}
 use Rattle.verify.specs.Coded.{intervalOf, told, codedOf, codedAt}
-use Rattle.picture_header.proofs.Following.{then-value}
+use Rattle.bits.proofs.Following.{then-value}
 use Rattle.bits.specs.Refusals.{value}
 use Rattle.vbv.specs.declared.RemovalInterval.the-variants.{Frame}
 use Rattle.scan.proofs.Pictures.{picturesAt, walked, pictures-done, pictures-walk}
