@@ -2,7 +2,7 @@
 -- Assumes nothing.
 use mathlib.Core.Path.{_≡_, refl, sym, ap, _∙_}
 use mathlib.Core.List.{List, [], _∷_, _++_, append-assoc, append-nil}
-use mathlib.Core.Bool.{true, false}
+use mathlib.Core.Bool.{true}
 use Prim.Native.Nat.{ℕ, zero, suc, _+_, _*_, _≤_, _<_, zero-le}
 use native.Mathlib.Numerals.{add-one}
 use native.Mathlib.Nat.{add-zero}
@@ -59,10 +59,6 @@ module _ (s : List ℕ) (i n v : ℕ) where
   pub wrote-there : there s i n ≡ true → wroteBits s i n v ≡ appendBits s i (digits n v)
   unfolding wroteBits pick
   wrote-there e = rw e
-
-  pub wrote-none : there s i n ≡ false → wroteBits s i n v ≡ s
-  unfolding wroteBits pick
-  wrote-none e = rw e
 
 -- the code's loop, after k fields
 pub record Putting (t vs s out : List ℕ) (at k : ℕ) : Type 0 where

@@ -17,7 +17,6 @@ use Rattle.bits.specs.Answers.{readBits, bitsAnswer, greatest, tableOf, 
 use Rattle.bits.proofs.Flags.{and-left, and-right, pick-elim}
 use Rattle.bits.proofs.Laws.{bits-bound, bits-append, bits-drop}
 use Rattle.bits.specs.declared.Bits.{Bits}
-use Rattle.bits.specs.declared.Bits.the-variants.{Value, Short as NoBits}
 use Rattle.bits.specs.declared.Fields.{Fields}
 use Rattle.bits.specs.declared.Outcome.{Outcome}
 use Rattle.bits.specs.declared.Outcome.the-variants.{Done, Short, Bad}
@@ -277,10 +276,6 @@ read-range (f ∷ fs) s i vs e zero =
 read-range (f ∷ fs) s i vs e (suc k) =
     let t = step f fs s i vs e in
     rw (t .all) (read-range fs s (i + f .width) (t .rest) (t .then) k)
-
-module _ (fs : List Field) (s : List ℕ) (i : ℕ) (vs : List ℕ) (e : readFields fs s i ≡ value vs) (k : ℕ) where
-  pub read-above : getD fs k (field 0 0 0) .low ≤ getD vs k 0
-  read-above = read-range fs s i vs e k .0
 
 -- two tests of the same fact
 leb-same : (a b c d : ℕ) → (a ≤ b → c ≤ d) → (c ≤ d → a ≤ b) → leb a b ≡ leb c d

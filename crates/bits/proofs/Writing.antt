@@ -2,22 +2,20 @@
 -- Assumes nothing.
 use mathlib.Core.Path.{_≡_, refl, sym, ap, _∙_}
 use mathlib.Core.List.{List, [], _∷_, _++_, append-assoc, append-nil}
-use mathlib.Core.Bool.{Bool, true, false, not}
+use mathlib.Core.Bool.{true, false}
 use mathlib.Core.Logic.{⊎-elim}
 use Prim.Native.Nat.{ℕ, zero, suc, _+_, _*_, _/_, _≤_, _<_, zero-le}
 use native.Mathlib.Nat.{zero-add, add-assoc, mod-eq-of-lt}
 use native.Mathlib.Omega.{arith}
-use lib.Dec.{ltb, lit<}
+use lib.Dec.{lit<}
 use lib.ListN.{length, getD, take, drop, set, length-append, List·getD-append}
 use lib.Seq.{getD-append-add, take-at, take-add, drop-at, drop-append-add, drop-drop, take-all}
-use borrow.Author.Tests.{le-ltb, lt-ltb, ltb-true, ltb-false}
+use borrow.Author.Tests.{le-ltb, lt-ltb}
 use Rattle.bits.specs.Bits.{pick, num, bitAt, bitsAt, digits, bitList, pack, appendBits}
-use Rattle.bits.specs.Refusals.{Answer, value, refused, number}
+use Rattle.bits.specs.Refusals.{value, refused}
 use Rattle.bits.specs.Fields.{Field, readFields, readHeader, fieldBits, writeFields, writeHeader, fitsAll, total}
-use Rattle.bits.specs.Answers.{over, writeAnswer, wroteAnswer, writeResult}
-use Rattle.bits.specs.declared.Wrote.{Wrote}
+use Rattle.bits.specs.Answers.{over, writeAnswer, writeResult}
 use Rattle.bits.proofs.Laws.{num-same, bits-bound, bit-append, bit-drop, length-digits, digits-num, bit-list-length, bit-list-append}
-use Rattle.bits.proofs.Flags.{pick-elim}
 use Rattle.bits.proofs.Reading.{there-is, there-true, obeys-is, obeys-true, read-more, step, read-drop, same-self, four, header-more, header-got}
 use Rattle.bits.proofs.Appending.{Below, lt-or-le, digits-bits, below-append, below-front, below-drop, length-pack, pack-bit, pack-take, pack-bytes, append-zero}
 use Rattle.bits.proofs.Checking.{Fits, fits-none, fits-more, fits-of, fits-all, fits-length}
@@ -99,48 +97,6 @@ module _ (code : List ℕ) (fs : List Field) (vs out : List ℕ) where
         let i : 32 ≡ 8 * length code = omega arith in
         let a = append-after code out (fieldBits fs vs) (below-front 256 code (drop (length code) out) (rw p at b)) in
         (rw (e, le-ltb _ _ r) (rw (long, t)), q ∙ rw (e, le-ltb _ _ r, p) (ap (λ (x : ℕ). appendBits (over code out) x (fieldBits fs vs)) i ∙ a))
-
--- a case of the answer, by what it tells
-pub wrote-case : {r x : Wrote} {a : Answer ℕ} → r ≡ x → wroteAnswer r ≡ a → wroteAnswer x ≡ a
-wrote-case e f = rw (← e) f
-
--- what an answer of `write_header` says
-module _ (code : List ℕ) (fs : List Field) (vs out : List ℕ) where
-  pub wrote-unfit : refused 16 0 0 0 ≡ writeAnswer code fs vs out → (fitsAll fs vs ≡ false) × (writeResult code fs vs out ≡ out)
-  unfolding writeAnswer writeResult pick
-  wrote-unfit e = case (fitsAll fs vs) refl e
-    where
-      case : (f : Bool) → fitsAll fs vs ≡ f
-          → refused 16 0 0 0 ≡ pick (not f) (refused 16 0 0 0) (pick (ltb (length out) (length (writeHeader code fs vs))) (refused 19 0 0 0) (value (length (writeHeader code fs vs))))
-          → (f ≡ false) × (writeResult code fs vs out ≡ out)
-      case false p q = (refl, rw p)
-      case true p q = absurd (pick-elim (λ (a : Answer ℕ). refused 16 0 0 0 ≡ a → ⊥) (ltb (length out) (length (writeHeader code fs vs))) (λ r z. let n = ap number z in omega arith) (λ r z. let n = ap number z in omega arith) q)
-
-  pub wrote-full : refused 19 0 0 0 ≡ writeAnswer code fs vs out
-      → (fitsAll fs vs ≡ true) × (length out < length (writeHeader code fs vs)) × (writeResult code fs vs out ≡ out)
-  unfolding writeAnswer writeResult pick
-  wrote-full e = case (fitsAll fs vs) (ltb (length out) (length (writeHeader code fs vs))) refl refl e
-    where
-      case : (f r : Bool) → fitsAll fs vs ≡ f → ltb (length out) (length (writeHeader code fs vs)) ≡ r
-          → refused 19 0 0 0 ≡ pick (not f) (refused 16 0 0 0) (pick r (refused 19 0 0 0) (value (length (writeHeader code fs vs))))
-          → (f ≡ true) × (length out < length (writeHeader code fs vs)) × (writeResult code fs vs out ≡ out)
-      case true true p l q = (refl, ltb-true _ _ l, rw (p, l))
-      case true false p l q = let n = ap number q in absurd (omega arith)
-      case false r p l q = let n = ap number q in absurd (omega arith)
-
-  pub wrote-bytes : {n : ℕ} → value n ≡ writeAnswer code fs vs out
-      → (fitsAll fs vs ≡ true) × (n ≡ length (writeHeader code fs vs)) × (n ≤ length out) × (writeResult code fs vs out ≡ over (writeHeader code fs vs) out)
-  unfolding writeAnswer writeResult pick
-  wrote-bytes {n} e = case (fitsAll fs vs) (ltb (length out) (length (writeHeader code fs vs))) refl refl e
-    where
-      case : (f r : Bool) → fitsAll fs vs ≡ f → ltb (length out) (length (writeHeader code fs vs)) ≡ r
-          → value n ≡ pick (not f) (refused 16 0 0 0) (pick r (refused 19 0 0 0) (value (length (writeHeader code fs vs))))
-          → (f ≡ true) × (n ≡ length (writeHeader code fs vs)) × (n ≤ length out) × (writeResult code fs vs out ≡ over (writeHeader code fs vs) out)
-      case true false p l q =
-          let m : n ≡ length (writeHeader code fs vs) = cc in
-          (refl, m, rw m (ltb-false _ _ l), rw (p, l))
-      case true true p l q = let z = ap number q in absurd (omega arith)
-      case false r p l q = let z = ap number q in absurd (omega arith)
 
 -- where the bits of the fields stand in s from bit i on, the table reads their values
 pub reads-back : {fs : List Field} {vs : List ℕ} → Fits fs vs → (s : List ℕ) (i : ℕ)

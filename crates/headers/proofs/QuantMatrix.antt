@@ -7,7 +7,7 @@ use Prim.Native.Nat.{ℕ, zero, suc, _+_, _*_, _≤_}
 use native.Mathlib.Omega.{arith}
 use lib.ListN.{length, getD}
 use Rattle.bits.specs.Bits.{pick, bitsAt}
-use Rattle.bits.specs.Refusals.{Answer, value, refused, andThen, number, orElse}
+use Rattle.bits.specs.Refusals.{Answer, value, refused, andThen, orElse}
 use Rattle.bits.specs.Fields.{any, readFields, total}
 use Rattle.bits.specs.Answers.{readBits}
 use Rattle.bits.proofs.Reading.{Bit, absent, present, bits-seen, found-bound, there-true, Seen, cut, broken, whole, then-seen, fields-seen, never-bad, read-length, read-append, total-none, total-more, total-same, first-found, after, read-none, any-missed, any-found}

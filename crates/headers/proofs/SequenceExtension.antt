@@ -1,7 +1,7 @@
 -- The sequence extension: what a parsed one holds, that what stands behind it does not matter, and both round trips.
 -- Assumes nothing.
 use mathlib.Core.Path.{_≡_, refl, ap, _∙_}
-use mathlib.Core.List.{List, [], _∷_, _++_}
+use mathlib.Core.List.{List, _∷_}
 use mathlib.Core.Bool.{Bool, true}
 use Prim.Native.Nat.{ℕ, zero, suc, _^_, _≤_, _<_}
 use native.Mathlib.Omega.{arith}
@@ -18,7 +18,7 @@ use Rattle.bits.proofs.Writing.{header-read-written, header-write-read, read-fi
 use Rattle.headers.specs.Answers.{flagOf, extensionAnswer}
 use Rattle.headers.specs.SequenceExtension.{extensionStartCode, sequenceExtensionFields, chromaFormat, chromaCode, extensionOf, sequenceExtension, extensionValues}
 use Rattle.headers.specs.StreamWriter.{plainExtension}
-use Rattle.headers.specs.RoundTrips.{ExtensionWrittenReads, ExtensionReadWrites, ExtensionStays, ExtensionCut}
+use Rattle.headers.specs.RoundTrips.{ExtensionWrittenReads, ExtensionReadWrites, PlainWrittenReads, ExtensionStays, ExtensionCut}
 use Rattle.headers.proofs.Answers.{flag-bound, flag-same, flag-back, spread, spread-is}
 use Rattle.headers.specs.declared.sequence_extension.ChromaFormat.{ChromaFormat}
 use Rattle.headers.specs.declared.sequence_extension.ChromaFormat.the-variants.{Yuv420, Yuv422, Yuv444}
@@ -130,11 +130,10 @@ plain-bounds Yuv420 progressive = omega arith
 plain-bounds Yuv422 progressive = omega arith
 plain-bounds Yuv444 progressive = omega arith
 
-pub plain-read-back : (c : ChromaFormat) (progressive : Bool) (t : List ℕ)
-    → sequenceExtension (writeHeader extensionStartCode sequenceExtensionFields (extensionValues (plainExtension c progressive)) ++ t)
-    ≡ value (plainExtension c progressive)
+pub plain-read-back : PlainWrittenReads
 plain-read-back c progressive t =
-    extension-read-back (plainExtension c progressive) t (extension-fits (plainExtension c progressive) (plain-bounds c progressive))
+    let f = extension-fits (plainExtension c progressive) (plain-bounds c progressive) in
+    (f, extension-read-back (plainExtension c progressive) t f)
 
 -- the values that were read are those of the extension that they make
 values-same : (s vs : List ℕ) → readHeader extensionStartCode sequenceExtensionFields s ≡ value vs → extensionValues (extensionOf vs) ≡ vs

@@ -3,15 +3,16 @@
 use Prim.Native.Nat.{ℕ, _<_}
 use mathlib.Core.Path.{_≡_}
 use mathlib.Core.List.{List, _++_}
-use mathlib.Core.Bool.{true, false}
+use mathlib.Core.Bool.{Bool, true, false}
 use lib.ListN.{length, getD, take}
 use Rattle.bits.specs.Refusals.{value, refused}
 use Rattle.bits.specs.Fields.{fitsAll, writeHeader}
 use Rattle.headers.specs.SequenceHeader.{sequenceHeaderCode, sequenceHeader, sequenceHeaderBytes}
 use Rattle.headers.specs.SequenceExtension.{extensionStartCode, sequenceExtensionFields, extensionValues, sequenceExtension}
 use Rattle.headers.specs.Sequence.{sequence}
-use Rattle.headers.specs.StreamWriter.{paramsFields, paramsValues, headerOfParams, paramsOf}
+use Rattle.headers.specs.StreamWriter.{paramsFields, paramsValues, headerOfParams, paramsOf, plainExtension}
 use Rattle.headers.specs.declared.sequence_header.Mpeg2SequenceHeader.{Mpeg2SequenceHeader}
+use Rattle.headers.specs.declared.sequence_extension.ChromaFormat.{ChromaFormat}
 use Rattle.headers.specs.declared.sequence_extension.Mpeg2SequenceExtension.{Mpeg2SequenceExtension}
 use Rattle.headers.specs.declared.sequence_extension.Mpeg2Sequence.{Mpeg2Sequence}
 use Rattle.headers.specs.declared.stream_writer.SequenceHeaderParams.{SequenceHeaderParams}
@@ -51,6 +52,12 @@ ExtensionWrittenReads = (e : Mpeg2SequenceExtension) (behind : List ℕ) → fit
 abbrev pub ExtensionReadWrites : Type 0
 ExtensionReadWrites = (s : List ℕ) (e : Mpeg2SequenceExtension) → Bytes s → sequenceExtension s ≡ value e
     → (fitsAll sequenceExtensionFields (extensionValues e) ≡ true) × (extensionWritten e ≡ take 10 s)
+
+-- what `write_sequence_extension` writes is never refused with 16, and parses to what it was given
+abbrev pub PlainWrittenReads : Type 0
+PlainWrittenReads = (c : ChromaFormat) (progressive : Bool) (behind : List ℕ)
+    → (fitsAll sequenceExtensionFields (extensionValues (plainExtension c progressive)) ≡ true)
+    × (sequenceExtension (extensionWritten (plainExtension c progressive) ++ behind) ≡ value (plainExtension c progressive))
 
 -- more bytes behind a header change its answer only where that is 1
 abbrev pub HeaderStays : Type 0
