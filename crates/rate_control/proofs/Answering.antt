@@ -182,41 +182,9 @@ module _ (p : VbvParams) (t : List ℕ) (x : Known) (o : Offer) {n : ℕ} (h : I
 
 -- ---- what its output part holds
 
-outcome-holds : (w : CbrWriter) (o : Offer) {a : Answer Given} → Outcome w o a → PartHolds o a (outOf a (placedBytes w o) (o .out))
+pub outcome-holds : (w : CbrWriter) (o : Offer) {a : Answer Given} → Outcome w o a → PartHolds o a (outOf a (placedBytes w o) (o .out))
 unfolding placedBytes
 outcome-holds w o (stays e) = refl
 outcome-holds w o (closes x) = refl
 outcome-holds w o (retries x) = refl
 outcome-holds w o (places x) = record { bytes = over-take (placedBytes w o) (o .out); rest = over-drop (placedBytes w o) (o .out) }
-
--- ---- all calls
-
-withdraw-told : (w : CbrWriter) → writerFits w ≡ true → number (withdraw w) ≡ 0
-unfolding withdraw pick
-withdraw-told w e = rw e
-
-module _ (p : VbvParams) (t : List ℕ) where
-  pub answered : {n : ℕ} (w : CbrWriter) (x : Known) (l : List Call) → w ≡ holding p t x → Inv n w → Answered p t x (run w l)
-  unfolding run stepOf after
-  answered w x [] e h = none
-  answered {n} w x (offering o ∷ l) e h =
-      offer-then {x = x} {o = o} {a = offer w o} {l = run (left w o) l} (rw e (due p t x o (subst (λ (v : CbrWriter). Inv n v) e h))) (outcome-holds w o (outcome w o))
-      (answered _ _ l (offer-told p t w x o e) (call-inv (offering o) h))
-  answered w x (withdrawing ∷ l) e h =
-      rw (withdraw-told w (h .fits)) (withdrawal-then (answered _ _ l (withdrawal-told p t w x (h .fits) e) (call-inv withdrawing h)))
-
-  coarsest : (x : Known) (o : Offer) {a : Answer Given} → Outcome (holding p t x) o a → number a ≡ 21 → askedFor x o ≡ 31
-  unfolding asked
-  coarsest x o (stays {n} e) h = absurd (eqb-false n 21 e h)
-  coarsest x o (closes g) h = g
-  coarsest x o (retries g) h = absurd (omega (arith, h))
-  coarsest x o (places g) h = absurd (omega (arith, h))
-
-  pub patient : {n : ℕ} (w : CbrWriter) (x : Known) (l : List Call) → w ≡ holding p t x → Inv n w → Patient p t x n (run w l)
-  unfolding run stepOf after
-  patient w x [] e h = done (pending-few _ (w .pending) (h .waiting))
-  patient w x (offering o ∷ l) e h =
-      then (pending-few _ (w .pending) (h .waiting)) (coarsest x o (subst (λ (v : CbrWriter). Outcome v o (offer w o)) e (outcome w o)))
-      (patient _ _ l (offer-told p t w x o e) (call-inv (offering o) h))
-  patient w x (withdrawing ∷ l) e h =
-      then (pending-few _ (w .pending) (h .waiting)) tt (patient _ _ l (withdrawal-told p t w x (h .fits) e) (call-inv withdrawing h))

@@ -18,7 +18,7 @@ use Rattle.rate_control.proofs.Sending.{Sending, sending}
 use Rattle.rate_control.proofs.Accepted.{passes}
 use Rattle.rate_control.proofs.Knowing.{state, created-known}
 use Rattle.rate_control.proofs.Creating.{creation-due}
-use Rattle.rate_control.proofs.Answering.{answered, patient}
+use Rattle.rate_control.proofs.Answers.{answered, patient}
 
 -- the check, of a writer that has placed nothing yet
 fresh-passes : (w : CbrWriter) (calls : List Call) → Fresh w → AllBytes calls → Passes (w .model .params) (sent 0 (run w calls))

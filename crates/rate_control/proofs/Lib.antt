@@ -22,6 +22,7 @@ pub mod Keeping
 pub mod Knowing
 pub mod Answering
 pub mod Only
+pub mod Answers
 pub mod Creating
 pub mod Demand
 pub mod Refusing

@@ -97,29 +97,51 @@ module _ (p : VbvParams) (t : List ℕ) (x : Known) (o : Offer) {n : ℕ} (i : I
       (held (headersFit p (anyPlaced x) (o .headers)) _ _ (g .headers-fit)
       (held (layerFits (o .kind) (o .interval) (o .layer)) _ _ (g .layer-fits) e)))
 
+  or-no : (a b : Bool) → a ≡ false → b ≡ false → (a || b) ≡ false
+  or-no a b f h = rw (f, h)
+
   past-14 : {k : ℕ} {z r : Answer Given} → InRange p x o k → z ≡ r → z ≡ upTo14 r
   past-14 g e =
-      past-20 (g .fitting)
-      (no _ _ _ (or-no _ _ (le-ltb _ _ (rw (at-position p t x o i) (g .position-near))) (le-ltb _ _ (rw (end-is (g .stuffs)) (g .end-near)))) e)
-    where
-      or-no : (a b : Bool) → a ≡ false → b ≡ false → (a || b) ≡ false
-      or-no a b f h = rw (f, h)
+      let a : position w o ≤ 2 ^ 48 = rw (at-position p t x o i) (g .position-near) in
+      let b : end w o ≤ 2 ^ 48 = rw (end-is (g .stuffs)) (g .end-near) in
+      past-20 (g .fitting) (no _ _ _ (or-no _ _ (le-ltb (2 ^ 48) (position w o) a) (le-ltb (2 ^ 48) (end w o) b)) e)
 
   past-9 : {k : ℕ} {z r : Answer Given} → OnTime p x o k → z ≡ r → z ≡ upTo9 r
   past-9 g e =
-      past-14 (g .in-range)
-      (no _ _ _ (units-beyond p _ _ (rw (delivered-known p t x o, at-position p t x o i) (g .in-time)))
-      (no _ _ _ (units-over p _ _ (rw (delivered-known p t x o) (g .no-overflow))) e))
+      let a : position w o * unit p ≤ deliveredAt w o = rw (delivered-known p t x o, at-position p t x o i) (g .in-time) in
+      let b : deliveredAt w o ≤ (8 * x .bytes + p .«buffer_size_bits») * unit p = rw (delivered-known p t x o) (g .no-overflow) in
+      past-14 (g .in-range) (no _ _ _ (units-beyond p _ _ a) (no _ _ _ (units-over p _ _ b) e))
 
   past-22 : {k : ℕ} {z r : Answer Given} → AllThere p x o k → z ≡ r → z ≡ upTo22 r
-  past-22 g e =
-      past-9 (g .on-time)
-      (no _ _ _ (units-beyond p _ _ (rw (delivered-known p t x o, at-content p t x o i) (omega (arith, g .end-there))))
-      (no _ _ _ (units-beyond p _ _ (rw (delivered-known p t x o, end-is (g .on-time .in-range .stuffs)) (g .end-there))) e))
+  past-22 {k} g e =
+      let l = g .end-there in
+      let m : contentOf (x .bytes) o * unit p ≤ deliveredFor p x o = omega arith in
+      let a : content w o * unit p ≤ deliveredAt w o = rw (delivered-known p t x o, at-content p t x o i) m in
+      let b : end w o * unit p ≤ deliveredAt w o = rw (delivered-known p t x o, end-is (g .on-time .in-range .stuffs)) l in
+      past-9 (g .on-time) (no _ _ _ (units-beyond p _ _ a) (no _ _ _ (units-beyond p _ _ b) e))
 
   -- d lies before `end`
   not-there : (end d e f : ℕ) → end ≡ e → d ≡ f → f < e * unit p → beyond p end d ≡ true
   not-there end d e f a b l = is-true _ (λ z. omega (arith, l, beyond-units p (e) (f) (rw (← a, ← b) z)))
+
+  placing : {k : ℕ} → AllThere p x o k → length (placedBytes w o) ≤ length (o .out) → Placing w o
+  placing g s =
+      let q = g .on-time in
+      let r = q .in-range in
+      let f = turn-no (r .fitting .in-turn) in
+      record {
+        fitted = i .fits;
+        unfinished = or-left _ _ f;
+        same-kind = or-right (x .finished) _ f;
+        headers-fit = r .fitting .headers-fit;
+        layer-fits = r .fitting .layer-fits;
+        position-far = rw (at-position p t x o i) (r .position-near);
+        end-far = rw (end-is (r .stuffs)) (r .end-near);
+        in-time = units-beyond p _ _ (rw (delivered-known p t x o, at-position p t x o i) (q .in-time));
+        no-overflow = units-over p _ _ (rw (delivered-known p t x o) (q .no-overflow));
+        no-underflow = units-beyond p _ _ (rw (delivered-known p t x o, end-is (r .stuffs)) (g .end-there));
+        room = s;
+      }
 
   -- ---- one law for all
 
@@ -138,16 +160,22 @@ module _ (p : VbvParams) (t : List ℕ) (x : Known) (o : Offer) {n : ℕ} (i : I
       past-20 g (yes _ _ _ (is-true _ (λ z. omega (arith, l, end-is s, ltb-false (2 ^ 48) (end w o) (or-right (ltb (2 ^ 48) (position w o)) _ z)))) refl)
   only (early g l k) = past-14 g (yes _ _ _ (not-there _ _ _ _ (at-position p t x o i) (delivered-known p t x o) l) refl)
   only (overflow g a l k) =
+      let b : position w o * unit p ≤ deliveredAt w o = rw (delivered-known p t x o, at-position p t x o i) a in
       past-14 g
-      (no _ _ _ (units-beyond p _ _ (rw (delivered-known p t x o, at-position p t x o i) a))
+      (no _ _ _ (units-beyond p _ _ b)
       (yes _ _ _ (is-true _ (λ z. omega (arith, l, over-units p (8 * x .bytes) (deliveredFor p x o) (rw (← delivered-known p t x o) z)))) (rw k)))
   only (too-large g l q) =
       past-9 g (yes _ _ _ (not-there _ _ _ _ (at-content p t x o i) (delivered-known p t x o) l) (no _ _ _ (ne-eqb (askedFor x o) 31 (λ z. omega (arith, q, z))) refl))
   only (largest g l q) =
       past-9 g (yes _ _ _ (not-there _ _ _ _ (at-content p t x o i) (delivered-known p t x o) l) (yes _ _ _ (eq-eqb (askedFor x o) 31 q) refl))
   only (no-edge g a l) =
+      let b : content w o * unit p ≤ deliveredAt w o = rw (delivered-known p t x o, at-content p t x o i) a in
       past-9 g
-      (no _ _ _ (units-beyond p _ _ (rw (delivered-known p t x o, at-content p t x o i) a))
+      (no _ _ _ (units-beyond p _ _ b)
       (yes _ _ _ (not-there _ _ _ _ (end-is (g .in-range .stuffs)) (delivered-known p t x o) l) refl))
-  only (no-room g l) = past-22 g (yes _ _ _ (lt-ltb _ _ (rw (placed-size w o, stuffing-is (g .on-time .in-range .stuffs)) l)) refl)
-  only (room g l) = past-22 g (no _ _ _ (le-ltb _ _ (rw (placed-size w o, stuffing-is (g .on-time .in-range .stuffs)) l)) ?)
+  only (no-room g l) =
+      let s : length (o .out) < length (placedBytes w o) = rw (placed-size w o, stuffing-is (g .on-time .in-range .stuffs)) l in
+      past-22 g (yes _ _ _ (lt-ltb _ _ s) refl)
+  only (room g l) =
+      let s : length (placedBytes w o) ≤ length (o .out) = rw (placed-size w o, stuffing-is (g .on-time .in-range .stuffs)) l in
+      past-22 g (no _ _ _ (le-ltb _ _ s) (rw (delay-known p t x o i (placing g s), placed-size w o, stuffing-is (g .on-time .in-range .stuffs))))

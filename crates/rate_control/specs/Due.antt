@@ -228,9 +228,9 @@ pub data CreationDue (c : CbrConfig) : Answer CbrWriter → Type 0 where
 
 -- ---- of a list
 
--- of all calls: every offer's answer is the one that is due, and no withdrawal is refused
+-- of all calls: every offer's answer is due and no other is, and no withdrawal is refused
 pub data Answered (p : VbvParams) (t : List ℕ) : Known → List Step → Type 0 where
   none : {x : Known} → Answered p t x []
-  offer-then : {x : Known} {o : Offer} {a : Answer Given} {out : List ℕ} {l : List Step} → Due p x o a → PartHolds o a out
-      → Answered p t (toldBy p t x (offered o a out)) l → Answered p t x (offered o a out ∷ l)
+  offer-then : {x : Known} {o : Offer} {a : Answer Given} {out : List ℕ} {l : List Step} → Due p x o a → ((b : Answer Given) → Due p x o b → b ≡ a)
+      → PartHolds o a out → Answered p t (toldBy p t x (offered o a out)) l → Answered p t x (offered o a out ∷ l)
   withdrawal-then : {x : Known} {l : List Step} → Answered p t (toldBy p t x (withdrawn 0)) l → Answered p t x (withdrawn 0 ∷ l)
