@@ -7,7 +7,7 @@ use Prim.Native.Nat.{ℕ, zero, suc, _+_, _≤_}
 use native.Mathlib.Omega.{arith}
 use lib.Dec.{eqb}
 use borrow.Author.Tests.{eqb-true}
-use Rattle.bits.specs.Refusals.{Answer, value, refused, andThen}
+use Rattle.bits.specs.Refusals.{Answer, refused, andThen}
 use Rattle.bits.specs.Fields.{Field, readFields, readHeader}
 use Rattle.bits.specs.Answers.{writeAnswer}
 use Rattle.bits.specs.Numbers.{oneOf, Numbered, a-value, by-number, by-picture, by-all}

@@ -16,7 +16,7 @@ use Rattle.verify.specs.Sequence.{declared}
 use Rattle.verify.specs.declared.VbvStandard.the-variants.{Mpeg2}
 use Rattle.verify.proofs.Accepting.{Passed, exactRecord, run-none, run-passed, accepted}
 use Rattle.layers.proofs.Stream.{Part, PartsFit, part, stream, coded, coded-none, stream-coded, stream-declared}
-use Rattle.rate_control.specs.Sent.{Sent, laid, Removals, none, next, sentRecord, sentRecords, Passes}
+use Rattle.rate_control.specs.Sent.{Sent, laid, none, next, sentRecord, sentRecords, Passes}
 use Rattle.rate_control.proofs.Removing.{Done, Course, First}
 use Rattle.rate_control.proofs.Sending.{codedOf, codedBy, Sending}
 

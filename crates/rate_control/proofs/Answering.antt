@@ -1,15 +1,14 @@
 -- Every answer is the one that is due.
 -- Assumes nothing.
 use mathlib.Core.Path.{_≡_, refl, sym, ap, subst, _∙_}
-use mathlib.Core.Bool.{Bool, true, false, not, _||_, true≢false}
-use mathlib.Core.List.{List, [], _∷_}
+use mathlib.Core.Bool.{Bool, true, false, _||_, true≢false}
+use mathlib.Core.List.{List}
 use Prim.Native.Nat.{ℕ, zero, suc, _+_, _*_, _^_, _≤_, _<_}
 use native.Mathlib.Omega.{arith}
-use lib.Dec.{ltb, eqb}
-use lib.ListN.{length}
+use lib.Dec.{ltb}
 use borrow.Author.Tests.{ltb-false, ltb-true, eqb-true, eqb-false, not-true, not-false}
 use Rattle.bits.specs.Bits.{pick}
-use Rattle.bits.specs.Refusals.{Answer, value, refused, number}
+use Rattle.bits.specs.Refusals.{Answer, refused}
 use Rattle.bits.proofs.Flags.{or-left, or-right, pick-elim}
 use Rattle.bits.proofs.Over.{over-take, over-drop}
 use Rattle.vbv.specs.Annex.{unit, overflows, beyond}
@@ -17,24 +16,22 @@ use Rattle.vbv.specs.declared.VbvParams.{VbvParams}
 use Rattle.vbv.proofs.Laws.{over-units, over-full, beyond-units, beyond-there, first-in-time, fits-params}
 use Rattle.layers.specs.declared.PictureKind.{PictureKind}
 use Rattle.layers.specs.declared.PictureKind.the-variants.{I, P, B}
-use Rattle.rate_control.specs.Answers.{Given, placed, again}
-use Rattle.rate_control.specs.Writer.{writerFits, index, clashes, asked, coarser}
-use Rattle.rate_control.specs.Offer.{Offer, position, content, end, deliveredAt, deliveredNext, stuffing, delay, firstDelay, tooLarge, placedBytes, offer, left, outOf, outAfter, withdraw}
-use Rattle.rate_control.specs.Calls.{Call, offering, withdrawing, stepOf, after, run}
+use Rattle.rate_control.specs.Answers.{Given}
+use Rattle.rate_control.specs.Writer.{index, clashes, asked}
+use Rattle.rate_control.specs.Offer.{Offer, position, content, end, deliveredAt, deliveredNext, stuffing, delay, firstDelay, tooLarge, placedBytes, offer, outOf}
 use Rattle.rate_control.specs.Sent.{positionOf, contentOf, Stuffs}
-use Rattle.rate_control.specs.Due.{Known, anyPlaced, deliveredFor, askedFor, toldBy, holding, OutOfTurn, last-placed, other-kind, Fitting, InRange, OnTime, AllThere, sizeOf, delayFor, Due, out-of-turn, bad-headers, bad-layer, far-position, far-end, early, overflow, too-large, largest, no-edge, no-room, room, PartHolds, Answered, none, offer-then, withdrawal-then}
-use Rattle.rate_control.specs.Demand.{retriesAfter, AtCoarsest, Patient, done, then}
+use Rattle.rate_control.specs.Due.{Known, deliveredFor, holding, OutOfTurn, last-placed, other-kind, Fitting, InRange, OnTime, AllThere, delayFor, Due, out-of-turn, bad-headers, bad-layer, far-position, far-end, early, overflow, too-large, largest, no-edge, no-room, room, PartHolds, none}
 use Rattle.rate_control.specs.declared.Pending.{Pending}
 use Rattle.rate_control.specs.declared.Pending.the-variants.{Nothing, Waits}
 use Rattle.rate_control.specs.declared.CbrWriter.{CbrWriter}
 use Rattle.vbv.proofs.Cases.{delivered-of}
-use Rattle.rate_control.proofs.Chain.{Placing, Outcome, stays, closes, retries, places, outcome}
+use Rattle.rate_control.proofs.Chain.{Placing, Outcome, stays, closes, retries, places}
 use Rattle.rate_control.proofs.Fitting.{writer-fits}
 use Rattle.rate_control.proofs.Placing.{delivered-later, delivered-first, placed-size, stuffing-last, stuffing-least, first-told}
 use Rattle.rate_control.proofs.Retries.{below-31}
-use Rattle.rate_control.proofs.Invariant.{Inv, asked-quant, pending-few, call-inv, withdraw-is}
+use Rattle.rate_control.proofs.Invariant.{Inv, asked-quant}
 use Rattle.rate_control.proofs.Removing.{position-same, content-same}
-use Rattle.rate_control.proofs.Knowing.{any-placed, delivered-known, offer-told, withdrawal-told}
+use Rattle.rate_control.proofs.Knowing.{any-placed, delivered-known}
 
 or-other : (a b : Bool) → (a || b) ≡ true → a ≡ false → b ≡ true
 or-other true b h e = absurd (true≢false e)

@@ -13,7 +13,7 @@ use Rattle.rate_control.specs.Answers.{Given}
 use Rattle.rate_control.specs.Writer.{writerFits, asked}
 use Rattle.rate_control.specs.Offer.{Offer, offer, left, withdraw}
 use Rattle.rate_control.specs.Calls.{Call, offering, withdrawing, stepOf, after, run}
-use Rattle.rate_control.specs.Due.{Known, askedFor, holding, Due, Answered, none, offer-then, withdrawal-then}
+use Rattle.rate_control.specs.Due.{Known, askedFor, holding, Answered, none, offer-then, withdrawal-then}
 use Rattle.rate_control.specs.Demand.{Patient, done, then}
 use Rattle.rate_control.specs.declared.CbrWriter.{CbrWriter}
 use Rattle.rate_control.proofs.Chain.{Outcome, stays, closes, retries, places, outcome}

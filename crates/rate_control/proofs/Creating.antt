@@ -1,24 +1,22 @@
 -- Creation's answer is the one that is due.
 -- Assumes nothing.
 use mathlib.Core.Path.{_≡_, refl, sym, _∙_}
-use mathlib.Core.Bool.{Bool, true, false, true≢false}
+use mathlib.Core.Bool.{true, false, true≢false}
 use Prim.Native.Nat.{ℕ, _*_, _≤_, _<_}
 use native.Mathlib.Omega.{arith}
 use native.Mathlib.Decide.{decLt}
-use lib.Dec.{leb}
 use borrow.Author.Tests.{le-leb, not-true, not-false}
-use Rattle.bits.specs.Refusals.{Answer, value, refused, andThen}
+use Rattle.bits.specs.Refusals.{Answer, value, andThen}
 use Rattle.bits.proofs.Flags.{pick-elim}
 use Rattle.bits.proofs.Reading.{both-true}
 use Rattle.vbv.specs.Answers.{frameRate}
-use Rattle.vbv.specs.Model.{paramsFit, newModel}
+use Rattle.vbv.specs.Model.{newModel}
 use Rattle.vbv.specs.declared.VbvCbrModel.{VbvCbrModel}
 use Rattle.vbv.proofs.Fitting.{params-fit, fitting-params}
 use Rattle.rate_control.specs.Create.{within, configFits, configParams, freshWriter, create}
-use Rattle.rate_control.specs.Due.{atFirst, holding, Ranges, rateOf, bufferOf, paramsOf, targetsOf, CreationDue, bad-range, bad-code, bad-ratio, created}
+use Rattle.rate_control.specs.Due.{Ranges, rateOf, bufferOf, CreationDue, bad-range, bad-code, bad-ratio, created}
 use Rattle.rate_control.specs.declared.CbrConfig.{CbrConfig}
-use Rattle.rate_control.specs.declared.CbrWriter.{CbrWriter}
-use Rattle.vbv.proofs.Cases.{modelAt, RateCode, known, unknown, rate-code, NewModel, makes, unfit, new-model}
+use Rattle.vbv.proofs.Cases.{RateCode, known, unknown, rate-code, NewModel, makes, unfit, new-model}
 use Rattle.rate_control.proofs.Fitting.{within-bounds}
 use Rattle.rate_control.proofs.Knowing.{fresh-known}
 

@@ -3,12 +3,10 @@
 use mathlib.Core.Path.{_≡_, subst, ap}
 use mathlib.Core.Bool.{Bool}
 use mathlib.Core.List.{List}
-use Prim.Native.Nat.{ℕ}
 use native.Mathlib.Omega.{arith}
 use Rattle.vbv.specs.declared.VbvParams.{VbvParams}
-use Rattle.rate_control.specs.Calls.{Call, run, final}
-use Rattle.rate_control.specs.Sent.{sent, EachRemoval, InBuffer, Placed, LeastStuffing, Passes}
-use Rattle.rate_control.specs.Due.{Known, holding}
+use Rattle.rate_control.specs.Calls.{Call, run}
+use Rattle.rate_control.specs.Sent.{sent, Passes}
 use Rattle.rate_control.specs.Demand.{AllBytes, OwedOfCalls, Owed}
 use Rattle.rate_control.specs.declared.CbrWriter.{CbrWriter}
 use Rattle.rate_control.proofs.Creation.{Fresh, created}

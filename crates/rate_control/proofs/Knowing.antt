@@ -1,6 +1,6 @@
 -- What a writer holds after any calls is what creation, the calls and their answers told.
 -- Assumes nothing.
-use mathlib.Core.Path.{_≡_, refl, sym, ap, subst, _∙_}
+use mathlib.Core.Path.{_≡_, refl, sym, _∙_}
 use mathlib.Core.Bool.{Bool, true, false}
 use mathlib.Core.List.{List, [], _∷_}
 use Prim.Native.Nat.{ℕ, suc, _+_, _*_}
@@ -15,11 +15,10 @@ use Rattle.vbv.specs.Annex.{gain}
 use Rattle.vbv.specs.Answers.{frameRate}
 use Rattle.vbv.specs.Model.{periods}
 use Rattle.vbv.specs.declared.VbvParams.{VbvParams}
-use Rattle.vbv.specs.declared.VbvCbrModel.{VbvCbrModel}
 use Rattle.rate_control.specs.Answers.{Given}
 use Rattle.rate_control.specs.Writer.{writerFits, asked}
 use Rattle.rate_control.specs.Create.{configParams, freshWriter, create}
-use Rattle.rate_control.specs.Offer.{Offer, end, deliveredAt, deliveredNext, stuffing, placedBytes, withPending, withPlaced, offer, leftBy, left, withdraw}
+use Rattle.rate_control.specs.Offer.{Offer, end, deliveredAt, deliveredNext, placedBytes, withPending, withPlaced, offer, leftBy, left, withdraw}
 use Rattle.rate_control.specs.Calls.{Call, offering, withdrawing, stepOf, after, run, final}
 use Rattle.rate_control.specs.Due.{Known, atFirst, deliveredFor, pendingNow, told, known, holding, paramsOf, targetsOf}
 use Rattle.rate_control.specs.declared.Pending.the-variants.{Nothing}

@@ -1,15 +1,15 @@
 -- Of what creation, the calls and their answers told, no other answer is due than the one that is given.
 -- Assumes nothing.
-use mathlib.Core.Path.{_≡_, refl, sym, ap, _∙_}
+use mathlib.Core.Path.{_≡_, refl, sym, _∙_}
 use mathlib.Core.Bool.{Bool, true, false, not, _||_}
-use mathlib.Core.List.{List, [], _∷_}
+use mathlib.Core.List.{List}
 use Prim.Native.Nat.{ℕ, _+_, _*_, _^_, _≤_, _<_}
 use native.Mathlib.Omega.{arith}
-use lib.Dec.{ltb, eqb}
+use lib.Dec.{ltb}
 use lib.ListN.{length}
 use borrow.Author.Tests.{ltb-false, lt-ltb, le-ltb, eq-eqb, ne-eqb}
 use Rattle.bits.specs.Bits.{pick}
-use Rattle.bits.specs.Refusals.{Answer, value, refused, refuse, violate}
+use Rattle.bits.specs.Refusals.{Answer, refuse, violate}
 use Rattle.bits.proofs.Flags.{or-left, or-right}
 use Rattle.vbv.specs.Annex.{unit, overflows, beyond}
 use Rattle.vbv.specs.declared.VbvParams.{VbvParams}
@@ -17,11 +17,11 @@ use Rattle.vbv.proofs.Laws.{over-units, units-over, beyond-units, units-beyond}
 use Rattle.vbv.proofs.Picks.{yes, no, held, failed}
 use Rattle.layers.specs.Headers.{headersFit}
 use Rattle.layers.specs.Layer.{layerFits}
-use Rattle.rate_control.specs.Answers.{Given, placed, again}
-use Rattle.rate_control.specs.Writer.{writerFits, clashes, asked, coarser}
-use Rattle.rate_control.specs.Offer.{Offer, position, content, end, deliveredAt, stuffing, delay, tooLarge, placedBytes, offer}
-use Rattle.rate_control.specs.Sent.{positionOf, contentOf, Stuffs}
-use Rattle.rate_control.specs.Due.{Known, anyPlaced, deliveredFor, askedFor, holding, OutOfTurn, Fitting, InRange, OnTime, AllThere, sizeOf, delayFor, Due, out-of-turn, bad-headers, bad-layer, far-position, far-end, early, overflow, too-large, largest, no-edge, no-room, room}
+use Rattle.rate_control.specs.Answers.{Given}
+use Rattle.rate_control.specs.Writer.{writerFits, clashes, asked}
+use Rattle.rate_control.specs.Offer.{Offer, position, content, end, deliveredAt, stuffing, tooLarge, placedBytes, offer}
+use Rattle.rate_control.specs.Sent.{contentOf, Stuffs}
+use Rattle.rate_control.specs.Due.{Known, anyPlaced, deliveredFor, askedFor, holding, OutOfTurn, Fitting, InRange, OnTime, AllThere, Due, out-of-turn, bad-headers, bad-layer, far-position, far-end, early, overflow, too-large, largest, no-edge, no-room, room}
 use Rattle.rate_control.specs.declared.CbrWriter.{CbrWriter}
 use Rattle.rate_control.proofs.Chain.{Placing}
 use Rattle.rate_control.proofs.Placing.{placed-size}

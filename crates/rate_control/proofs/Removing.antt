@@ -5,17 +5,16 @@ use mathlib.Core.Bool.{Bool, true, false, true≢false}
 use mathlib.Core.List.{List, [], _∷_}
 use Prim.Native.Nat.{ℕ, _+_, _*_}
 use native.Mathlib.Omega.{arith}
-use lib.ListN.{length}
 use Rattle.bits.specs.Bits.{pick}
 use Rattle.bits.specs.Refusals.{Answer, value, refused}
 use Rattle.bits.proofs.Over.{over-take}
-use Rattle.vbv.specs.Annex.{firstDelivered, gain, beyond}
-use Rattle.vbv.specs.Model.{delivered, periods}
+use Rattle.vbv.specs.Annex.{firstDelivered, beyond}
+use Rattle.vbv.specs.Model.{delivered}
 use Rattle.vbv.specs.declared.VbvParams.{VbvParams}
 use Rattle.vbv.proofs.Laws.{over-units, beyond-units}
 use Rattle.vbv.proofs.After.{after as model-after}
 use Rattle.rate_control.specs.Answers.{Given, placed, again}
-use Rattle.rate_control.specs.Offer.{Offer, position, content, end, deliveredAt, deliveredNext, stuffing, delay, placedBytes, withPending, withPlaced, leftBy, left, outOf}
+use Rattle.rate_control.specs.Offer.{Offer, position, content, end, deliveredAt, deliveredNext, stuffing, delay, placedBytes, withPending, withPlaced, leftBy, outOf}
 use Rattle.rate_control.specs.Calls.{Call, offering, withdrawing, stepOf, after, run}
 use Rattle.rate_control.specs.Sent.{positionOf, contentOf, Stuffs, Sent, position as sentPosition, end as sentEnd, sentBy, sent, Removals, none, next, EachRemoval, InBuffer, Placed, LeastStuffing}
 use Rattle.rate_control.specs.declared.Pending.the-variants.{Nothing}
@@ -23,7 +22,7 @@ use Rattle.rate_control.specs.declared.CbrWriter.{CbrWriter}
 use Rattle.rate_control.proofs.Chain.{Placing, Outcome, stays, closes, retries, places, outcome}
 use Rattle.rate_control.proofs.Placing.{delivered-later, end-is, stuffing-last, stuffing-least, params-fitted, delay-told, delivered-told}
 use Rattle.rate_control.proofs.Creation.{Fresh}
-use Rattle.rate_control.proofs.Invariant.{Inv, outcome-inv, call-inv, withdraw-is}
+use Rattle.rate_control.proofs.Invariant.{Inv, call-inv, withdraw-is}
 
 -- ---- one picture
 

@@ -12,7 +12,6 @@ use borrow.Author.Tests.{le-leb, lt-leb}
 use Rattle.bits.specs.Bits.{pick}
 use Rattle.bits.proofs.Appending.{lt-or-le}
 use Rattle.vbv.specs.Model.{modelFits}
-use Rattle.vbv.specs.declared.VbvError.the-variants.{Params}
 use Rattle.layers.specs.declared.PictureKind.{PictureKind}
 use Rattle.rate_control.specs.Writer.{every, quantiser, pendingFits, writerFits}
 use Rattle.bits.specs.Refusals.{value, refused, orElse}

@@ -11,7 +11,7 @@ use Rattle.bits.specs.Bits.{pick}
 use Rattle.bits.specs.Refusals.{Answer}
 use Rattle.vbv.specs.Answers.{modelAnswer, removalAnswer, delayAnswer, bitsAnswer}
 use Rattle.vbv.proofs.Numbers.{model-case, delay-case, bits-case, removal-case}
-use Rattle.vbv.specs.Steps.{ParamsFit, modelOf, delayOf, bitsOf, removalOf}
+use Rattle.vbv.specs.Steps.{ParamsFit, delayOf, bitsOf, removalOf}
 use Rattle.vbv.specs.Model.{startModel, delayForPicture, removePicture, maxEndBits, minEndBits}
 use Rattle.vbv.specs.declared.RemovalInterval.{RemovalInterval}
 use Rattle.vbv.specs.declared.VbvParams.{VbvParams}

@@ -1,7 +1,6 @@
 -- Which refusals a writer's calls have, whatever its state (paper 01, 'A placed picture'), in the order of the tests; an offer's 9 names its picture.
 -- Assumes nothing.
-use Prim.Native.Nat.{ℕ}
-use mathlib.Core.List.{List, [], _∷_}
+use mathlib.Core.List.{[], _∷_}
 use Rattle.bits.specs.Numbers.{Numbered}
 use Rattle.rate_control.specs.Create.{create}
 use Rattle.rate_control.specs.Offer.{Offer, offer, withdraw}

@@ -2,7 +2,7 @@
 -- Assumes nothing.
 use Rattle.headers.proofs.SequenceRoundTrip.{sequence-read-back, sequence-write-back}
 use Rattle.headers.proofs.SequenceHeader.{sequence-header-append, sequence-header-short-cut}
-use Rattle.headers.proofs.SequenceExtension.{extension-read-back, extension-write-back, extension-append, extension-short-cut}
+use Rattle.headers.proofs.SequenceExtension.{extension-read-back, plain-read-back, extension-write-back, extension-append, extension-short-cut}
 use Rattle.headers.proofs.Sequence.{sequence-append}
 use Rattle.headers.proofs.Numbering.{header-numbers}
 use Rattle.picture_header.proofs.PictureHeader.{picture-header-append, picture-header-short}
@@ -30,6 +30,7 @@ theorems = record {
   sequence-written-reads = sequence-read-back;
   sequence-read-writes = sequence-write-back;
   extension-written-reads = extension-read-back;
+  plain-written-reads = plain-read-back;
   extension-read-writes = extension-write-back;
   group-written-reads = group-read-back;
   time-code-writes = time-code-fits;

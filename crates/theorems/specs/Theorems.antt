@@ -1,6 +1,6 @@
 -- Every theorem that is owed, in one record. The promises of the public functions stand beside their code in src/; these say what the definitions in them come to.
 -- Assumes nothing.
-use Rattle.headers.specs.RoundTrips.{WrittenReads, ReadWrites, ExtensionWrittenReads, ExtensionReadWrites, HeaderStays, ExtensionStays, HeaderCut, ExtensionCut, SequenceStays}
+use Rattle.headers.specs.RoundTrips.{WrittenReads, ReadWrites, ExtensionWrittenReads, ExtensionReadWrites, PlainWrittenReads, HeaderStays, ExtensionStays, HeaderCut, ExtensionCut, SequenceStays}
 use Rattle.headers.specs.Numbers.{HeaderNumbers}
 use Rattle.picture_header.specs.Stability.{HeaderStays as PictureHeaderStays, CodingStays, HeaderCut as PictureHeaderCut, CodingCut, PictureStays}
 use Rattle.picture_header.specs.Numbers.{PictureNumbers}
@@ -25,6 +25,8 @@ pub record Theorems : Type 0 where
   pub sequence-read-writes : ReadWrites
   -- A written sequence extension parses to the fields given.
   pub extension-written-reads : ExtensionWrittenReads
+  -- What `write_sequence_extension` writes is read back.
+  pub plain-written-reads : PlainWrittenReads
   -- A parsed sequence extension writes back to its own bytes.
   pub extension-read-writes : ExtensionReadWrites
   -- A written group header reads as the values given, and the time code of a display index is never refused by its writer.

@@ -3,12 +3,12 @@
 use mathlib.Core.Path.{_≡_}
 use mathlib.Core.Logic.{_↔_}
 use mathlib.Core.Bool.{true}
-use Prim.Native.Nat.{ℕ, _+_, _-_, _*_, _/_, _%_, _≤_, _<_}
+use Prim.Native.Nat.{ℕ, _+_, _-_, _*_, _/_, _≤_, _<_}
 use native.Mathlib.Omega.{arith}
 use native.Mathlib.Nat.{div-add-mod', mod-lt, mul-le-mul, div-lt-iff-lt-mul, le-div-iff-mul-le}
 use borrow.Author.Tests.{ltb-true, lt-ltb}
 use Rattle.vbv.specs.Annex.{unit, firstDelivered, gain, overflows, beyond, expectedDelay, occupancy, greatestEnd, leastEnd}
-use Rattle.vbv.specs.Fractions.{Fractions, Owed}
+use Rattle.vbv.specs.Fractions.{Owed}
 use Rattle.vbv.specs.declared.VbvParams.{VbvParams}
 
 first-is : (p : VbvParams) (position delay : ℕ) → 90000 * firstDelivered p position delay ≡ (90000 * position + delay * p .«bit_rate») * unit p

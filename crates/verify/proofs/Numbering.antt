@@ -6,7 +6,7 @@ use Prim.Native.Nat.{ℕ, suc, _+_}
 use lib.ListN.{drop}
 use Rattle.bits.specs.Refusals.{Answer}
 use Rattle.bits.proofs.Flags.{pick-elim}
-use Rattle.vbv.specs.Annex.{gain, firstDelivered}
+use Rattle.vbv.specs.Annex.{gain}
 use Rattle.vbv.specs.Model.{periods}
 use Rattle.bits.specs.Numbers.{Numbered, a-value, by-number, by-all}
 use Rattle.vbv.specs.declared.VbvParams.{VbvParams}

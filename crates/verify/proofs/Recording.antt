@@ -2,7 +2,7 @@
 -- Assumes nothing.
 use mathlib.Core.Path.{_≡_, refl, sym}
 use Prim.Native.Nat.{ℕ, _*_, _^_, _≤_, _<_}
-use mathlib.Core.List.{List, [], _∷_}
+use mathlib.Core.List.{List, _∷_}
 use native.Mathlib.Omega.{arith}
 use lib.ListN.{length}
 use borrow.Author.Tests.{lt-leb, le-leb}
@@ -21,8 +21,7 @@ use Rattle.scan.specs.Pictures.{Pic}
 use Rattle.scan.specs.Walk as walk
 use Rattle.scan.specs.Walk.{nextPicture, Steps}
 use Rattle.verify.specs.Sequence.{declared}
-use Rattle.verify.specs.Check.{Accepted, verdict, reportOf, reported, records}
-use Rattle.verify.specs.Answers.{verifiedAnswer}
+use Rattle.verify.specs.Check.{Accepted, verdict, reportOf, records}
 use Rattle.verify.specs.declared.VbvVerified.{VbvVerified}
 use Rattle.verify.specs.declared.VbvVerified.the-variants.{Report, Refused}
 use Rattle.verify.specs.Coded.{codedAt}
