@@ -13,6 +13,7 @@ use Rattle.bits.specs.Refusals.{Answer, value, refused, number}
 use Rattle.bits.proofs.Over.{over-none}
 use Rattle.verify.specs.Answers.{plain, refusalOf, verifiedAnswer}
 use Rattle.verify.specs.Check.{Accepted, reported, verdict, records}
+use Rattle.verify.proofs.Storing.{no-records}
 use Rattle.verify.specs.Layout.{recordsBytes}
 use Rattle.verify.specs.declared.VbvStandard.the-variants.{Mpeg1, Mpeg2}
 use Rattle.verify.specs.declared.VbvVerified.{VbvVerified}
@@ -53,9 +54,9 @@ module _ (s : List ℕ) (standard : ℕ) (p q f : List ℕ) where
   Answered a n p' f' = (n ≡ number a) × ((p' ≡ reportAfter a p) × (f' ≡ refusalAfter a f))
 
   leaves-judged : (v : Answer Accepted) {n : ℕ} {p' q' f' : List ℕ} → q' ≡ over (recordsBytes (records v)) q → Answered (reported v) n p' f' → Leaves v n p' q' f'
-  unfolding reportAfter recordsAfter refusalAfter recordsBytes
+  unfolding reportAfter recordsAfter refusalAfter
   leaves-judged (value a) w t = (t .0, (t .1 .0, (w, t .1 .1)))
-  leaves-judged (refused i k c x) w t = (t .0, (t .1 .0, (w ∙ over-none q, t .1 .1)))
+  leaves-judged (refused i k c x) w t = (t .0, (t .1 .0, (w ∙ rw no-records (over-none q), t .1 .1)))
 
   -- ---- the ways of the chain
 

@@ -25,6 +25,10 @@ pub record-laid : (out new : List ℕ) (at : ℕ) (r : VbvPictureRecord) → at 
 unfolding recordBytes
 record-laid out new at r h e = rw e (laid-part (recordBytes r) out at (omega (arith, length-record r)))
 
+pub no-records : recordsBytes [] ≡ []
+unfolding recordsBytes
+no-records = refl
+
 pub length-records : (rs : List VbvPictureRecord) → length (recordsBytes rs) ≡ 32 * length rs
 unfolding recordsBytes
 length-records [] = refl
