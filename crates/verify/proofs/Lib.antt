@@ -14,3 +14,4 @@ pub mod Telling
 pub mod Bounds
 pub mod Cases
 pub mod Numbering
+pub mod Due

@@ -3,6 +3,7 @@ pub mod Coded
 pub mod Run
 pub mod Check
 pub mod Accepted
+pub mod Due
 pub mod Answers
 pub mod Layout
 pub mod Walk
