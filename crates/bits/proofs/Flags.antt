@@ -20,6 +20,15 @@ pub or-right : (a b : Bool) → (a || b) ≡ false → b ≡ false
 or-right true b e = cc
 or-right false b e = e
 
+-- a test is the one, where it is not the other
+pub is-true : (b : Bool) → (b ≡ false → ⊥) → b ≡ true
+is-true true n = refl
+is-true false n = absurd (n refl)
+
+pub is-false : (b : Bool) → (b ≡ true → ⊥) → b ≡ false
+is-false true n = absurd (n refl)
+is-false false n = refl
+
 -- what holds of both sides holds of the one that a test picks
 pub pick-elim : {A : Type 0} (P : A → Type 0) (b : Bool) {x y : A} → (b ≡ true → P x) → (b ≡ false → P y) → P (pick b x y)
 unfolding pick

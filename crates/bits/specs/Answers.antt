@@ -22,7 +22,7 @@ use Rattle.bits.specs.declared.Fields.{Fields}
 unfoldable pub over : {X : Type 0} → List X → List X → List X
 over new old = new ++ drop (length new) old
 
--- the number in n bits: fewer remain (1)
+-- the number in n bits: fewer remain, or n is above 32 (1)
 unfoldable pub readBits : List ℕ → ℕ → ℕ → Answer ℕ
 readBits s i n = refuse 1 (not (there s i n)) (value (bitsAt s i n))
 

@@ -1,4 +1,5 @@
--- What is answered, in paper 01's terms: a value, or a refusal: its number, with picture, coded and expected delay for 9 to 11 and zeros for every other.
+-- What is answered, in paper 01's terms: a value, or a refusal: its number, with picture, coded and expected delay for the check's 9 to 11, the picture alone for the model's 9 and 10 and an
+-- offer's 9, which know no coded delay, and zeros for every other.
 -- Assumes nothing.
 use Prim.Native.Nat.{ℕ}
 use mathlib.Core.Bool.{Bool}

@@ -111,11 +111,16 @@ module _ (s : List ℕ) (o : COffer) (b : Bytes s) where
   room-kept (stops n k m) a l h = omega (arith, k a)
   room-kept (reaches f) a l h = room-enough w p l h
 
+no-writer-first : (s : List ℕ) (o : COffer) → stateFits s ≡ false → (answered s o ≡ refused 12 0 0 0) × (withdrawal s ≡ refused 12 0 0 0)
+unfolding answered reach withdrawal pick
+no-writer-first s o e = (rw e, rw e)
+
 pub refusals : OwedOfRefusals
 unfolding answered offerState offerOut
 refusals s o b =
     let y = way s o in
     record {
+      no-writer = no-writer-first s o;
       state = state-kept s o b y;
       closes = closing s o b y;
       not-pending = withdrawal-kept s o b;

@@ -4,7 +4,7 @@
 use Prim.Native.Nat.{ℕ, _*_, _≤_}
 use mathlib.Core.Path.{_≡_}
 use mathlib.Core.List.{List, [], _∷_, _++_}
-use mathlib.Core.Bool.{not}
+use mathlib.Core.Bool.{false, not}
 use lib.Dec.{ltb}
 use lib.ListN.{length}
 use Rattle.bits.specs.Bits.{pick}
@@ -119,8 +119,10 @@ OwedFromC = (c : CbrConfig) (place : List ℕ) → number (creation c place) ≡
 
 -- ---- one call
 
--- of the state's bytes and an offer; that every refusal is numbered says Numbers
+-- what a refusal leaves as it was, of any state bytes and offer; Numbers.antt says which numbers there are
 pub record Keeps (s : List ℕ) (o : COffer) : Type 0 where
+  -- state bytes that hold no writer are 12 before anything else
+  pub no-writer : stateFits s ≡ false → (answered s o ≡ refused 12 0 0 0) × (withdrawal s ≡ refused 12 0 0 0)
   -- a refusal changes neither state nor output part, but that 21 does what a withdrawal does
   pub state : 1 ≤ number (answered s o) → (number (answered s o) ≡ 21 → ⊥) → offerState s o ≡ s
   pub closes : number (answered s o) ≡ 21 → offerState s o ≡ stateAfter (withdrawal s) s

@@ -16,7 +16,7 @@ use Rattle.verify.specs.Sequence.{declared}
 use Rattle.verify.specs.declared.VbvStandard.the-variants.{Mpeg2}
 use Rattle.verify.proofs.Accepting.{Passed, exactRecord, run-none, run-passed, accepted}
 use Rattle.layers.proofs.Stream.{Part, PartsFit, part, stream, coded, coded-none, stream-coded, stream-declared}
-use Rattle.rate_control.specs.Sent.{Sent, laid, none, next, sentRecord, sentRecords, Passes}
+use Rattle.rate_control.specs.Sent.{Sent, endToEnd, none, next, sentRecord, sentRecords, Passes}
 use Rattle.rate_control.proofs.Removing.{Done, Course, First}
 use Rattle.rate_control.proofs.Sending.{codedOf, codedBy, Sending}
 
@@ -54,12 +54,12 @@ coded-length (x ∷ xs) = ap suc (coded-length xs)
 first-told : {p : VbvParams} {d previous : ℕ} {x : Sent} {xs : List Sent} → Course p d previous (x ∷ xs) → x .delay ≤ 65534
 first-told (next r c) = r .as-placed .delay-told
 
-passes-by : (p : VbvParams) (x : Sent) (xs : List Sent) → paramsFit p ≡ true → 8 * length (laid (x ∷ xs)) ≤ 2 ^ 48 → First p (x ∷ xs)
-    → declared Mpeg2 (laid (x ∷ xs)) ≡ value p → codedPictures Mpeg2 (laid (x ∷ xs)) ≡ value (codedBy (x ∷ xs)) → Passes p (x ∷ xs)
+passes-by : (p : VbvParams) (x : Sent) (xs : List Sent) → paramsFit p ≡ true → 8 * length (endToEnd (x ∷ xs)) ≤ 2 ^ 48 → First p (x ∷ xs)
+    → declared Mpeg2 (endToEnd (x ∷ xs)) ≡ value p → codedPictures Mpeg2 (endToEnd (x ∷ xs)) ≡ value (codedBy (x ∷ xs)) → Passes p (x ∷ xs)
 unfolding codedBy codedOf sentRecords
-passes-by p x xs f l c d h places m = accepted Mpeg2 (laid (x ∷ xs)) places l d h (first-told c) f (rw (coded-length xs) m) (course-ran 0 c)
+passes-by p x xs f l c d h places m = accepted Mpeg2 (endToEnd (x ∷ xs)) places l d h (first-told c) f (rw (coded-length xs) m) (course-ran 0 c)
 
-sending-declared : {p : VbvParams} {x : Sent} {xs : List Sent} → Sending p false 0 (x ∷ xs) → declared Mpeg2 (laid (x ∷ xs)) ≡ value p
+sending-declared : {p : VbvParams} {x : Sent} {xs : List Sent} → Sending p false 0 (x ∷ xs) → declared Mpeg2 (endToEnd (x ∷ xs)) ≡ value p
 unfolding codedBy
 sending-declared {p} {x} {xs} a = ap (declared Mpeg2) (a .laid-is) ∙ go (a .parts) (a .fit) (a .coded-is)
   where
@@ -67,7 +67,7 @@ sending-declared {p} {x} {xs} a = ap (declared Mpeg2) (a .laid-is) ∙ go (a .pa
     go [] f e = let z = sym (coded-none 0 (length (a .follows))) ∙ e in cc
     go (y ∷ ys) (part f fs) e = stream-declared f ys (a .follows)
 
-pub passes : (p : VbvParams) (xs : List Sent) → paramsFit p ≡ true → 8 * length (laid xs) ≤ 2 ^ 48 → First p xs → Sending p false 0 xs → Passes p xs
+pub passes : (p : VbvParams) (xs : List Sent) → paramsFit p ≡ true → 8 * length (endToEnd xs) ≤ 2 ^ 48 → First p xs → Sending p false 0 xs → Passes p xs
 passes p [] f l c a = tt
 passes p (x ∷ xs) f l c a =
     passes-by p x xs f l c (sending-declared a) (ap (codedPictures Mpeg2) (a .laid-is) ∙ stream-coded (a .fit) (a .ends) ∙ ap value (a .coded-is))

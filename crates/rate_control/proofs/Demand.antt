@@ -15,7 +15,7 @@ use Rattle.rate_control.proofs.Totals.{total, laid-low}
 use Rattle.rate_control.proofs.Sending.{Sending, sending}
 use Rattle.rate_control.proofs.Accepted.{passes}
 use Rattle.rate_control.proofs.Knowing.{state, created-known}
-use Rattle.rate_control.proofs.Creating.{creation-due}
+use Rattle.rate_control.proofs.Creating.{creation-due, creation-only}
 use Rattle.rate_control.proofs.Answers.{answered, patient}
 
 -- the check, of a writer that has placed nothing yet
@@ -43,4 +43,4 @@ demand c f w calls e h b =
     }
 
 pub owed : Owed
-owed = record { creation = creation-due; calls = demand }
+owed = record { creation = creation-due; no-other = creation-only; calls = demand }

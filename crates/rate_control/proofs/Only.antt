@@ -10,7 +10,7 @@ use lib.ListN.{length}
 use borrow.Author.Tests.{ltb-false, lt-ltb, le-ltb, eq-eqb, ne-eqb}
 use Rattle.bits.specs.Bits.{pick}
 use Rattle.bits.specs.Refusals.{Answer, refuse, violate}
-use Rattle.bits.proofs.Flags.{or-left, or-right}
+use Rattle.bits.proofs.Flags.{or-left, or-right, is-true, is-false}
 use Rattle.vbv.specs.Annex.{unit, overflows, beyond}
 use Rattle.vbv.specs.declared.VbvParams.{VbvParams}
 use Rattle.vbv.proofs.Laws.{over-units, units-over, beyond-units, units-beyond}
@@ -28,14 +28,6 @@ use Rattle.rate_control.proofs.Placing.{placed-size}
 use Rattle.rate_control.proofs.Invariant.{Inv}
 use Rattle.rate_control.proofs.Knowing.{delivered-known}
 use Rattle.rate_control.proofs.Answering.{turn, in-turn-is, at-position, at-content, at-end, stuffs, delay-known}
-
-is-true : (b : Bool) → (b ≡ false → ⊥) → b ≡ true
-is-true true n = refl
-is-true false n = absurd (n refl)
-
-is-false : (b : Bool) → (b ≡ true → ⊥) → b ≡ false
-is-false true n = absurd (n refl)
-is-false false n = refl
 
 -- the zeros are fixed by what they do
 zeros-same : {p : VbvParams} {n d : ℕ} {o : Offer} {a b : ℕ} → Stuffs p n d o a → Stuffs p n d o b → a ≡ b

@@ -1,4 +1,4 @@
--- The bytes that a list of calls hands out are parts that fit, laid end to end.
+-- The bytes that a list of calls hands out are parts that fit, endToEnd end to end.
 -- Assumes nothing.
 use mathlib.Core.Path.{_≡_, refl, sym, ap, subst}
 use mathlib.Core.Bool.{Bool, true, false}
@@ -19,7 +19,7 @@ use Rattle.layers.proofs.Stream.{Part, bytesOf, PartFits, PartsFit, no-parts, p
 use Rattle.rate_control.specs.Answers.{Given}
 use Rattle.rate_control.specs.Offer.{Offer, end, deliveredNext, stuffing, delay, tail, placedBytes, withPending, withPlaced, leftBy, outOf}
 use Rattle.rate_control.specs.Calls.{Call, offering, withdrawing, stepOf, after, run}
-use Rattle.rate_control.specs.Sent.{positionOf, Sent, position, end as sentEnd, sentBy, sent, laid}
+use Rattle.rate_control.specs.Sent.{positionOf, Sent, position, end as sentEnd, sentBy, sent, endToEnd}
 use Rattle.rate_control.specs.Demand.{AllBytes}
 use Rattle.rate_control.specs.declared.CbrWriter.{CbrWriter}
 use Rattle.rate_control.proofs.Chain.{Placing, Outcome, stays, closes, retries, places, outcome}
@@ -61,7 +61,7 @@ tail-other o e = rw e
 pub record Sending (p : VbvParams) (placed : Bool) (n : ℕ) (xs : List Sent) : Type 0 where
   pub parts : List Part
   pub follows : List ℕ
-  pub laid-is : laid xs ≡ stream parts follows
+  pub laid-is : endToEnd xs ≡ stream parts follows
   pub coded-is : coded n parts (length follows) ≡ codedBy xs
   pub fit : PartsFit p placed parts
   pub ends : Tail follows
@@ -79,7 +79,7 @@ coded-front n e x (y ∷ ys) t l z h = rw (← h, ← l) (coded-more n x y ys t)
 module _ {p : VbvParams} {placed : Bool} (n : ℕ) (w : CbrWriter) (o : Offer) {xs : List Sent} (f : PartFits p placed (partOf w o))
     (s : Sending p true (n + length (placedBytes w o)) xs) (z : o .last ≡ true → xs ≡ []) where
   last-sending : o .last ≡ true → Sending p placed n (sentOf n w o ∷ xs)
-  unfolding codedBy codedOf sentOf laid positionOf
+  unfolding codedBy codedOf sentOf endToEnd positionOf
   last-sending e =
       let t = tail-last o e in
       let c : n + (length (bytesOf (partOf w o)) + length sequenceEndCode) ≡ n + length (placedBytes w o) = omega (arith, placed-length w o, ap length t) in
@@ -94,7 +94,7 @@ module _ {p : VbvParams} {placed : Bool} (n : ℕ) (w : CbrWriter) (o : Offer) {
       }
 
   other-sending : o .last ≡ false → Sending p placed n (sentOf n w o ∷ xs)
-  unfolding codedBy codedOf sentOf laid positionOf
+  unfolding codedBy codedOf sentOf endToEnd positionOf
   other-sending e =
       let t = tail-other o e in
       let c : length (bytesOf (partOf w o)) ≡ length (placedBytes w o) = omega (arith, placed-length w o, ap length t) in
@@ -143,7 +143,7 @@ outcome-sending {w = w} {o = o} n l h b (places g) s =
 
 pub sending : {m : ℕ} (n : ℕ) (w : CbrWriter) (l : List Call) → Inv m w → AllBytes l
     → Sending (w .model .params) (w .model .started) n (sent n (run w l))
-unfolding run stepOf after laid sent codedBy withPending
+unfolding run stepOf after endToEnd sent codedBy withPending
 sending n w [] h b = record {
   parts = [];
   follows = [];

@@ -81,4 +81,5 @@ OwedOfCalls =
 pub record Owed : Type 0 where
   -- 'each answer, creation's .. too, is the one that document 01 defines'
   pub creation : (c : CbrConfig) → CreationDue c (create c)
+  pub no-other : (c : CbrConfig) (a : Answer CbrWriter) → CreationDue c a → a ≡ create c
   pub calls : OwedOfCalls

@@ -1,5 +1,5 @@
--- Which answer creation and each offer are due (paper 01, 'A placed picture'), by conditions in ≤ and <, from creation, the calls and their answers: not from the writer's state,
--- nor from the tests, positions, stuffing or bytes of `offer`. The fit tests, `firstDelay`, `tail`, `patched`, `coarser`, `steered`, `askedOf`, `of`, `index`, `frameRate`, `targets` and
+-- Which answer is due to creation and to each offer (paper 01, 'A placed picture'), by conditions in ≤ and <, from creation, the calls and their answers: not from the writer's state,
+-- nor from the tests, positions, stuffing or bytes of `offer`. The fit tests, `firstDelay`, `tail`, `patched`, `coarser`, `steered`, `askedOf`, `of`, `index`, `frameRate`, `targets`, `periods` and
 -- Annex C are the ones that `create` and `offer` compute with: they are to be read against the papers themselves. Assumes nothing.
 use Prim.Native.Nat.{ℕ, suc, _+_, _*_, _/_, _%_, _^_, _≤_, _<_}
 use mathlib.Core.Path.{_≡_}
@@ -165,8 +165,8 @@ pub data Due (p : VbvParams) (x : Known) (o : Offer) : Answer Given → Type 0 w
   far-position : Fitting p x o → 2 ^ 48 < positionOf (x .bytes) o → Due p x o (refused 14 0 0 0)
   far-end : {z : ℕ} → Fitting p x o → Stuffs p (x .bytes) (deliveredFor p x o) o z → 2 ^ 48 < contentOf (x .bytes) o + 8 * z
       → Due p x o (refused 14 0 0 0)
-  -- the paper gives 7 and 9 no condition on the count; the last one here says when each can arise: before a placing the position is always delivered, after one the stuffing
-  -- keeps overflow away. So a 9 names picture 0, and no delay, since none was coded (docs/DECISIONS.md 40)
+  -- the last condition of these two is added: it always holds where they arise, for before a placing the position is always delivered, and after one the stuffing keeps overflow away.
+  -- So a 9 names picture 0, and no delay, since none was coded (docs/DECISIONS.md 40)
   early : {z : ℕ} → InRange p x o z → deliveredFor p x o < positionOf (x .bytes) o * unit p → 1 ≤ x .pictures → Due p x o (refused 7 0 0 0)
   overflow : {z : ℕ} → InRange p x o z → positionOf (x .bytes) o * unit p ≤ deliveredFor p x o
       → (8 * x .bytes + p .«buffer_size_bits») * unit p < deliveredFor p x o → x .pictures ≡ 0 → Due p x o (refused 9 0 0 0)
@@ -223,7 +223,7 @@ pub data CreationDue (c : CbrConfig) : Answer CbrWriter → Type 0 where
   bad-range : (Ranges c → ⊥) → CreationDue c (refused 12 0 0 0)
   bad-code : Ranges c → (1 ≤ c .«frame_rate_code» → c .«frame_rate_code» ≤ 8 → ⊥) → CreationDue c (refused 6 0 0 0)
   bad-ratio : Ranges c → 1 ≤ c .«frame_rate_code» → c .«frame_rate_code» ≤ 8 → 65534 * rateOf c < 90000 * bufferOf c → CreationDue c (refused 12 0 0 0)
-  created : {f : ℕ × ℕ} → Ranges c → frameRate (c .«frame_rate_code») ≡ value f → 90000 * bufferOf c ≤ 65534 * rateOf c
+  created : {f : ℕ × ℕ} → Ranges c → 1 ≤ c .«frame_rate_code» → c .«frame_rate_code» ≤ 8 → frameRate (c .«frame_rate_code») ≡ value f → 90000 * bufferOf c ≤ 65534 * rateOf c
       → CreationDue c (value (holding (paramsOf c f) (targetsOf c f) (atFirst c)))
 
 -- ---- of a list

@@ -62,10 +62,10 @@ sent n [] = []
 sent n (offered o a out ∷ l) = sentBy n o a out (λ k. sent k l)
 sent n (withdrawn k ∷ l) = sent n l
 
--- laid end to end
-unfoldable pub laid : List Sent → List ℕ
-laid [] = []
-laid (x ∷ xs) = x .bytes ++ laid xs
+-- endToEnd end to end
+unfoldable pub endToEnd : List Sent → List ℕ
+endToEnd [] = []
+endToEnd (x ∷ xs) = x .bytes ++ endToEnd xs
 
 -- the zero bytes among them
 unfoldable pub zerosOf : List Sent → ℕ
@@ -122,4 +122,4 @@ abbrev pub Passes : VbvParams → List Sent → Type 0
 Passes p [] = Unit {0}
 Passes p (x ∷ xs) =
     (places : ℕ) → length (x ∷ xs) ≤ places
-    → verdict Mpeg2 (laid (x ∷ xs)) places ≡ accepted p (sentRecords p (firstDelivered p (position x) (x .delay)) 0 (x ∷ xs))
+    → verdict Mpeg2 (endToEnd (x ∷ xs)) places ≡ accepted p (sentRecords p (firstDelivered p (position x) (x .delay)) 0 (x ∷ xs))

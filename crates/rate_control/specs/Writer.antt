@@ -29,7 +29,7 @@ unfoldable pub pendingFits : Pending → Bool
 pendingFits Nothing = true
 pendingFits (Waits k n) = quantiser n
 
--- the model's ranges; what was handed out is whole bytes, at least as many as pictures, and as bytes of stuffing; targets up to 2^48, quantisers 1 to 31
+-- the model's ranges; the previous end is whole bytes, at least as many as pictures placed, and as bytes stuffed; targets up to 2^48, quantisers 1 to 31
 unfoldable pub writerFits : CbrWriter → Bool
 writerFits w =
     modelFits (w .model)

@@ -48,7 +48,7 @@ unfoldable pub found : List Code → Found
 found [] = Nothing
 found (c ∷ cs) = At (c .offset) (c .code)
 
--- the first start code of `s` at or after `from`
+-- the first start code that a scan from `from` finds; from inside a code it may be one that the scan of the whole does not have
 unfoldable pub nextCode : List ℕ → ℕ → Found
 unfolding found codesAt
 nextCode s from = found (codesAt s from)

@@ -11,9 +11,10 @@ use Rattle.picture_header.proofs.Picture.{picture-append}
 use Rattle.picture_header.proofs.Numbering.{picture-numbers}
 use Rattle.writers.proofs.GopHeader.{group-read-back, time-code-fits}
 use Rattle.vbv.proofs.Fractions.{fractions}
-use Rattle.vbv.proofs.Numbering.{model-numbers}
+use Rattle.vbv.proofs.Numbering.{model-numbers, model-stays}
 use Rattle.scan.proofs.Pictures.{walk-gives, in-order}
 use Rattle.verify.proofs.Accepted.{accepted-exactly, nothing-cut}
+use Rattle.verify.proofs.Due.{check-due}
 use Rattle.verify.proofs.Numbering.{check-numbers}
 use Rattle.verify.proofs.Recording.{records-placed, count-is}
 use Rattle.verify.proofs.Bounds.{records-small}
@@ -48,9 +49,11 @@ theorems = record {
   picture-numbers = picture-numbers;
   in-fractions = fractions;
   model-numbers = model-numbers;
+  model-stays = model-stays;
   walk-gives-pictures = walk-gives;
   pictures-in-order = in-order;
   accepted-exactly = accepted-exactly;
+  check-due = check-due;
   nothing-cut = nothing-cut;
   check-numbers = check-numbers;
   records-yielded = records-placed;

@@ -6,9 +6,10 @@ use Rattle.picture_header.specs.Stability.{HeaderStays as PictureHeaderStays, C
 use Rattle.picture_header.specs.Numbers.{PictureNumbers}
 use Rattle.writers.specs.RoundTrips.{GroupWrittenReads, TimeCodeWrites}
 use Rattle.vbv.specs.Fractions.{Owed as InFractions}
-use Rattle.vbv.specs.Numbers.{ModelNumbers}
+use Rattle.vbv.specs.Numbers.{ModelNumbers, ModelStays}
 use Rattle.scan.specs.Walk.{WalkGivesPictures, PicturesInOrder}
 use Rattle.verify.specs.Accepted.{AcceptedExactly, NothingCut}
+use Rattle.verify.specs.Due.{CheckDue}
 use Rattle.verify.specs.Numbers.{CheckNumbers}
 use Rattle.verify.specs.Recording.{RecordsYielded, RecordsCounted, RecordsSmall}
 use Rattle.rate_control.specs.Demand.{Owed as Demand3}
@@ -51,21 +52,26 @@ pub record Theorems : Type 0 where
   -- What is counted in parts of a bit is what Annex C has in fractions: bits delivered, what a period brings, overflow and underflow; the occupancy is rounded down, the
   -- expected delay to the nearest tick, halves up; the least end is the least that does not overflow, the greatest the last that is all there.
   pub in-fractions : InFractions
-  -- The model refuses with 12, 13, 14, 7 and 8 by number alone, and with 9 and 10 by number and picture.
+  -- The model refuses with 12, 13, 14, 7 and 8 by number alone, and with 9 and 10 by number and picture; a rate code with 6, the patch with 20.
   pub model-numbers : ModelNumbers
+  -- A model that `new` and calls left is in its ranges.
+  pub model-stays : ModelStays
   -- ---- the pictures of a stream
   -- A walk from picture to picture finds the pictures of the stream, in order, and no others.
   pub walk-gives-pictures : WalkGivesPictures
   -- They lie one behind another, within the stream.
   pub pictures-in-order : PicturesInOrder
   -- ---- the check
-  -- A stream is accepted, with these records, exactly when it passes the tests before the run and at every removal the buffer holds at most B bits, all bits of the picture among them.
+  -- A stream is accepted, with these records, exactly when it passes the tests before the run and at every removal the start code has come, the coded delay is within one tick of the
+  -- expected, which is at most 65,534, and the buffer holds at most B bits, all bits of the picture among them.
   pub accepted-exactly : AcceptedExactly
+  -- The verdict is the one that is due: accepted, or refused by the first test that fails, with that picture's number, coded and expected delay.
+  pub check-due : CheckDue
   -- In the records of an accepted stream no difference is cut off at 0.
   pub nothing-cut : NothingCut
   -- A refusal is one of paper 01's numbers; only 9 to 11 carry picture, coded and expected.
   pub check-numbers : CheckNumbers
-  -- The recorder gives the verdict's records one by one, and no more than there are places.
+  -- The first records that a recorder gives are those of an accepted stream, and there are places for them.
   pub records-yielded : RecordsYielded
   -- The number of records that an answer tells is the verdict's.
   pub records-counted : RecordsCounted

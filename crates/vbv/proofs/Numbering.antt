@@ -11,7 +11,8 @@ use Rattle.vbv.specs.Answers.{frameRate}
 use Rattle.vbv.specs.Model.{newModel, startModel, delayForPicture, removePicture, ofStarted, maxEndBits, minEndBits, occupancyBeforeRemoval}
 use Rattle.bits.specs.Numbers.{Numbered, a-value, by-number, by-picture}
 use Rattle.vbv.specs.Patch.{patchPicture}
-use Rattle.vbv.specs.Numbers.{ModelNumbers}
+use Rattle.vbv.specs.Numbers.{ModelNumbers, ModelStays}
+use Rattle.vbv.proofs.Laws.{made, started, removed}
 
 rate-numbered : (c : ℕ) → Numbered (6 ∷ []) [] [] (frameRate c)
 unfolding frameRate
@@ -81,4 +82,11 @@ model-numbers = record {
   min-end = λ m i. bits-numbered m _;
   occupancy = λ m. bits-numbered m _;
   patch = patch-numbered;
+}
+
+pub model-stays : ModelStays
+model-stays = record {
+  made = λ p m h. made p m h .fits;
+  begun = λ m next delay position l h. started m delay position next h .fits l;
+  went-on = λ m next end i h. removed m end i next h .fits;
 }

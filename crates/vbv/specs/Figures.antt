@@ -17,7 +17,7 @@ at25 r b = record { «bit_rate» = r; «buffer_size_bits» = b; frn = 25; frd = 
 abbrev pub ntsc : VbvParams
 ntsc = record { «bit_rate» = 1000000; «buffer_size_bits» = 327680; frn = 30000; frd = 1001 }
 
--- a model started with a delay at a position, removed from once
+-- a model started with a delay at a position
 abbrev pub begun : ℕ → ℕ → ℕ → ℕ → Answer VbvCbrModel
 begun r b delay position = andThen (newModel (at25 r b)) (λ m. startModel m delay position)
 

@@ -27,6 +27,6 @@ pub record Fractions (p : VbvParams) : Type 0 where
   pub least-is : (end d : ℕ) → (leastEnd p d ≤ end) ↔ (d ≤ (end + p .«buffer_size_bits») * unit p)
   pub greatest-is : (end d : ℕ) → (end ≤ greatestEnd p d) ↔ (end * unit p ≤ d)
 
--- what is owed: for all parameters of at least 1
+-- what is owed: for a rate and an frn of at least 1
 abbrev pub Owed : Type 0
 Owed = (p : VbvParams) → 1 ≤ p .«bit_rate» → 1 ≤ p .frn → Fractions p

@@ -27,7 +27,7 @@ paramsFit p =
 unfoldable pub delivered : VbvCbrModel → ℕ
 delivered m = m .whole * unit (m .params) + m .rest
 
--- whole bits that no run passes: 2^48 removed, a buffer above them, and a frame period's gain
+-- every field in its range; 2^55 whole bits are more than a run delivers: 2^48 removed, a buffer above them, and a frame period's gain
 unfoldable pub modelFits : VbvCbrModel → Bool
 modelFits m =
     paramsFit (m .params)

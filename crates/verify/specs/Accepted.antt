@@ -63,7 +63,7 @@ AcceptedExactly =
     → (verdict standard s places ≡ value a) ↔ Passes standard s places (a .params) (a .first ∷ a .others)
 
 -- the records subtract in ℕ, where a difference is cut off at 0. In those of an accepted stream none is: of its data bits, its occupancy before and after
--- (of its expected delay, see `begun`; that of a refusal stands behind the test of 7)
+-- (nor is the expected delay: `begun` says so of an accepted picture, and of another 7 is tested first)
 pub record Uncut (p : VbvParams) (previous d : ℕ) (c : CodedPicture) (r : VbvPictureRecord) : Type 0 where
   pub for-data : previous ≤ c .«end_bits»
   pub for-before : previous * unit p ≤ d

@@ -26,7 +26,7 @@ unfoldable pub recordCount : VbvVerified → ℕ
 recordCount (Report x) = x .pictures
 recordCount (Refused e) = 0
 
--- before the first picture; a stream that declares nothing has no use for it
+-- before the first picture; where the sequence header is refused (3, 1, 2, 6) the recorder gives no record
 unfoldable pub recorderOf : VbvStandard → Answer VbvParams → VbvRecorder
 recorderOf standard (value p) = record { standard = standard; params = p; at = 0; progress = Fresh }
 recorderOf standard (refused n k c e) =

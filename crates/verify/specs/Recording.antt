@@ -20,7 +20,7 @@ pub data Yields (s : List ℕ) : VbvRecorder → List VbvPictureRecord → Type 
   one-more : {w : VbvRecorder} {r : VbvPictureRecord} {rs : List VbvPictureRecord} → nextRecord s w .last ≡ r
       → Yields s (nextRecord s w .recorder) rs → Yields s w (r ∷ rs)
 
--- those of every verdict, none where it refuses, and no more than there are places
+-- an accepted stream's records are the first that the recorder gives, and there are places for them; what it gives after them, or of a refused stream, is not said
 pub record Placing (s : List ℕ) (places : ℕ) (w : VbvRecorder) (rs : List VbvPictureRecord) : Type 0 where
   pub each : Yields s w rs
   pub few : length rs ≤ places

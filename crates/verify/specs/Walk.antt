@@ -1,4 +1,4 @@
--- The check as the code walks it: a picture at a time, with the model and what the report needs of the removals so far. The promises of the private functions;
+-- The check as the code walks it: a picture at a time, with the model and what the report needs of the removals so far. The promises of the private functions and, through `advanced`, of the recorder;
 -- proofs/Verdict.antt says that they come to specs/Check.antt. Assumes nothing.
 use Prim.Native.Nat.{ℕ, _+_, _-_, _*_, min, max}
 use mathlib.Core.List.{List, [], _∷_}

@@ -21,7 +21,7 @@ abbrev pub GroupWrittenReads : Type 0
 GroupWrittenReads = (g : Mpeg2Gop) (behind : List ℕ) → fitsAll groupFields (groupValues g) ≡ true
     → readHeader groupStartCode groupFields (groupWritten g ++ behind) ≡ value (groupValues g)
 
--- the time code of a display index is never refused: with it 8 bytes are written where there is room for them
+-- the time code of a display index is never refused by the writer: with it 8 bytes are written where there is room for them
 abbrev pub TimeCodeWrites : Type 0
 TimeCodeWrites = (n c : ℕ) (code : TimeCode) (closed broken : Bool) (out : List ℕ) → timeCodeAt n c ≡ value code → 8 ≤ length out
     → writeAnswer groupStartCode groupFields (groupValues record { «time_code» = code; «closed_gop» = closed; «broken_link» = broken }) out ≡ value 8
