@@ -1,15 +1,33 @@
 -- The figures hold.
 use mathlib.Core.Path.{refl}
+use Prim.Native.Nat.{_+_, _*_, _%_, _≤_, _<_}
+use native.Mathlib.Omega.{arith}
+use native.Mathlib.Nat.{div-add-mod', mod-lt}
 use Rattle.bits.specs.Bits.{pick}
+use Rattle.vbv.specs.declared.VbvParams.{VbvParams}
 use Rattle.vbv.proofs.Figures.{figures as model-figures}
 use Rattle.rate_control.specs.Targets.{groupPictures, groupBits, groupWeight, target, targets}
 use Rattle.rate_control.specs.Writer.{of, coarser, steered}
 use Rattle.rate_control.specs.Offer.{firstDelay}
-use Rattle.rate_control.specs.Figures.{retried, Figures, Shares, Steering}
+use Rattle.rate_control.specs.Figures.{retried, Figures, Shares, Rules, Steering}
 
 pub figures : Figures
 unfolding groupPictures groupBits groupWeight target targets coarser firstDelay retried
 figures = record { model = model-figures; first-delay = refl; targets-of-three = refl; retries-from-1 = refl }
+
+low : (p : VbvParams) → 4 * p .«bit_rate» * firstDelay p ≤ 270000 * p .«buffer_size_bits»
+unfolding firstDelay
+low p = omega (arith, div-add-mod' (90000 * p .«buffer_size_bits» * 3) (4 * p .«bit_rate»))
+
+high : (p : VbvParams) → 1 ≤ p .«bit_rate» → 270000 * p .«buffer_size_bits» < 4 * p .«bit_rate» * (firstDelay p + 1)
+unfolding firstDelay
+high p l =
+    let m : 90000 * p .«buffer_size_bits» * 3 % (4 * p .«bit_rate») < 4 * p .«bit_rate» = mod-lt (90000 * p .«buffer_size_bits» * 3) (omega arith) in
+    omega (arith, div-add-mod' (90000 * p .«buffer_size_bits» * 3) (4 * p .«bit_rate»))
+
+pub rules : Rules
+unfolding coarser
+rules = record { first-delay-low = low; first-delay-high = high; coarser-5 = refl; coarser-10 = refl; coarser-20 = refl; coarser-24 = refl; coarser-30 = refl }
 
 pub shares : Shares
 unfolding groupPictures groupBits groupWeight target targets of

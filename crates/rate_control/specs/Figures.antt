@@ -2,8 +2,9 @@
 -- Assumes nothing.
 use mathlib.Core.Path.{_≡_}
 use mathlib.Core.List.{List, [], _∷_}
-use Prim.Native.Nat.{ℕ, zero, suc}
+use Prim.Native.Nat.{ℕ, zero, suc, _+_, _*_, _≤_, _<_}
 use Rattle.layers.specs.declared.PictureKind.the-variants.{I, P, B}
+use Rattle.vbv.specs.declared.VbvParams.{VbvParams}
 use Rattle.vbv.specs.Figures.{Figures as ModelFigures, at25}
 use Rattle.rate_control.specs.Targets.{targets}
 use Rattle.rate_control.specs.Writer.{of, coarser, steered}
@@ -26,6 +27,16 @@ pub record Shares : Type 0 where
   pub of-p : of P (targets (at25 1000000 327680) 2 4) ≡ 47272
   pub of-b : of B (targets (at25 1000000 327680) 2 4) ≡ 26590
   pub floored : targets (record { «bit_rate» = 1000000; «buffer_size_bits» = 327680; frn = 30000; frd = 1001 }) 2 4 ≡ 98581 ∷ 39432 ∷ 22180 ∷ []
+
+-- the first delay is three quarters of the buffer in ticks, whole ones, for every rate and buffer; and further steps of a retry than those from 1
+pub record Rules : Type 0 where
+  pub first-delay-low : (p : VbvParams) → 4 * p .«bit_rate» * firstDelay p ≤ 270000 * p .«buffer_size_bits»
+  pub first-delay-high : (p : VbvParams) → 1 ≤ p .«bit_rate» → 270000 * p .«buffer_size_bits» < 4 * p .«bit_rate» * (firstDelay p + 1)
+  pub coarser-5 : coarser 5 ≡ 7
+  pub coarser-10 : coarser 10 ≡ 13
+  pub coarser-20 : coarser 20 ≡ 26
+  pub coarser-24 : coarser 24 ≡ 31
+  pub coarser-30 : coarser 30 ≡ 31
 
 -- figures that no paper has: the edges of the rule by which a quantiser goes up, stays or goes down, for a target of 1,000; 31 and 1 are kept to; a target of 0 counts as 1
 pub record Steering : Type 0 where

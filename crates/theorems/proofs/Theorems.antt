@@ -20,7 +20,7 @@ use Rattle.verify.proofs.Recording.{records-placed, count-is}
 use Rattle.verify.proofs.Bounds.{records-small}
 use Rattle.rate_control.proofs.Demand.{owed}
 use Rattle.rate_control.proofs.Refusing.{writer-numbers}
-use Rattle.rate_control.proofs.Figures.{figures, shares, steering}
+use Rattle.rate_control.proofs.Figures.{figures, shares, rules, steering}
 use Rattle.hipokuta.proofs.FromC.{from-c}
 use Rattle.hipokuta.proofs.Refusals.{refusals}
 use Rattle.hipokuta.proofs.Numbers.{numbers}
@@ -66,5 +66,6 @@ theorems = record {
   entry-numbers = numbers;
   figures = figures;
   shares = shares;
+  rules = rules;
   steering = steering;
 }

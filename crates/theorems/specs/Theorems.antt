@@ -14,7 +14,7 @@ use Rattle.verify.specs.Numbers.{CheckNumbers}
 use Rattle.verify.specs.Recording.{RecordsYielded, RecordsCounted, RecordsSmall}
 use Rattle.rate_control.specs.Demand.{Owed as Demand3}
 use Rattle.rate_control.specs.Numbers.{WriterNumbers}
-use Rattle.rate_control.specs.Figures.{Figures, Shares, Steering}
+use Rattle.rate_control.specs.Figures.{Figures, Shares, Rules, Steering}
 use Rattle.hipokuta.specs.Calls.{OwedFromC, OwedOfRefusals}
 use Rattle.hipokuta.specs.Numbers.{Numbers as EntryNumbers}
 
@@ -93,5 +93,7 @@ pub record Theorems : Type 0 where
   pub figures : Figures
   -- The target of each kind, and targets where a picture's bits are no whole number.
   pub shares : Shares
+  -- The first delay for every rate and buffer; further steps of a retry.
+  pub rules : Rules
   -- The edges of the rule by which a quantiser goes up, stays or goes down.
   pub steering : Steering
