@@ -10,7 +10,8 @@ use lib.Dec.{leb}
 use borrow.Author.Tests.{le-leb}
 use Rattle.bits.specs.Bits.{pick}
 use Rattle.bits.proofs.Reading.{both-true}
-use Rattle.bits.specs.Refusals.{Answer, value, refused, andThen, orElse}
+use Rattle.bits.proofs.Following.{then-value}
+use Rattle.bits.specs.Refusals.{value, orElse}
 use Rattle.vbv.specs.Answers.{frameRate, modelAnswer, rateAnswer}
 use Rattle.vbv.proofs.Picks.{was-held}
 use Rattle.vbv.specs.Model.{paramsFit, newModel}
@@ -23,7 +24,7 @@ use Rattle.vbv.specs.declared.VbvError.the-variants.{Params}
 use Rattle.vbv.specs.declared.VbvModel.{VbvModel}
 use Rattle.vbv.specs.declared.VbvModel.the-variants.{Model, Refused as NoModel}
 use Rattle.vbv.proofs.Fitting.{params-fit}
-use Rattle.vbv.proofs.Laws.{made}
+use Rattle.vbv.proofs.Laws.{refused-value, made}
 use Rattle.rate_control.specs.Targets.{groupPictures, groupBits, groupWeight, target, targets}
 use Rattle.rate_control.specs.Answers.{createdAnswer}
 use Rattle.rate_control.specs.Create.{within, configFits, configParams, freshWriter, noWriter, create}
@@ -193,26 +194,16 @@ pub record Creation (c : CbrConfig) (w : CbrWriter) : Type 0 where
   pub model-is : newModel (configParams c frames) ≡ value model
   pub writer-is : freshWriter c model ≡ w
 
-not-created : {X : Type 0} {n k i j : ℕ} {x : X} → refused n k i j ≡ value x → ⊥
-not-created h = true≢false cc
-
-with-model : (c : CbrConfig) (w : CbrWriter) (f : ℕ × ℕ) → configFits c ≡ true → frameRate (c .«frame_rate_code») ≡ value f → (x : Answer VbvCbrModel)
-    → newModel (configParams c f) ≡ x → andThen x (λ m. value (freshWriter c m)) ≡ value w → Creation c w
-with-model c w f r a (value m) e h =
-    let g : freshWriter c m ≡ w = cc in
-    record { ranges = r; frames = f; frames-are = a; model = m; model-is = e; writer-is = g }
-with-model c w f r a (refused n k i j) e h = absurd (not-created h)
-
-with-rate : (c : CbrConfig) (w : CbrWriter) → configFits c ≡ true → (x : Answer (ℕ × ℕ)) → frameRate (c .«frame_rate_code») ≡ x
-    → andThen x (λ f. withRate c f) ≡ value w → Creation c w
-with-rate c w r (value f) e h = with-model c w f r e (newModel (configParams c f)) refl h
-with-rate c w r (refused n k i j) e h = absurd (not-created h)
+same-value : {X : Type 0} {x y : X} → value x ≡ value y → x ≡ y
+same-value e = cc
 
 pub creation : (c : CbrConfig) (w : CbrWriter) → create c ≡ value w → Creation c w
 unfolding create
 creation c w h =
-    let a = was-held (configFits c) _ _ not-created h in
-    with-rate c w (a .0) (frameRate (c .«frame_rate_code»)) refl (a .1)
+    let a = was-held (configFits c) _ _ refused-value h in
+    let f = then-value (frameRate (c .«frame_rate_code»)) (a .1) in
+    let m = then-value (newModel (configParams c (f .0))) (f .2) in
+    record { ranges = a .0; frames = f .0; frames-are = f .1; model = m .0; model-is = m .1; writer-is = same-value (m .2) }
 
 -- ---- the writer
 
