@@ -14,7 +14,7 @@ use Rattle.vbv.specs.Annex.{unit, firstDelivered, gain}
 use Rattle.vbv.specs.Model.{paramsFit, periods}
 use Rattle.vbv.specs.declared.VbvParams.{VbvParams}
 use Rattle.vbv.proofs.Picks.{was-no, was-held}
-use Rattle.vbv.proofs.Laws.{units-beyond, occupancy-least}
+use Rattle.vbv.proofs.Laws.{refused-value, units-beyond, occupancy-least}
 use Rattle.scan.specs.Pictures.{pictures}
 use Rattle.verify.specs.declared.VbvStandard.{VbvStandard}
 use Rattle.verify.specs.declared.CodedPicture.{CodedPicture}
@@ -72,25 +72,22 @@ module _ {standard : VbvStandard} {s : List ℕ} {places : ℕ} {p : VbvParams} 
 
 -- ---- and back
 
-no-not : {n k x y : ℕ} {v : Accepted} → refused n k x y ≡ value v → ⊥
-no-not h = let z : _≡_ {A = ℕ} 0 1 = cc in omega arith
-
 was-ran : {p : VbvParams} {v : Accepted} (o : Answer (List VbvPictureRecord)) → andThen o (accepted p) ≡ value v
     → (p ≡ v .params) × (o ≡ value (v .first ∷ v .others))
-was-ran (refused n k x y) h = absurd (no-not h)
-was-ran (value []) h = absurd (no-not h)
+was-ran (refused n k x y) h = absurd (refused-value h)
+was-ran (value []) h = absurd (refused-value h)
 was-ran {p} {v} (value (r ∷ rs)) h = let e : record { params = p; first = r; others = rs } ≡ v = cc in (rw (← e), rw (← e))
 
 module _ (standard : VbvStandard) (s : List ℕ) (places : ℕ) {v : Accepted} where
   by-pictures : 8 * length s ≤ 2 ^ 48 → (q : VbvParams) → declared standard s ≡ value q → (o : Answer (List CodedPicture)) → codedPictures standard s ≡ o
       → andThen o (λ cs. withPictures places q cs) ≡ value v → Passes standard s places (v .params) (v .first ∷ v .others)
   unfolding withPictures
-  by-pictures l q d (refused n k i j) x h = absurd (no-not h)
-  by-pictures l q d (value []) x h = absurd (no-not h)
+  by-pictures l q d (refused n k i j) x h = absurd (refused-value h)
+  by-pictures l q d (value []) x h = absurd (refused-value h)
   by-pictures l q d (value (c ∷ cs)) x h =
-      let a = was-no _ _ _ no-not h in
-      let b = was-held (paramsFit q) _ _ no-not (a .1) in
-      let e = was-no _ _ _ no-not (b .1) in
+      let a = was-no _ _ _ refused-value h in
+      let b = was-held (paramsFit q) _ _ refused-value (a .1) in
+      let e = was-no _ _ _ refused-value (b .1) in
       let f = was-ran (run q 0 0 (firstDelivered q (c .«pos_bits») (c .«vbv_delay»)) (c ∷ cs)) (e .1) in
       rw (← f .0)
       record {
@@ -108,12 +105,12 @@ module _ (standard : VbvStandard) (s : List ℕ) (places : ℕ) {v : Accepted} w
   by-params : 8 * length s ≤ 2 ^ 48 → (o : Answer VbvParams) → declared standard s ≡ o
       → andThen o (λ p. andThen (codedPictures standard s) (λ cs. withPictures places p cs)) ≡ value v
       → Passes standard s places (v .params) (v .first ∷ v .others)
-  by-params l (refused n k i j) d h = absurd (no-not h)
+  by-params l (refused n k i j) d h = absurd (refused-value h)
   by-params l (value q) d h = by-pictures l q d (codedPictures standard s) refl h
 
   pub passed : verdict standard s places ≡ value v → Passes standard s places (v .params) (v .first ∷ v .others)
   unfolding verdict
-  passed h = let a = was-no _ _ _ no-not h in by-params (ltb-false _ _ (a .0)) (declared standard s) refl (a .1)
+  passed h = let a = was-no _ _ _ refused-value h in by-params (ltb-false _ _ (a .0)) (declared standard s) refl (a .1)
 
 pub accepted-exactly : AcceptedExactly
 accepted-exactly standard s places a = (passed standard s places, passing)

@@ -3,15 +3,14 @@
 use mathlib.Core.Path.{_≡_, sym}
 use mathlib.Core.Bool.{false}
 use Prim.Native.Nat.{ℕ, _+_, _≤_}
-use native.Mathlib.Omega.{arith}
 use lib.Dec.{ltb}
 use borrow.Author.Tests.{ltb-false, le-ltb}
-use Rattle.bits.specs.Refusals.{value, refused}
+use Rattle.bits.specs.Refusals.{value}
 use Rattle.bits.proofs.Flags.{or-left, or-right}
 use Rattle.vbv.specs.Annex.{expectedDelay}
 use Rattle.vbv.specs.declared.VbvParams.{VbvParams}
 use Rattle.vbv.proofs.Picks.{no, was-no}
-use Rattle.vbv.proofs.Laws.{over-units, units-over, beyond-units, units-beyond}
+use Rattle.vbv.proofs.Laws.{refused-value, over-units, units-over, beyond-units, units-beyond}
 use Rattle.verify.specs.declared.CodedPicture.{CodedPicture}
 use Rattle.verify.specs.declared.VbvPictureRecord.{VbvPictureRecord}
 use Rattle.verify.specs.Run.{apart, removal}
@@ -29,18 +28,15 @@ not-apart : (coded expected : ℕ) → coded ≤ expected + 1 → expected ≤ c
 unfolding apart
 not-apart coded expected g h = simp (le-ltb (coded + 1) expected h, le-ltb (expected + 1) coded g)
 
-refused-not : {n k x y : ℕ} {r : VbvPictureRecord} → refused n k x y ≡ value r → ⊥
-refused-not h = let z : _≡_ {A = ℕ} 0 1 = cc in omega arith
-
 pub conforms : (p : VbvParams) (n previous d : ℕ) (c : CodedPicture) (r : VbvPictureRecord) → removal p n previous d c ≡ value r
     → Conforms p previous d c r
 unfolding removal
 conforms p n previous d c r h =
-    let a = was-no _ _ _ refused-not h in
-    let b = was-no _ _ _ refused-not (a .1) in
-    let e = was-no _ _ _ refused-not (b .1) in
-    let o = was-no _ _ _ refused-not (e .1) in
-    let u = was-no _ _ _ refused-not (o .1) in
+    let a = was-no _ _ _ refused-value h in
+    let b = was-no _ _ _ refused-value (a .1) in
+    let e = was-no _ _ _ refused-value (b .1) in
+    let o = was-no _ _ _ refused-value (e .1) in
+    let u = was-no _ _ _ refused-value (o .1) in
     let m = near (c .«vbv_delay») (expectedDelay p (c .«pos_bits») d) (e .0) in
     record {
       begun = beyond-units p (c .«pos_bits») d (a .0);
