@@ -1,7 +1,7 @@
-use Rattle.verify.specs.Sequence.{declaredBy}
+use Rattle.pictures.specs.Sequence.{declaredBy}
 use borrow.Author.Needs.{needs}
-use Rattle.verify.proofs.reading.declared_at.Statement.{statement}
-use Rattle.verify.proofs.reading.declared_at.Tie as tie
+use Rattle.pictures.proofs.sequence.declared_at.Statement.{statement}
+use Rattle.pictures.proofs.sequence.declared_at.Tie as tie
 
 enum-told : tie.Need-enum-told
 enum-told c = search needs

@@ -1,4 +1,4 @@
--- What a parsed picture tells, and what a parsed sequence header at byte 0 declares.
+-- What a parsed picture shows, and what a parsed sequence header at byte 0 declares.
 -- Assumes nothing.
 use mathlib.Core.Path.{_≡_}
 use Prim.Native.Nat.{ℕ, _*_}
@@ -14,14 +14,14 @@ use Rattle.scan.specs.Codes.{Code, codes, found}
 use Rattle.scan.specs.Pictures.{skip, notSequence}
 use Rattle.scan.specs.declared.Found.the-variants.{At}
 use Rattle.scan.proofs.Sorts.{sequence-code, skip-stops, found-first}
-use Rattle.verify.specs.Coded.{intervalOf, told}
-use Rattle.verify.specs.Sequence.{rated, declaredBy, declaredAt, declared}
-use Rattle.verify.specs.declared.VbvStandard.the-variants.{Mpeg2}
+use Rattle.pictures.specs.Seen.{factsOf, shown}
+use Rattle.pictures.specs.Sequence.{rated, declaredBy, declaredAt, declared}
+use Rattle.pictures.specs.declared.VbvStandard.the-variants.{Mpeg2}
 
-pub told-parsed : (s : List ℕ) (h : Mpeg2PictureHeader) (x : PictureCodingExtension) → picture s ≡ value (h, x)
-    → told Mpeg2 s ≡ value (h .«vbv_delay», intervalOf (x .«picture_structure»))
-unfolding told
-told-parsed s h x e = rw e
+pub shown-parsed : (s : List ℕ) (h : Mpeg2PictureHeader) (x : PictureCodingExtension) → picture s ≡ value (h, x)
+    → shown Mpeg2 s ≡ value (h .«vbv_delay», factsOf h x)
+unfolding shown
+shown-parsed s h x e = rw e
 
 module _ (s : List ℕ) (cs : List Code) (c : codes s ≡ record { offset = 0; code = 0xB3 } ∷ cs) where
   first-sequence : found (skip notSequence (codes s)) ≡ At 0 0xB3

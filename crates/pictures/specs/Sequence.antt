@@ -12,8 +12,8 @@ use Rattle.scan.specs.Codes.{codes, found}
 use Rattle.scan.specs.Pictures.{skip, notSequence}
 use Rattle.scan.specs.declared.Found.{Found}
 use Rattle.scan.specs.declared.Found.the-variants.{At, Nothing}
-use Rattle.verify.specs.declared.VbvStandard.{VbvStandard}
-use Rattle.verify.specs.declared.VbvStandard.the-variants.{Mpeg1, Mpeg2}
+use Rattle.pictures.specs.declared.VbvStandard.{VbvStandard}
+use Rattle.pictures.specs.declared.VbvStandard.the-variants.{Mpeg1, Mpeg2}
 
 -- R in units of 400 bits a second, B in units of 16 × 1024 bits, and the frame rate of a code (6)
 unfoldable pub rated : ℕ → ℕ → ℕ → Answer VbvParams

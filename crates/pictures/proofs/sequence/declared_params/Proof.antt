@@ -2,10 +2,10 @@ use Rattle.bits.proofs.Reading.{rest-is}
 use mathlib.Core.Path.{sym, _∙_}
 use native.Mathlib.Omega.{arith}
 use borrow.Author.Needs.{needs}
-use Rattle.verify.specs.Sequence.{declared, declaredAt}
+use Rattle.pictures.specs.Sequence.{declared, declaredAt}
 use Rattle.scan.proofs.Pictures.{first-inside}
-use Rattle.verify.proofs.reading.declared_params.Statement.{statement}
-use Rattle.verify.proofs.reading.declared_params.Tie as tie
+use Rattle.pictures.proofs.sequence.declared_params.Statement.{statement}
+use Rattle.pictures.proofs.sequence.declared_params.Tie as tie
 
 first-sequence-requires : tie.Need-first-sequence-requires
 first-sequence-requires c κs = search needs

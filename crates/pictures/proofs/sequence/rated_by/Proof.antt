@@ -1,7 +1,7 @@
-use Rattle.verify.specs.Sequence.{rated}
+use Rattle.pictures.specs.Sequence.{rated}
 use borrow.Author.Needs.{needs}
-use Rattle.verify.proofs.reading.rated_by.Statement.{statement}
-use Rattle.verify.proofs.reading.rated_by.Tie as tie
+use Rattle.pictures.proofs.sequence.rated_by.Statement.{statement}
+use Rattle.pictures.proofs.sequence.rated_by.Tie as tie
 
 frame-rate-value-requires : tie.Need-frame-rate-value-requires
 frame-rate-value-requires c κs = search needs

@@ -1,7 +1,7 @@
-use Rattle.verify.specs.Coded.{intervalOf}
+use Rattle.pictures.specs.Seen.{isField}
 use borrow.Author.Needs.{needs}
-use Rattle.verify.proofs.reading.interval.Statement.{statement}
-use Rattle.verify.proofs.reading.interval.Tie as tie
+use Rattle.pictures.proofs.seen.is_field.Statement.{statement}
+use Rattle.pictures.proofs.seen.is_field.Tie as tie
 
 enum-told : tie.Need-enum-told
 enum-told c = search needs
@@ -13,16 +13,16 @@ enum-told-3 : tie.Need-enum-told-3
 enum-told-3 c = search needs
 
 returns : tie.Need-returns
-unfolding intervalOf
+unfolding isField
 returns c = rw (c .enum-told .given .1)
 
 returns-2 : tie.Need-returns-2
-unfolding intervalOf
+unfolding isField
 returns-2 c = rw (c .enum-told2 .given .1)
 
 returns-3 : tie.Need-returns-3
-unfolding intervalOf
+unfolding isField
 returns-3 c = rw (c .enum-told3 .given .1)
 
-pub interval-spec : {M : Type 1} → statement M
-interval-spec = tie.close (tie.spec enum-told enum-told-2 enum-told-3 returns returns-2 returns-3)
+pub is-field-spec : {M : Type 1} → statement M
+is-field-spec = tie.close (tie.spec enum-told enum-told-2 enum-told-3 returns returns-2 returns-3)
