@@ -17,6 +17,12 @@ use Rattle.pictures.specs.Seen.{shown, seenOf, seenAt, seenEach, seenPic
 use Rattle.pictures.specs.declared.VbvStandard.{VbvStandard}
 use Rattle.pictures.specs.declared.PictureFacts.{PictureFacts}
 use Rattle.pictures.specs.declared.SeenPicture.{SeenPicture}
+use Rattle.pictures.specs.declared.NextSeen.{NextSeen}
+use Rattle.pictures.specs.Answers.{nextAnswer}
+
+-- the case, by what is told of it
+pub next-case : {r x : NextSeen} {a : Answer Sight} → r ≡ x → nextAnswer r ≡ a → a ≡ nextAnswer x
+next-case e f = sym f ∙ ap nextAnswer e
 
 -- ---- a list of places
 
@@ -101,3 +107,23 @@ module _ (standard : VbvStandard) (s : List ℕ) (short : 8 * length s ≤ 2 ^ 4
   -- the one law of the walk
   pub onward : (i : ℕ) → Onward standard s i (nextSeen standard s i)
   onward i = rw (next-is standard s short i) (by-place i (nextPicture s i) refl)
+
+  -- the same by what a step has answered
+  pub seen-end : (i : ℕ) → nextSeen standard s i ≡ value nothing → seenFrom standard s i ≡ value []
+  seen-end i e = go (rw e at (onward i))
+    where
+      go : Onward standard s i (value nothing) → seenFrom standard s i ≡ value []
+      go (no-more h) = h
+
+  pub seen-refused : (i : ℕ) {n k c d : ℕ} → nextSeen standard s i ≡ refused n k c d → seenFrom standard s i ≡ refused n k c d
+  seen-refused i {n} {k} {c} {d} e = go (rw e at (onward i))
+    where
+      go : Onward standard s i (refused n k c d) → seenFrom standard s i ≡ refused n k c d
+      go (unread h) = h
+
+  pub seen-one : (i : ℕ) {next : ℕ} {x : SeenPicture} → nextSeen standard s i ≡ value (one x next)
+      → (i < next) × (next ≤ length s) × (seenFrom standard s i ≡ before x (seenFrom standard s next))
+  seen-one i {next} {x} e = go (rw e at (onward i))
+    where
+      go : Onward standard s i (value (one x next)) → (i < next) × (next ≤ length s) × (seenFrom standard s i ≡ before x (seenFrom standard s next))
+      go (one-more l h q) = (l, h, q)

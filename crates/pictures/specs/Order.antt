@@ -22,16 +22,17 @@ pub data Visits (standard : VbvStandard) (s : List ℕ) : ℕ → Answer (List S
 abbrev pub StepsGivePictures : Type 0
 StepsGivePictures = (standard : VbvStandard) (s : List ℕ) → 8 * length s ≤ 2 ^ 48 → Visits standard s 0 (seenPictures standard s)
 
--- a picture within 2^48 bits, behind what ends at `previous`, its delay in 16 bits
-pub record Placed (previous : ℕ) (x : SeenPicture) : Type 0 where
-  pub position-far : x .«pos_bits» ≤ 2 ^ 48
-  pub grows : previous < x .«end_bits»
-  pub end-far : x .«end_bits» ≤ 2 ^ 48
-  pub delay-small : x .«vbv_delay» < 65536
+-- a picture within 2^48 bits, after what ends at `previous`, its delay in 16 bits
+pub record Placed (previous position end delay : ℕ) : Type 0 where
+  pub position-far : position ≤ 2 ^ 48
+  pub grows : previous < end
+  pub end-far : end ≤ 2 ^ 48
+  pub delay-small : delay < 65536
 
 pub data Rising : ℕ → List SeenPicture → Type 0 where
   last : {previous : ℕ} → Rising previous []
-  next : {previous : ℕ} {x : SeenPicture} {xs : List SeenPicture} → Placed previous x → Rising (x .«end_bits») xs → Rising previous (x ∷ xs)
+  next : {previous : ℕ} {x : SeenPicture} {xs : List SeenPicture} → Placed previous (x .«pos_bits») (x .«end_bits») (x .«vbv_delay») → Rising (x .«end_bits») xs
+      → Rising previous (x ∷ xs)
 
 abbrev pub SeenRising : Type 0
 SeenRising = (standard : VbvStandard) (s : List ℕ) (xs : List SeenPicture) → 8 * length s ≤ 2 ^ 48 → seenPictures standard s ≡ value xs → Rising 0 xs

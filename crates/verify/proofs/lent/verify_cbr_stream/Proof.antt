@@ -1,4 +1,4 @@
--- `lent::verify_cbr_stream` meets its contract: a walk of its MIR, by hand. The check by value is called, then the count of its records; a loop that carries the walk over the pictures stores so many; and the answer, which stood in a local meanwhile, is the result. There is no branch: on a refusal the count is 0.
+-- `verify::lent::verify_cbr_stream` meets its contract: a walk of its MIR, by hand. The check by value is called, then the count of its records; a loop that carries the walk over the pictures stores so many; and the answer, which stood in a local meanwhile, is the result. There is no branch: on a refusal the count is 0.
 -- All that the walk knows of the functions that it calls is their contracts. The contexts of its parts are written out: left to unification, the large types of the answer stop it.
 -- Assumes nothing.
 use mathlib.Core.Path.{_≡_, refl, sym, _∙_, ap, subst}
@@ -51,47 +51,48 @@ use denote.Triple.Spec.{Meets, tripleOf}
 use denote.Triple.Table.{entered, cited}
 use denote.Triple.Walked.{says, Stays, stay-slice, stay-none, stay-none-slice, walkOf, AllGo, goes-none, goes-none-slice, goes-slice, Walks, ends-at, walked, walk-meets}
 use denote.Exit.{yes}
-use Rattle.verify.specs.Sequence.{declared}
+use Rattle.pictures.specs.Sequence.{declared}
 use Rattle.verify.specs.Answers.{verifiedAnswer}
 use Rattle.verify.specs.Check.{verdict, reported}
-use Rattle.verify.specs.Recorder.{recordCount, recorderOf, nextRecord}
-use Rattle.verify.specs.declared.VbvStandard.{VbvStandard}
+use Rattle.verify.specs.Steps.{recordCount, recorderOf, nextRecord}
+use Rattle.pictures.specs.declared.VbvStandard.{VbvStandard}
 use Rattle.verify.specs.declared.VbvVerified.{VbvVerified}
 use Rattle.verify.specs.declared.VbvPictureRecord.{VbvPictureRecord}
 use Rattle.verify.specs.declared.recorder.VbvRecorder.{VbvRecorder}
 use Rattle.verify.specs.declared.recorder.VbvRecorded.{VbvRecorded}
 use Rattle.verify.proofs.VbvPictureRecord as T
 use Rattle.verify.proofs.VbvPictureRecord.Laws as T′
 use Rattle.verify.proofs.recorder.VbvRecorder as S
 use Rattle.verify.proofs.recorder.VbvRecorder.Laws as S′
 use Rattle.verify.proofs.recorder.VbvRecorded as D
 use Rattle.verify.proofs.recorder.VbvRecorded.Laws as D′
 use Rattle.verify.proofs.VbvVerified as E
 use Rattle.verify.proofs.VbvVerified.Laws as E′
-use Rattle.verify.proofs.VbvStandard as N
-use Rattle.verify.proofs.VbvStandard.Laws as N′
-use Rattle.verify.proofs.check_stream as chk
-use Rattle.verify.proofs.check_stream.Symbol as chk-def
-use Rattle.verify.proofs.check_stream.Symbol.{name as #chk}
-use Rattle.verify.proofs.check_stream.Met as chk-thm
-use Rattle.verify.proofs.record_count as cnt
-use Rattle.verify.proofs.record_count.Symbol as cnt-def
-use Rattle.verify.proofs.record_count.Symbol.{name as #cnt}
-use Rattle.verify.proofs.record_count.Met as cnt-thm
+use Rattle.pictures.proofs.VbvStandard as N
+use Rattle.pictures.proofs.VbvStandard.Laws as N′
+use Rattle.verify.proofs.report.check_stream as chk
+use Rattle.verify.proofs.report.check_stream.Symbol as chk-def
+use Rattle.verify.proofs.report.check_stream.Symbol.{name as #chk}
+use Rattle.verify.proofs.report.check_stream.Met as chk-thm
+use Rattle.verify.proofs.recorder.record_count as cnt
+use Rattle.verify.proofs.recorder.record_count.Symbol as cnt-def
+use Rattle.verify.proofs.recorder.record_count.Symbol.{name as #cnt}
+use Rattle.verify.proofs.recorder.record_count.Met as cnt-thm
 use Rattle.verify.proofs.recorder.VbvRecorder.new as opn
 use Rattle.verify.proofs.recorder.VbvRecorder.new.Symbol as opn-def
 use Rattle.verify.proofs.recorder.VbvRecorder.new.Symbol.{name as #opn}
 use Rattle.verify.proofs.recorder.VbvRecorder.new.Met as opn-thm
 use Rattle.verify.proofs.recorder.VbvRecorder.next_record as adv
 use Rattle.verify.proofs.recorder.VbvRecorder.next_record.Symbol as adv-def
 use Rattle.verify.proofs.recorder.VbvRecorder.next_record.Symbol.{name as #adv}
 use Rattle.verify.proofs.recorder.VbvRecorder.next_record.Met as adv-thm
-use Rattle.lent.proofs.Storing.{stateOf, storedOf, length-stored, stored-is, count-few}
-use Rattle.lent.proofs.verify_cbr_stream.Key.{name as #fn}
-use Rattle.lent.proofs.verify_cbr_stream as fn′
-use Rattle.lent.proofs.verify_cbr_stream.Statement as stated
-use Rattle.lent.proofs.verify_cbr_stream.Code as code
-use Rattle.lent.proofs.verify_cbr_stream.Code.Mir as body
+use Rattle.verify.proofs.Recording.{stateOf}
+use Rattle.verify.proofs.Lending.{storedOf, length-stored, stored-is, count-few}
+use Rattle.verify.proofs.lent.verify_cbr_stream.Key.{name as #fn}
+use Rattle.verify.proofs.lent.verify_cbr_stream as fn′
+use Rattle.verify.proofs.lent.verify_cbr_stream.Statement as stated
+use Rattle.verify.proofs.lent.verify_cbr_stream.Code as code
+use Rattle.verify.proofs.lent.verify_cbr_stream.Code.Mir as body
 
 abbrev stayed : Stays (fn′.ended .signature .params) (fn′.ended .kept)
 stayed = (stay-none-slice (0 ∷ []) tt (plain (λ _. u8)) yes, (stay-none (λ _. N.the-row) yes, (stay-slice (1 ∷ []) tt (plain (λ _. T.the-row)), tt)))
@@ -453,7 +454,7 @@ verify-cbr-stream-spec 𝓤 H 𝓜 𝓖 𝓡 =
     entered 𝓤 H (tripleOf 𝓤 H (𝓖 .A) fn′.signature (fn′.spec 𝓤 H (𝓖 .A) (𝓜 .mem) (𝓡 .run)))
     (tables 𝓤 H 𝓜 𝓡 code.env .C) (tables 𝓤 H 𝓜 𝓡 code.env .Λ) #fn code.function (code.unfolded 𝓤 H 𝓜 𝓡)
     (meets 𝓤 H (𝓖 .A) (givenOf 𝓤 H 𝓜 𝓖) (𝓜 .mem) (𝓡 .run) (tablesOf 𝓤 H 𝓜 (tables 𝓤 H 𝓜 𝓡 code.env))
-    (cited 𝓤 H (Chk 𝓤 H (𝓖 .A) (𝓜 .mem) (𝓡 .run)) 𝓜 𝓡 code.env #chk chk-def.routine code.calls-verify·check-stream (chk-thm.met 𝓤 H 𝓜 𝓖 𝓡))
-    (cited 𝓤 H (Cnt 𝓤 H (𝓖 .A) (𝓜 .mem) (𝓡 .run)) 𝓜 𝓡 code.env #cnt cnt-def.routine code.calls-verify·record-count (cnt-thm.met 𝓤 H 𝓜 𝓖 𝓡))
+    (cited 𝓤 H (Chk 𝓤 H (𝓖 .A) (𝓜 .mem) (𝓡 .run)) 𝓜 𝓡 code.env #chk chk-def.routine code.calls-verify·report·check-stream (chk-thm.met 𝓤 H 𝓜 𝓖 𝓡))
+    (cited 𝓤 H (Cnt 𝓤 H (𝓖 .A) (𝓜 .mem) (𝓡 .run)) 𝓜 𝓡 code.env #cnt cnt-def.routine code.calls-verify·recorder·record-count (cnt-thm.met 𝓤 H 𝓜 𝓖 𝓡))
     (cited 𝓤 H (Opn 𝓤 H (𝓖 .A) (𝓜 .mem) (𝓡 .run)) 𝓜 𝓡 code.env #opn opn-def.routine code.calls-verify·recorder·VbvRecorder·new (opn-thm.met 𝓤 H 𝓜 𝓖 𝓡))
     (cited 𝓤 H (Adv 𝓤 H (𝓖 .A) (𝓜 .mem) (𝓡 .run)) 𝓜 𝓡 code.env #adv adv-def.routine code.calls-verify·recorder·VbvRecorder·next-record (adv-thm.met 𝓤 H 𝓜 𝓖 𝓡)))
