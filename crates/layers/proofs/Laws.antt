@@ -1,5 +1,5 @@
 -- Headers and layers that fit, laid in a stream: the patch keeps a layer's codes, a layer is a piece with one picture, headers before a piece are
--- of that piece, and what the stream's reader is told is what was offered.
+-- of that piece, and what the stream's reader is shown is what was offered.
 -- Assumes nothing.
 use mathlib.Core.Path.{_≡_, refl, sym, ap, _∙_}
 use Prim.Native.Nat.{ℕ, _+_, _*_, _≤_, _<_}
@@ -38,16 +38,16 @@ use Rattle.scan.proofs.PictureCodes.{PictureHead, codes-picture, codes-none, co
 use Rattle.scan.proofs.Prefix.{ends-drop, ends-prefix}
 use Rattle.scan.proofs.Search.{every-more}
 use Rattle.scan.proofs.Sorts.{slice-zero, slice-above, not-slice-above, not-picture, every-by, skip-split, every-empty}
-use Rattle.verify.proofs.Telling.{told-parsed, declared-parsed}
-use Rattle.verify.specs.Coded.{told}
-use Rattle.verify.specs.Sequence.{declared}
-use Rattle.verify.specs.declared.VbvStandard.the-variants.{Mpeg2}
+use Rattle.pictures.specs.Seen.{shown}
+use Rattle.pictures.specs.Sequence.{declared}
+use Rattle.pictures.specs.declared.VbvStandard.the-variants.{Mpeg2}
+use Rattle.pictures.proofs.Showing.{shown-parsed, declared-parsed}
 use Rattle.layers.specs.declared.PictureKind.{PictureKind}
 use Rattle.layers.specs.Layer.{slices, isExtension, layerCodes, layerFits}
 use Rattle.layers.specs.Headers.{opensHeaders, headerCode, sameRate, sameParams, declares, sequenceFirst, sequenceFits, headersFit}
-use Rattle.layers.proofs.Layers.{LayerFits, layer-fits, LowBits, picture-head, layer-header, layer-twelve, layer-low}
+use Rattle.layers.proofs.Layers.{LayerFits, layer-fits, factsIn, FactsAre, facts-delayed, LowBits, picture-head, layer-header, layer-twelve, layer-low}
 
--- the bytes that a list begins with, and those behind them
+-- the bytes that a list begins with, and those after them
 begins : (n : ℕ) (s : List ℕ) {a : List ℕ} → take n s ≡ a → s ≡ a ++ drop n s
 begins n s e = sym (take-append-drop n s) ∙ ap (λ (l : List ℕ). l ++ drop n s) e
 
@@ -165,14 +165,14 @@ module _ (k : PictureKind) (i : RemovalInterval) (s : List ℕ) (fits : layerFit
       one = rw patched-codes (one-of (codes s) (f .codes-fit));
     }
 
-    -- and tells the delay that was put in, and the interval that was offered
-    pub layer-told : (t : List ℕ) → told Mpeg2 (patched s d ++ t) ≡ value (d, i)
-    layer-told t =
+    -- and shows the delay that was put in, and the facts that the layer's headers have
+    pub layer-shown : FactsAre → (t : List ℕ) → shown Mpeg2 (patched s d ++ t) ≡ value (d, factsIn s)
+    layer-shown facts-are t =
         let h = delayed (f .header) (bitsAt (patched s d) 45 16) in
         let p : picture (patched s d ++ t) ≡ value (h, f .extension) =
         picture-append (patched s d) t h (f .extension) (picture-delayed s (patched s d) other (f .header) (f .extension) (f .parsed) (f .zeros-behind)) in
-        told-parsed (patched s d ++ t) h (f .extension) p
-        ∙ rw (delayed-delay (f .header) (bitsAt (patched s d) 45 16), patched-delay s d layer-starts small, f .interval)
+        shown-parsed (patched s d ++ t) h (f .extension) p
+        ∙ rw (facts-delayed facts-are f (bitsAt (patched s d) 45 16), delayed-delay (f .header) (bitsAt (patched s d) 45 16), patched-delay s d layer-starts small)
 
 -- ---- headers
 
