@@ -5,6 +5,7 @@ pub mod calls;
 pub mod check;
 pub mod checks;
 pub mod draw;
+pub mod format;
 pub mod headers;
 pub mod known;
 pub mod lists;

@@ -9,7 +9,8 @@ use crate::entry;
 use crate::place::{Left, Place, lay};
 use crate::run::{Owed, Run};
 use oracle::draw::Draw;
-use oracle::lists::{Call, call, configured, pattern};
+use oracle::format::pattern;
+use oracle::lists::{Call, call, configured};
 use oracle::state::{BYTES, WORDS, held, limits, words, words_of};
 use oracle::writer::{Config, Offer, Told, Writer};
 

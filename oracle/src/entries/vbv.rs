@@ -5,9 +5,9 @@
 use crate::entry;
 use crate::place::{Left, Place};
 use crate::run::{Owed, Run};
-use oracle::answers::number;
 use oracle::check::judged;
 use oracle::draw::Draw;
+use oracle::format::number;
 use oracle::model::patched;
 use original::vbv::VbvStandard;
 
