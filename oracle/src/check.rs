@@ -1,8 +1,9 @@
 //! Kinds 17 and 18: the check of a stream. The original has no refusal 15, and its 9 and 10 name the picture alone: these
 //! the oracle completes from pictures that it finds itself, run through the original's model.
 
-use crate::format::{ACCEPTED, Answer, Met, RECORD, number, pattern, words};
-use crate::model::refusal;
+use crate::format::{ACCEPTED, Answer, Met, number, pattern, words};
+use crate::layout::VBV_RECORD_BYTES;
+use crate::model::{BUFFER_UNIT, RATE_UNIT, refusal};
 use crate::spans::{picture_codes, spans};
 use original::picture_header::{Mpeg2PictureHeader, PictureStructure};
 use original::sequence_extension::Mpeg2Sequence;
@@ -25,8 +26,8 @@ struct Picture {
 fn pictures(standard: VbvStandard, stream: &[u8]) -> Vec<Picture> {
     let codes = oracle_scan_start_codes(stream);
     let mut found = vec![];
-    for (at, behind) in spans(&codes) {
-        let end = match codes.get(behind) {
+    for (at, after) in spans(&codes) {
+        let end = match codes.get(after) {
             Some(&(offset, 0xB7)) => offset + 4,
             Some(&(offset, _)) => offset,
             None => stream.len(),
@@ -61,10 +62,10 @@ fn params(standard: VbvStandard, stream: &[u8]) -> VbvParams {
         }
     };
     let frame_rate = frame_rate_value(header.frame_rate_code).unwrap();
-    VbvParams::new(400 * u64::from(rate), 16_384 * u64::from(buffer), frame_rate)
+    VbvParams::new(RATE_UNIT * u64::from(rate), BUFFER_UNIT * u64::from(buffer), frame_rate)
 }
 
-/// The delay that the original's model expects of a picture behind others that it has removed.
+/// The delay that the original's model expects of a picture after others that it has removed.
 fn expected(standard: VbvStandard, stream: &[u8], all: &[Picture], picture: usize) -> u16 {
     let params = params(standard, stream);
     let mut model = VbvCbrModel::new(&params).unwrap();
@@ -92,7 +93,7 @@ fn violation(standard: VbvStandard, stream: &[u8], all: &[Picture], v: VbvViolat
 
 /// The report's values, with the records stored in the part.
 fn report(report: &VbvStreamReport, part: &mut [u8]) -> [u64; 5] {
-    for (record, place) in report.pictures.iter().zip(part.chunks_mut(RECORD)) {
+    for (record, place) in report.pictures.iter().zip(part.chunks_mut(VBV_RECORD_BYTES)) {
         let words = [
             record.vbv_delay.into(),
             record.expected_delay.into(),
@@ -117,7 +118,7 @@ pub fn judged(standard: VbvStandard, stream: &[u8], part: &mut [u8]) -> (Met, [u
     };
     let all = if run { pictures(standard, stream) } else { vec![] };
     match result {
-        _ if part.len() / RECORD < all.len() => (PLACES, [0; 5]),
+        _ if part.len() / VBV_RECORD_BYTES < all.len() => (PLACES, [0; 5]),
         Ok(r) => {
             assert_eq!(r.pictures.len(), all.len(), "the oracle's own pictures are not the original's");
             (ACCEPTED, report(&r, part))
@@ -140,13 +141,13 @@ pub fn checked(standard: VbvStandard, input: &[u8]) -> Answer {
 
 /// The answer for a stream with places for all of its pictures, in the lines of `vbvcheck`.
 pub fn lines(standard: VbvStandard, stream: &[u8]) -> String {
-    let mut part = vec![0; RECORD * picture_codes(stream)];
+    let mut part = vec![0; VBV_RECORD_BYTES * picture_codes(stream)];
     let ((refused, _), words) = judged(standard, stream, &mut part);
     let line = |words: &[u64]| words.iter().map(u64::to_string).collect::<Vec<_>>().join(" ") + "\n";
     if refused != 0 {
         return "refused picture coded expected\n".to_string() + &line(&[&[refused.into()], &words[..3]].concat());
     }
-    let records = part.chunks(RECORD).take(words[2] as usize);
+    let records = part.chunks(VBV_RECORD_BYTES).take(words[2] as usize);
     "bit_rate buffer_bits pictures min_after max_before\n".to_string()
         + &line(&words)
         + "delay expected data_bits occupancy_before\n"

@@ -1,8 +1,8 @@
 //! Inputs for kinds 17 and 18: a record part's length and a stream, good, damaged, cut or at random.
 
 use crate::draw::Draw;
-use crate::format::RECORD;
 use crate::headers::damage;
+use crate::layout::VBV_RECORD_BYTES;
 use crate::spans::picture_codes;
 use crate::streams::{self, Fault};
 use original::vbv::{VbvStandard, verify_cbr_stream};
@@ -24,13 +24,13 @@ pub fn drawn(kind: u8, d: &mut Draw) -> Vec<u8> {
         1 => n + d.below(3),
         _ => n,
     };
-    let more = if d.one_in(4) { d.below(RECORD) } else { 0 };
-    input(RECORD * places + more, &stream)
+    let more = if d.one_in(4) { d.below(VBV_RECORD_BYTES) } else { 0 };
+    input(VBV_RECORD_BYTES * places + more, &stream)
 }
 
 /// A stream with room for its records, and for three at least.
 pub fn with_room(stream: &[u8]) -> Vec<u8> {
-    input(RECORD * picture_codes(stream).max(3), stream)
+    input(VBV_RECORD_BYTES * picture_codes(stream).max(3), stream)
 }
 
 /// What the original answers, in words.
@@ -56,7 +56,7 @@ fn a_stream(mpeg2: bool, d: &mut Draw) -> Vec<u8> {
 }
 
 fn input(part: usize, stream: &[u8]) -> Vec<u8> {
-    [&(part.min(RECORD * MOST_PLACES) as u16).to_le_bytes()[..], stream].concat()
+    [&(part.min(VBV_RECORD_BYTES * MOST_PLACES) as u16).to_le_bytes()[..], stream].concat()
 }
 
 /// Bytes at random, many of them 00 or 01, and start codes.
@@ -79,23 +79,23 @@ pub fn edges(kind: u8, d: &mut Draw, put: &mut impl FnMut(&[u8])) {
     for _ in 0..8 {
         let stream = short(kind == 18, d);
         let n = picture_codes(&stream);
-        for part in 0..RECORD * (n + 1) {
+        for part in 0..VBV_RECORD_BYTES * (n + 1) {
             put(&input(part, &stream));
         }
         for i in 0..stream.len() {
-            put(&input(RECORD * n, &stream[..i]));
+            put(&input(VBV_RECORD_BYTES * n, &stream[..i]));
             for bit in 0..8 {
                 let mut other = stream.clone();
                 other[i] ^= 1 << bit;
-                put(&input(RECORD * (n + 1), &other));
+                put(&input(VBV_RECORD_BYTES * (n + 1), &other));
             }
             let mut other = stream.clone();
             let byte = other.remove(i);
-            put(&input(RECORD * n, &other));
+            put(&input(VBV_RECORD_BYTES * n, &other));
             other.splice(i..i, [byte, byte]);
-            put(&input(RECORD * n, &other));
+            put(&input(VBV_RECORD_BYTES * n, &other));
             other[i + 1] = 0;
-            put(&input(RECORD * n, &other));
+            put(&input(VBV_RECORD_BYTES * n, &other));
         }
     }
 }

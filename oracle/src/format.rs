@@ -5,9 +5,6 @@ pub type Met = (u8, &'static str);
 
 pub const ACCEPTED: Met = (0, "");
 
-/// Bytes of a picture's record.
-pub const RECORD: usize = 32;
-
 /// The bytes of an answer, and what was met on the way to them.
 pub struct Answer {
     pub bytes: Vec<u8>,

@@ -8,6 +8,7 @@ pub mod draw;
 pub mod format;
 pub mod headers;
 pub mod known;
+pub mod layout;
 pub mod lists;
 pub mod model;
 pub mod sends;

@@ -11,6 +11,14 @@ pub const MOST_FRN: u64 = 240_000;
 pub const MOST_FRD: u64 = 32_032;
 /// The greatest position and end.
 pub const FAR: u64 = 1 << 48;
+/// Bits that the rate and buffer fields of a sequence header count in.
+pub const RATE_UNIT: u64 = 400;
+pub const BUFFER_UNIT: u64 = 16_384;
+
+/// The greatest buffer that a rate allows.
+pub fn widest(rate: u64) -> u64 {
+    (65_534 * u128::from(rate) / 90_000).min(MOST_BUFFER.into()) as u64
+}
 
 const PARAMETER: Met = (12, "a parameter above its range");
 const NOT_STARTED: Met = (13, "not started");
