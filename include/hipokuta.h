@@ -94,8 +94,8 @@ uint64_t vbv_patch_delay(uint8_t *picture, size_t picture_len, uint16_t vbv_dela
  * than 65,534 ticks of 1/90,000 s.
  *
  * The rate is bit_rate_value (1 to CBR_MOST_RATE) times CBR_RATE_UNIT bits a second, the buffer vbv_buffer_size_value (1 to
- * CBR_MOST_BUFFER) times CBR_BUFFER_UNIT bits. quantiser (1 to 31) is where all kinds start. b_between (0 to 15) B pictures between anchors and
- * anchors_per_gop (1 to 255) set the targets that the quantisers are steered by, and nothing else.
+ * CBR_MOST_BUFFER) times CBR_BUFFER_UNIT bits. quantiser (1 to 31) is where all kinds start. b_between (0 to 15) B pictures
+ * between anchors and anchors_per_gop (1 to 255) set the targets that the quantisers are steered by, and nothing else.
  */
 uint64_t cbr_create(uint32_t bit_rate_value, uint16_t vbv_buffer_size_value, uint8_t frame_rate_code, uint8_t quantiser,
                     uint8_t b_between, uint8_t anchors_per_gop,
