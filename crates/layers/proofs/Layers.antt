@@ -33,6 +33,7 @@ use Rattle.picture_header.proofs.Extent.{header-bytes}
 use Rattle.picture_header.proofs.OtherDelay.{delayed, delayed-type, forward-code, extra-flag}
 use Rattle.vbv.specs.declared.RemovalInterval.{RemovalInterval}
 use Rattle.vbv.specs.declared.RemovalInterval.the-variants.{Frame, Field}
+use Rattle.pictures.proofs.Showing.{facts-are}
 use Rattle.pictures.specs.Seen.{isAnchor, isField, factsOf, intervalOf}
 use Rattle.pictures.specs.declared.PictureFacts.{PictureFacts}
 use Rattle.scan.specs.Codes.{codes, endsPrefix}
@@ -102,25 +103,19 @@ facts-parsed : {k : PictureKind} {i : RemovalInterval} {s : List ℕ} (f : Layer
 unfolding factsIn
 facts-parsed f = rw (f .parsed)
 
--- each fact by its field: a law that pictures owes
-abbrev pub FactsAre : Type 0
-FactsAre = (h : Mpeg2PictureHeader) (x : PictureCodingExtension)
-    → factsOf h x ≡ record { anchor = isAnchor (h .«picture_coding_type»); field = isField (x .«picture_structure»); repeat = x .«repeat_first_field»; top = x .«top_field_first» }
+-- the delay is no fact
+pub facts-delayed : {k : PictureKind} {i : RemovalInterval} {s : List ℕ} (f : LayerFits k i s) (d : ℕ)
+    → factsOf (delayed (f .header) d) (f .extension) ≡ factsIn s
+facts-delayed f d =
+    facts-are (delayed (f .header) d) (f .extension)
+    ∙ rw (delayed-type (f .header) d) (sym (facts-are (f .header) (f .extension)))
+    ∙ sym (facts-parsed f)
 
-module _ (facts-are : FactsAre) where
-  -- the delay is no fact
-  pub facts-delayed : {k : PictureKind} {i : RemovalInterval} {s : List ℕ} (f : LayerFits k i s) (d : ℕ)
-      → factsOf (delayed (f .header) d) (f .extension) ≡ factsIn s
-  facts-delayed f d =
-      facts-are (delayed (f .header) d) (f .extension)
-      ∙ rw (delayed-type (f .header) d) (sym (facts-are (f .header) (f .extension)))
-      ∙ sym (facts-parsed f)
-
-  -- they tell the interval that was offered
-  pub facts-field : (k : PictureKind) (i : RemovalInterval) (s : List ℕ) → layerFits k i s ≡ true → intervalOf (factsIn s .field) ≡ i
-  facts-field k i s e =
-      let f = layer-fits k i s e in
-      ap (λ (y : PictureFacts). intervalOf (y .field)) (facts-parsed f ∙ facts-are (f .header) (f .extension)) ∙ f .interval
+-- they tell the interval that was offered
+pub facts-field : (k : PictureKind) (i : RemovalInterval) (s : List ℕ) → layerFits k i s ≡ true → intervalOf (factsIn s .field) ≡ i
+facts-field k i s e =
+    let f = layer-fits k i s e in
+    ap (λ (y : PictureFacts). intervalOf (y .field)) (facts-parsed f ∙ facts-are (f .header) (f .extension)) ∙ f .interval
 
 -- ---- the bits after the delay
 

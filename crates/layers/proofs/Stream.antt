@@ -25,7 +25,7 @@ use Rattle.layers.specs.declared.PictureKind.{PictureKind}
 use Rattle.layers.specs.Headers.{headersFit}
 use Rattle.layers.specs.Layer.{layerFits}
 use Rattle.layers.proofs.Laws.{layer-piece, headers-piece, layer-shown, headers-declared}
-use Rattle.layers.proofs.Layers.{factsIn, FactsAre, facts-field}
+use Rattle.layers.proofs.Layers.{factsIn, facts-field}
 
 -- ---- parts
 
@@ -124,40 +124,39 @@ stream-laid no-parts t = sym (laid-none t)
 stream-laid (part {x} f fs) t =
     ap (λ l. bytesOf x ++ l) (stream-laid fs t) ∙ sym (laid-more (bytesOf x) (length (x .headers)) (part-piece f) (pieces fs) t)
 
-module _ (facts-are : FactsAre) where
-  -- a part's facts tell the interval that it was offered with
-  pub part-interval : {p : VbvParams} {placed : Bool} {x : Part} → PartFits p placed x → intervalOf (factsIn (x .layer) .field) ≡ x .interval
-  part-interval {p} {placed} {x} f = facts-field facts-are (f .kind) (x .interval) (x .layer) (f .layer-fits)
+-- a part's facts tell the interval that it was offered with
+pub part-interval : {p : VbvParams} {placed : Bool} {x : Part} → PartFits p placed x → intervalOf (factsIn (x .layer) .field) ≡ x .interval
+part-interval {p} {placed} {x} f = facts-field (f .kind) (x .interval) (x .layer) (f .layer-fits)
 
-  -- what a part's picture shows, wherever the part stands
-  part-shown : {p : VbvParams} {placed : Bool} {x : Part} → PartFits p placed x → (before t : List ℕ)
-      → shown Mpeg2 (drop (length before + length (x .headers)) (before ++ (bytesOf x ++ t))) ≡ value (x .delay, factsIn (x .layer))
-  part-shown {p} {placed} {x} f before t =
-      rw (
-        drop-append-add before (bytesOf x ++ t) (length (x .headers)),
-        ← part-then x t,
-        drop-append-seam (x .headers) (patched (x .layer) (x .delay) ++ (replicate (x .zeros) 0 ++ t)),
-      )
-      (layer-shown (f .kind) (x .interval) (x .layer) (f .layer-fits) (f .layer-bytes) (x .delay) (f .delay-bits) facts-are (replicate (x .zeros) 0 ++ t))
+-- what a part's picture shows, wherever the part stands
+part-shown : {p : VbvParams} {placed : Bool} {x : Part} → PartFits p placed x → (before t : List ℕ)
+    → shown Mpeg2 (drop (length before + length (x .headers)) (before ++ (bytesOf x ++ t))) ≡ value (x .delay, factsIn (x .layer))
+part-shown {p} {placed} {x} f before t =
+    rw (
+      drop-append-add before (bytesOf x ++ t) (length (x .headers)),
+      ← part-then x t,
+      drop-append-seam (x .headers) (patched (x .layer) (x .delay) ++ (replicate (x .zeros) 0 ++ t)),
+    )
+    (layer-shown (f .kind) (x .interval) (x .layer) (f .layer-fits) (f .layer-bytes) (x .delay) (f .delay-bits) (replicate (x .zeros) 0 ++ t))
 
-  -- forward: of the parts after any bytes
-  parts-seen : {p : VbvParams} {placed : Bool} {xs : List Part} (f : PartsFit p placed xs) (before t : List ℕ)
-      → seenEach Mpeg2 (before ++ stream xs t) (laidPics (length before) (pieces f) (length t)) ≡ value (seen (length before) xs (length t))
-  unfolding stream pieces seen
-  parts-seen no-parts before t = rw (pics-none (length before) (length t)) (seen-none Mpeg2 _)
-  parts-seen (part {x} f no-parts) before t =
-      rw (pics-last (bytesOf x) (length (x .headers)) (part-piece f) (length before) (length t))
-      (seen-more Mpeg2 _ _ _ (x .delay) (factsIn (x .layer)) [] [] (part-shown f before t) (seen-none Mpeg2 _))
-  parts-seen (part {x} f (part {x = y} {xs = ys} g gs)) before t =
-      let s : List ℕ = stream (y ∷ ys) t in
-      rw (pics-more (bytesOf x) (length (x .headers)) (part-piece f) (bytesOf y) (length (y .headers)) (part-piece g) (pieces gs) (length before) (length t))
-      (seen-more Mpeg2 _ _ _ (x .delay) (factsIn (x .layer)) _ _ (part-shown f before s)
-      (rw (append-assoc before (bytesOf x) s, length-append before (bytesOf x)) at (parts-seen (part g gs) (before ++ bytesOf x) t)))
+-- forward: of the parts after any bytes
+parts-seen : {p : VbvParams} {placed : Bool} {xs : List Part} (f : PartsFit p placed xs) (before t : List ℕ)
+    → seenEach Mpeg2 (before ++ stream xs t) (laidPics (length before) (pieces f) (length t)) ≡ value (seen (length before) xs (length t))
+unfolding stream pieces seen
+parts-seen no-parts before t = rw (pics-none (length before) (length t)) (seen-none Mpeg2 _)
+parts-seen (part {x} f no-parts) before t =
+    rw (pics-last (bytesOf x) (length (x .headers)) (part-piece f) (length before) (length t))
+    (seen-more Mpeg2 _ _ _ (x .delay) (factsIn (x .layer)) [] [] (part-shown f before t) (seen-none Mpeg2 _))
+parts-seen (part {x} f (part {x = y} {xs = ys} g gs)) before t =
+    let s : List ℕ = stream (y ∷ ys) t in
+    rw (pics-more (bytesOf x) (length (x .headers)) (part-piece f) (bytesOf y) (length (y .headers)) (part-piece g) (pieces gs) (length before) (length t))
+    (seen-more Mpeg2 _ _ _ (x .delay) (factsIn (x .layer)) _ _ (part-shown f before s)
+    (rw (append-assoc before (bytesOf x) s, length-append before (bytesOf x)) at (parts-seen (part g gs) (before ++ bytesOf x) t)))
 
-  pub stream-seen : {p : VbvParams} {placed : Bool} {xs : List Part} {t : List ℕ}
-      → PartsFit p placed xs → Tail t → seenPictures Mpeg2 (stream xs t) ≡ value (seen 0 xs (length t))
-  stream-seen {p} {placed} {xs} {t} f w =
-      seen-all Mpeg2 (stream xs t) (ap pictures (stream-laid f t) ∙ laid-pictures (pieces f) t w) (parts-seen f [] t)
+pub stream-seen : {p : VbvParams} {placed : Bool} {xs : List Part} {t : List ℕ}
+    → PartsFit p placed xs → Tail t → seenPictures Mpeg2 (stream xs t) ≡ value (seen 0 xs (length t))
+stream-seen {p} {placed} {xs} {t} f w =
+    seen-all Mpeg2 (stream xs t) (ap pictures (stream-laid f t) ∙ laid-pictures (pieces f) t w) (parts-seen f [] t)
 
 pub stream-declared : {p : VbvParams} {x : Part} → PartFits p false x → (xs : List Part) (t : List ℕ)
     → declared Mpeg2 (stream (x ∷ xs) t) ≡ value p

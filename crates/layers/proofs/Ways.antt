@@ -8,6 +8,7 @@ use native.Mathlib.Omega.{arith}
 use lib.Dec.{eqb, leb}
 use lib.ListN.{length, getD, take, drop}
 use borrow.Author.Tests.{le-leb, lt-leb, leb-true, leb-false}
+use Rattle.bits.specs.StartCodes.{sequenceHeaderCode}
 use Rattle.bits.specs.Bits.{there}
 use Rattle.bits.specs.Answers.{readBits}
 use Rattle.bits.specs.Refusals.{Answer, value, refused}
@@ -55,7 +56,7 @@ unfolding sequenceFirst
 first-none s e = rw (codes-from-zero s, unseen s 0 e)
 
 pub first-some : (s : List ℕ) (o c : ℕ) → nextCode s 0 ≡ At o c
-    → (eqb o 0 && (eqb c 0xB3 && every notSequence (codesAt s (o + 4)))) ≡ sequenceFirst (codes s)
+    → (eqb o 0 && (eqb c sequenceHeaderCode && every notSequence (codesAt s (o + 4)))) ≡ sequenceFirst (codes s)
 unfolding sequenceFirst
 first-some s o c e = rw (codes-from-zero s, seen s 0 o c e .list)
 

@@ -5,6 +5,7 @@ use mathlib.Core.List.{List, [], _∷_}
 use mathlib.Core.Bool.{Bool, true, false, not, _&&_, _||_}
 use lib.Dec.{eqb, leb}
 use lib.ListN.{drop}
+use Rattle.bits.specs.StartCodes.{userDataStartCode, extensionStartCode}
 use Rattle.bits.specs.Bits.{bitsAt}
 use Rattle.bits.specs.Refusals.{value, andThen, orElse}
 use Rattle.headers.specs.StartCode.{zeros}
@@ -85,7 +86,7 @@ slices (c ∷ cs) = isSlice (c .code) && every isSlice cs
 
 -- extension and user_data (Table 6-1)
 unfoldable pub isExtension : ℕ → Bool
-isExtension c = eqb c 0xB5 || eqb c 0xB2
+isExtension c = eqb c extensionStartCode || eqb c userDataStartCode
 
 -- 00 once at byte 0, then any of B5 and B2, then the slices
 unfoldable pub layerCodes : List Code → Bool

@@ -1,11 +1,12 @@
 -- The steps of the walk give the pictures of a stream, which lie one after another within it.
 -- Assumes nothing.
 use mathlib.Core.Path.{_≡_, refl, sym, ap, _∙_}
-use Prim.Native.Nat.{ℕ, _+_, _*_, _^_, _≤_, _<_}
+use Prim.Native.Nat.{ℕ, _+_, _*_, _≤_, _<_}
 use mathlib.Core.List.{List, [], _∷_}
 use mathlib.Core.Bool.{false}
 use native.Mathlib.Omega.{arith}
 use lib.ListN.{length, drop}
+use Rattle.vbv.specs.Model.{farthest}
 use Rattle.bits.specs.Refusals.{Answer, value, refused, andThen}
 use Rattle.bits.proofs.Following.{then-value}
 use Rattle.picture_header.specs.PictureHeader.{pictureHeader}
@@ -29,7 +30,7 @@ use Rattle.pictures.proofs.Seeing.{next-is}
 
 -- ---- the steps
 
-module _ (standard : VbvStandard) (s : List ℕ) (short : 8 * length s ≤ 2 ^ 48) where
+module _ (standard : VbvStandard) (s : List ℕ) (short : 8 * length s ≤ farthest) where
   visits : {i : ℕ} {qs : List Pic} → Steps s i qs → Visits standard s i (seenEach standard s qs)
   unfolding seenEach sightAt
   visits (scanned.done {from = i} h) = ended (next-is standard s short i ∙ ap (sightAt standard s) h)
@@ -70,7 +71,7 @@ seen-from standard s q x h =
       omega (arith, ap (λ (y : SeenPicture). y .«vbv_delay») e, shown-small standard (drop (q .start) s) (a .0) (a .1)),
     )
 
-module _ (standard : VbvStandard) (s : List ℕ) (short : 8 * length s ≤ 2 ^ 48) where
+module _ (standard : VbvStandard) (s : List ℕ) (short : 8 * length s ≤ farthest) where
   -- after what ends at byte e
   rising : {qs : List Pic} {e : ℕ} → InOrder (length s) e qs → (xs : List SeenPicture) → seenEach standard s qs ≡ value xs → Rising (8 * e) xs
   unfolding seenEach

@@ -1,11 +1,12 @@
 -- The pictures of a stream as their headers show them, one at a time: what a step gives, and that the steps give them all.
 -- Assumes nothing.
 use mathlib.Core.Path.{_≡_, refl, sym, ap, _∙_}
-use Prim.Native.Nat.{ℕ, _+_, _-_, _*_, _^_, _≤_, _<_}
+use Prim.Native.Nat.{ℕ, _+_, _-_, _*_, _≤_, _<_}
 use mathlib.Core.List.{List, [], _∷_}
 use native.Mathlib.Omega.{arith}
 use borrow.Author.Tests.{lt-ltb, le-ltb}
 use lib.ListN.{length, drop}
+use Rattle.vbv.specs.Model.{farthest}
 use Rattle.bits.specs.Bits.{pick}
 use Rattle.bits.specs.Refusals.{Answer, value, refused, andThen}
 use Rattle.scan.specs.declared.Next.{Next}
@@ -45,17 +46,17 @@ module _ (standard : VbvStandard) (s : List ℕ) where
 
 -- ---- a step, by what the scan and the headers give
 
-module _ (standard : VbvStandard) (s : List ℕ) (short : 8 * length s ≤ 2 ^ 48) where
+module _ (standard : VbvStandard) (s : List ℕ) (short : 8 * length s ≤ farthest) where
   pub next-is : (i : ℕ) → nextSeen standard s i ≡ sightAt standard s (nextPicture s i)
   unfolding nextSeen pick
-  next-is i = rw (le-ltb (2 ^ 48) (8 * length s) short)
+  next-is i = rw (le-ltb farthest (8 * length s) short)
 
 module _ (standard : VbvStandard) (s : List ℕ) (i : ℕ) where
-  pub next-long : 35184372088832 < length s → refused 14 0 0 0 ≡ nextSeen standard s i
+  pub next-long : farthest < 8 * length s → refused 14 0 0 0 ≡ nextSeen standard s i
   unfolding nextSeen pick
-  next-long h = rw (lt-ltb (2 ^ 48) (8 * length s) (omega arith))
+  next-long h = rw (lt-ltb farthest (8 * length s) (omega arith))
 
-  module _ (h : length s ≤ 35184372088832) where
+  module _ (h : 8 * length s ≤ farthest) where
     pub next-done : nextPicture s i ≡ Done → value nothing ≡ nextSeen standard s i
     unfolding sightAt
     next-done e = rw (next-is standard s (omega arith) i, e)
@@ -91,7 +92,7 @@ pub data Onward (standard : VbvStandard) (s : List ℕ) (i : ℕ) : Answer Sight
   one-more : {x : SeenPicture} {next : ℕ} → i < next → next ≤ length s → seenFrom standard s i ≡ before x (seenFrom standard s next)
       → Onward standard s i (value (one x next))
 
-module _ (standard : VbvStandard) (s : List ℕ) (short : 8 * length s ≤ 2 ^ 48) where
+module _ (standard : VbvStandard) (s : List ℕ) (short : 8 * length s ≤ farthest) where
   by-place : (i : ℕ) (o : Next) → nextPicture s i ≡ o → Onward standard s i (sightAt standard s o)
   unfolding sightAt seenFrom seenEach
   by-place i Done e = no-more (rw (pictures-done s i e))

@@ -10,6 +10,8 @@ use Rattle.picture_header.specs.declared.Mpeg2PictureHeader.{Mpeg2PictureHeader
 use Rattle.picture_header.specs.declared.PictureCodingExtension.{PictureCodingExtension}
 use Rattle.headers.specs.declared.sequence_extension.Mpeg2Sequence.{Mpeg2Sequence}
 use Rattle.vbv.specs.Answers.{frameRate}
+use Rattle.vbv.specs.Params.{paramsOf}
+use Rattle.bits.specs.StartCodes.{sequenceHeaderCode}
 use Rattle.scan.specs.Codes.{Code, codes, found}
 use Rattle.scan.specs.Pictures.{skip, notSequence}
 use Rattle.scan.specs.declared.Found.the-variants.{At}
@@ -34,11 +36,11 @@ pub facts-are : (h : Mpeg2PictureHeader) (x : PictureCodingExtension)
 unfolding factsOf factsBy
 facts-are h x = refl
 
-module _ (s : List ℕ) (cs : List Code) (c : codes s ≡ record { offset = 0; code = 0xB3 } ∷ cs) where
-  first-sequence : found (skip notSequence (codes s)) ≡ At 0 0xB3
-  first-sequence = rw (c, skip-stops notSequence (record { offset = 0; code = 0xB3 }) cs sequence-code, found-first)
+module _ (s : List ℕ) (cs : List Code) (c : codes s ≡ record { offset = 0; code = sequenceHeaderCode } ∷ cs) where
+  first-sequence : found (skip notSequence (codes s)) ≡ At 0 sequenceHeaderCode
+  first-sequence = rw (c, skip-stops notSequence (record { offset = 0; code = sequenceHeaderCode }) cs sequence-code, found-first)
 
   pub declared-parsed : (q : Mpeg2Sequence) → sequence s ≡ value q → (n d : ℕ) → frameRate (q .header .«frame_rate_code») ≡ value (n, d)
-      → declared Mpeg2 s ≡ value (record { «bit_rate» = 400 * q .«bit_rate»; «buffer_size_bits» = 16384 * q .«vbv_buffer_size»; frn = n; frd = d })
+      → declared Mpeg2 s ≡ value (paramsOf (q .«bit_rate») (q .«vbv_buffer_size») (n, d))
   unfolding declared declaredAt declaredBy rated
   declared-parsed q a n d r = rw (first-sequence, a, r)

@@ -1,9 +1,10 @@
 -- What is owed of the pictures: the steps of the walk give them, or the first refusal; and they lie in order, each within the stream.
 -- Assumes nothing.
-use Prim.Native.Nat.{ℕ, _*_, _^_, _≤_, _<_}
+use Prim.Native.Nat.{ℕ, _*_, _≤_, _<_}
 use mathlib.Core.Path.{_≡_}
 use mathlib.Core.List.{List, [], _∷_}
 use lib.ListN.{length}
+use Rattle.vbv.specs.Model.{farthest}
 use Rattle.bits.specs.Refusals.{Answer, value, refused}
 use Rattle.pictures.specs.Seen.{nothing, one, seenPictures, nextSeen}
 use Rattle.pictures.specs.declared.VbvStandard.{VbvStandard}
@@ -20,13 +21,13 @@ pub data Visits (standard : VbvStandard) (s : List ℕ) : ℕ → Answer (List S
 
 -- from the first byte on they are the stream's
 abbrev pub StepsGivePictures : Type 0
-StepsGivePictures = (standard : VbvStandard) (s : List ℕ) → 8 * length s ≤ 2 ^ 48 → Visits standard s 0 (seenPictures standard s)
+StepsGivePictures = (standard : VbvStandard) (s : List ℕ) → 8 * length s ≤ farthest → Visits standard s 0 (seenPictures standard s)
 
 -- a picture within 2^48 bits, after what ends at `previous`, its delay in 16 bits
 pub record Placed (previous position end delay : ℕ) : Type 0 where
-  pub position-far : position ≤ 2 ^ 48
+  pub position-far : position ≤ farthest
   pub grows : previous < end
-  pub end-far : end ≤ 2 ^ 48
+  pub end-far : end ≤ farthest
   pub delay-small : delay < 65536
 
 pub data Rising : ℕ → List SeenPicture → Type 0 where
@@ -35,4 +36,4 @@ pub data Rising : ℕ → List SeenPicture → Type 0 where
       → Rising previous (x ∷ xs)
 
 abbrev pub SeenRising : Type 0
-SeenRising = (standard : VbvStandard) (s : List ℕ) (xs : List SeenPicture) → 8 * length s ≤ 2 ^ 48 → seenPictures standard s ≡ value xs → Rising 0 xs
+SeenRising = (standard : VbvStandard) (s : List ℕ) (xs : List SeenPicture) → 8 * length s ≤ farthest → seenPictures standard s ≡ value xs → Rising 0 xs

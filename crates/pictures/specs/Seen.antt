@@ -1,10 +1,11 @@
 -- The pictures of a stream as their headers show them, in stream order: where each is, its coded delay and its facts; or the first header refused.
 -- Assumes nothing.
-use Prim.Native.Nat.{ℕ, _+_, _*_, _^_}
+use Prim.Native.Nat.{ℕ, _+_, _*_}
 use mathlib.Core.List.{List, [], _∷_}
 use mathlib.Core.Bool.{Bool, true, false}
 use lib.Dec.{ltb}
 use lib.ListN.{length, drop}
+use Rattle.vbv.specs.Model.{farthest}
 use Rattle.bits.specs.Refusals.{Answer, value, refuse, andThen}
 use Rattle.picture_header.specs.PictureHeader.{pictureHeader}
 use Rattle.picture_header.specs.Picture.{picture}
@@ -91,5 +92,5 @@ sightAt standard s (Picture start end next) = andThen (seenAt standard s (record
 -- the first picture that begins at a code which a scan from `from` finds; 14 for a stream above 2^48 bits
 unfoldable pub nextSeen : VbvStandard → List ℕ → ℕ → Answer Sight
 nextSeen standard s from =
-    refuse 14 (ltb (2 ^ 48) (8 * length s))
+    refuse 14 (ltb farthest (8 * length s))
     (sightAt standard s (nextPicture s from))

@@ -1,12 +1,13 @@
 -- What the first sequence header of a stream declares: R, B and the frame rate (ISO/IEC 13818-2 6.3.3, 6.3.5; 11172-2 2.4.3.2; paper 01, 'The buffer report').
 -- Assumes nothing.
-use Prim.Native.Nat.{ℕ, _*_}
+use Prim.Native.Nat.{ℕ}
 use mathlib.Core.List.{List}
 use lib.ListN.{drop}
 use Rattle.bits.specs.Refusals.{Answer, value, refused, andThen}
 use Rattle.headers.specs.SequenceHeader.{sequenceHeader}
 use Rattle.headers.specs.Sequence.{sequence}
 use Rattle.vbv.specs.Answers.{frameRate}
+use Rattle.vbv.specs.Params.{paramsOf}
 use Rattle.vbv.specs.declared.VbvParams.{VbvParams}
 use Rattle.scan.specs.Codes.{codes, found}
 use Rattle.scan.specs.Pictures.{skip, notSequence}
@@ -15,10 +16,10 @@ use Rattle.scan.specs.declared.Found.the-variants.{At, Nothing}
 use Rattle.pictures.specs.declared.VbvStandard.{VbvStandard}
 use Rattle.pictures.specs.declared.VbvStandard.the-variants.{Mpeg1, Mpeg2}
 
--- R in units of 400 bits a second, B in units of 16 × 1024 bits, and the frame rate of a code (6)
+-- R, B and the frame rate of a code (6)
 unfoldable pub rated : ℕ → ℕ → ℕ → Answer VbvParams
 rated rate buffer code =
-    andThen (frameRate code) (λ f. value (record { «bit_rate» = 400 * rate; «buffer_size_bits» = 16384 * buffer; frn = f .0; frd = f .1 }))
+    andThen (frameRate code) (λ f. value (paramsOf rate buffer f))
 
 -- MPEG-1 reads the sequence header alone, MPEG-2 the extension behind it too (1, 2)
 unfoldable pub declaredBy : VbvStandard → List ℕ → Answer VbvParams

@@ -1,7 +1,8 @@
 // The pictures of a stream as their headers show them, one after another.
 ghost use mathlib.Core.Path.{_≡_};
-ghost use Prim.Native.Nat.{_+_, _*_, _^_, _≤_};
+ghost use Prim.Native.Nat.{_+_, _*_, _≤_};
 ghost use lib.ListN.{length};
+ghost use Rattle.vbv.specs.Model.{farthest};
 ghost use Rattle.pictures.specs.Answers.{nextAnswer};
 ghost use Rattle.pictures.specs.Seen.{isAnchor, isField, intervalOf, factsBy, shown, seenOf, nextSeen};
 ghost use Rattle.pictures.specs.Steps.{shownAnswer};
@@ -18,6 +19,7 @@ use picture_header::PictureRead;
 use picture_header::PictureStructure;
 use scan::Next;
 use scan::next_picture;
+use vbv::FARTHEST;
 use vbv::RemovalInterval;
 use vbv::VbvError;
 
@@ -99,8 +101,8 @@ fn shown_at(part: &[u8], standard: VbvStandard) -> Shown
 
 // The picture whose start code stands at `at` and whose data ends at `end`.
 fn seen_picture(at: usize, end: usize, vbv_delay: u16, facts: PictureFacts) -> SeenPicture
-    requires { ⌜ at + 4 ≤ 2 ^ 45 ⌝ }
-    requires { ⌜ end ≤ 2 ^ 45 ⌝ }
+    requires { ⌜ 8 * (at + 4) ≤ farthest ⌝ }
+    requires { ⌜ 8 * end ≤ farthest ⌝ }
     ensures { λ r. ⌜ r ≡ seenOf (record { start = at; end = end }) («vbv_delay», facts) ⌝ }
 {
     let pos_bits = 8 * ((at + 4) as u64);
@@ -117,8 +119,7 @@ fn seen_picture(at: usize, end: usize, vbv_delay: u16, facts: PictureFacts) -> S
 pub fn next_seen(stream: &[u8], standard: VbvStandard, from: usize) -> NextSeen
     ensures { λ r. ⌜ nextAnswer r ≡ nextSeen standard (now (stream .entry)) from ⌝ }
 {
-    // 2^48 bits.
-    if 35184372088832 < stream.len() {
+    if FARTHEST / 8 < stream.len() as u64 {
         return NextSeen::Refused(Unread::Model(VbvError::Range));
     }
     match next_picture(stream, from) {

@@ -1,6 +1,5 @@
 // What the first sequence header of a stream declares.
 ghost use mathlib.Core.Path.{_≡_};
-ghost use Prim.Native.Nat.{_≤_};
 ghost use Rattle.pictures.specs.Answers.{declaredAnswer};
 ghost use Rattle.pictures.specs.Sequence.{rated, declaredBy, declared};
 use crate::Declared;
@@ -12,21 +11,15 @@ use headers::sequence_header::Mpeg2SequenceHeader;
 use scan::Found;
 use scan::first_sequence;
 use vbv::FrameRate;
-use vbv::VbvParams;
+use vbv::frame_rate_value;
+use vbv::params_of;
 
-// R in units of 400 bits a second, B in units of 16 * 1024 bits.
-fn rated_by(rate: u64, buffer: u64, code: u8) -> Declared
-    requires { ⌜ rate ≤ 4294967295 ⌝ }
-    requires { ⌜ buffer ≤ 4294967295 ⌝ }
+// By the two fields, and the frame rate of a code.
+fn rated_by(rate: u32, buffer: u32, code: u8) -> Declared
     ensures { λ r. ⌜ declaredAnswer r ≡ rated rate buffer code ⌝ }
 {
-    match vbv::frame_rate_value(code) {
-        FrameRate::Rate(frn, frd) => Declared::Params(VbvParams {
-            bit_rate: 400 * rate,
-            buffer_size_bits: 16384 * buffer,
-            frn,
-            frd,
-        }),
+    match frame_rate_value(code) {
+        FrameRate::Rate(frn, frd) => Declared::Params(params_of(rate, buffer, frn, frd)),
         FrameRate::Refused(error) => Declared::Refused(Unread::Model(error)),
     }
 }
@@ -43,8 +36,8 @@ fn declared_at(part: &[u8], standard: VbvStandard) -> Declared
                 Answer::Parsed => {
                     let header = read.header;
                     rated_by(
-                        header.bit_rate as u64,
-                        header.vbv_buffer_size as u64,
+                        header.bit_rate,
+                        header.vbv_buffer_size as u32,
                         header.frame_rate_code,
                     )
                 }
@@ -59,8 +52,8 @@ fn declared_at(part: &[u8], standard: VbvStandard) -> Declared
                     let sequence = read.sequence;
                     let header = sequence.header;
                     rated_by(
-                        sequence.bit_rate as u64,
-                        sequence.vbv_buffer_size as u64,
+                        sequence.bit_rate,
+                        sequence.vbv_buffer_size,
                         header.frame_rate_code,
                     )
                 }

@@ -13,7 +13,7 @@ use Rattle.vbv.specs.Model.{delivered, periods, afterRemoval}
 use Rattle.vbv.specs.Patch.{patched}
 use Rattle.vbv.specs.declared.RemovalInterval.{RemovalInterval}
 use Rattle.vbv.specs.declared.VbvParams.{VbvParams}
-use Rattle.scan.specs.Codes.{sequenceEndCode}
+use Rattle.scan.specs.Codes.{sequenceEnd}
 use Rattle.layers.specs.declared.PictureKind.{PictureKind}
 use Rattle.layers.specs.Headers.{headersFit}
 use Rattle.layers.specs.Layer.{layerFits}
@@ -40,7 +40,7 @@ position w o = w .model .«prev_end_bits» + 8 * (length (o .headers) + 4)
 
 -- the sequence's end follows the last picture
 unfoldable pub tail : Bool → List ℕ
-tail true = sequenceEndCode
+tail true = sequenceEnd
 tail false = []
 
 -- where headers, layer and the sequence's end come to

@@ -2,10 +2,10 @@
 -- Assumes nothing.
 use mathlib.Core.Path.{_≡_, refl, ap}
 use mathlib.Core.Bool.{true}
-use Prim.Native.Nat.{ℕ, _^_, _≤_}
+use Prim.Native.Nat.{ℕ, _≤_}
 use native.Mathlib.Omega.{arith}
 use Rattle.bits.specs.Refusals.{Answer, value, refused, andThen}
-use Rattle.vbv.specs.Model.{delivered, modelFits, afterRemoval, nextDelivered}
+use Rattle.vbv.specs.Model.{delivered, modelFits, afterRemoval, nextDelivered, farthest}
 use Rattle.vbv.specs.Steps.{EndFits}
 use Rattle.vbv.specs.declared.VbvCbrModel.{VbvCbrModel}
 use Rattle.vbv.proofs.Named.{pick-in, delay-named, removal-named, occupancy-named}
@@ -28,7 +28,7 @@ abbrev pub withModel : VbvCbrModel → CodedPicture → Answer VbvPictureRecord 
 withModel m c a = andThen a (λ r. value (r, afterRemoval m (c .«end_bits») (nextDelivered m (c .interval))))
 
 module _ (m : VbvCbrModel) (c : CodedPicture) (f : modelFits m ≡ true) (s : m .started ≡ true)
-    (h : c .«pos_bits» ≤ 2 ^ 48) (g : EndFits m (c .«end_bits»)) where
+    (h : c .«pos_bits» ≤ farthest) (g : EndFits m (c .«end_bits»)) where
   pub removal-is : removedAnswer (removed m c) ≡ withModel m c (removal (m .params) (m .removed) (m .«prev_end_bits») (delivered m) c)
   unfolding removed removedAfter removedFrom recordedIf withDelays removal recordOf
   removal-is =

@@ -14,7 +14,7 @@ use Rattle.words.proofs.Bytes.{length-words}
 use Rattle.words.proofs.Laying.{laid-part}
 use Rattle.pictures.specs.Sequence.{declared}
 use Rattle.pictures.specs.declared.VbvStandard.{VbvStandard}
-use Rattle.verify.specs.Layout.{recordBytes, recordsBytes}
+use Rattle.verify.specs.Layout.{recordSize, recordBytes, recordsBytes}
 use Rattle.verify.specs.Answers.{verifiedAnswer}
 use Rattle.verify.specs.Check.{verdict, reported, records}
 use Rattle.verify.specs.Steps.{recordCount, recorderOf, nextRecord, recordsOf}
@@ -23,12 +23,12 @@ use Rattle.verify.specs.declared.recorder.VbvRecorder.{VbvRecorder}
 use Rattle.verify.proofs.Recording.{stateOf, records-last, records-none, records-length, recorded}
 use Rattle.verify.specs.declared.VbvPictureRecord.{VbvPictureRecord}
 
-length-record : (r : VbvPictureRecord) → length (recordBytes r) ≡ 32
+length-record : (r : VbvPictureRecord) → length (recordBytes r) ≡ recordSize
 unfolding recordBytes
 length-record r = length-words _
 
 -- four words laid over the part from a place on
-pub record-laid : (out new : List ℕ) (at : ℕ) (r : VbvPictureRecord) → at + 32 ≤ length out
+pub record-laid : (out new : List ℕ) (at : ℕ) (r : VbvPictureRecord) → at + recordSize ≤ length out
     → new ≡ laid (wordsBytes (r .«vbv_delay» ∷ r .«expected_delay» ∷ r .«data_bits» ∷ r .«occupancy_before_bits» ∷ [])) (take (length out - at) (drop at out))
     → take at out ++ (new ++ drop (length out - at) (drop at out)) ≡ sets out at (recordBytes r)
 unfolding recordBytes
@@ -38,7 +38,7 @@ pub no-records : recordsBytes [] ≡ []
 unfolding recordsBytes
 no-records = refl
 
-pub length-records : (rs : List VbvPictureRecord) → length (recordsBytes rs) ≡ 32 * length rs
+pub length-records : (rs : List VbvPictureRecord) → length (recordsBytes rs) ≡ recordSize * length rs
 unfolding recordsBytes
 length-records [] = refl
 length-records (r ∷ rs) = rw (length-append (recordBytes r) (recordsBytes rs), length-record r, length-records rs) (omega arith)
@@ -51,7 +51,7 @@ unfolding recordsBytes recordBytes
 records-more r rs = refl
 
 -- all of them from place 0 on
-pub records-over : (out : List ℕ) (rs : List VbvPictureRecord) → 32 * length rs ≤ length out → sets out 0 (recordsBytes rs) ≡ over (recordsBytes rs) out
+pub records-over : (out : List ℕ) (rs : List VbvPictureRecord) → recordSize * length rs ≤ length out → sets out 0 (recordsBytes rs) ≡ over (recordsBytes rs) out
 records-over out rs h = over-sets (recordsBytes rs) out (omega (arith, length-records rs))
 
 -- ---- one after another
@@ -72,14 +72,14 @@ stored-none s w₀ out e = record { as-long = refl; stands = e; bytes = rw (reco
 
 pub stored-more : {s : List ℕ} {w₀ : VbvRecorder} {out₀ out : List ℕ} {w : VbvRecorder} {i : ℕ} → Stored s w₀ out₀ out w i
     → {r : VbvPictureRecord} {next : VbvRecorder} → r ≡ nextRecord s w .last → next ≡ nextRecord s w .recorder
-    → {new : List ℕ} → new ≡ sets out (32 * i) (recordBytes r) → Stored s w₀ out₀ new next (i + 1)
+    → {new : List ℕ} → new ≡ sets out (recordSize * i) (recordBytes r) → Stored s w₀ out₀ new next (i + 1)
 stored-more {s} {w₀} {out₀} {out} {w} {i} h {r} {next} er en {new} e =
     let rs : List VbvPictureRecord = recordsOf s w₀ i in
-    let o : 0 + 32 * i ≡ 32 * i = omega arith in
-    let l : length (recordsBytes rs) ≡ 32 * i = length-records rs ∙ rw (records-length s w₀ i) in
+    let o : 0 + recordSize * i ≡ recordSize * i = omega arith in
+    let l : length (recordsBytes rs) ≡ recordSize * i = length-records rs ∙ rw (records-length s w₀ i) in
     rw (add-one i)
     record {
-      as-long = rw e (length-sets out (32 * i) (recordBytes r) ∙ h .as-long);
+      as-long = rw e (length-sets out (recordSize * i) (recordBytes r) ∙ h .as-long);
       stands = en ∙ rw (h .stands);
       bytes =
           e
@@ -88,12 +88,12 @@ stored-more {s} {w₀} {out₀} {out} {w} {i} h {r} {next} er en {new} e =
 
 -- ---- the check with records
 
-module _ (standard : VbvStandard) (s out : List ℕ) (r : VbvVerified) (h : verifiedAnswer r ≡ reported (verdict standard s (length out / 32))) where
-  pub count-fits : 32 * recordCount r ≤ length out
-  count-fits = omega (arith, recorded standard s (length out / 32) r h .few)
+module _ (standard : VbvStandard) (s out : List ℕ) (r : VbvVerified) (h : verifiedAnswer r ≡ reported (verdict standard s (length out / recordSize))) where
+  pub count-fits : recordSize * recordCount r ≤ length out
+  count-fits = omega (arith, recorded standard s (length out / recordSize) r h .few)
 
   pub stored-is : {last : List ℕ} → last ≡ sets out 0 (recordsBytes (recordsOf s (recorderOf standard (declared standard s)) (recordCount r)))
-      → last ≡ over (recordsBytes (records (verdict standard s (length out / 32)))) out
+      → last ≡ over (recordsBytes (records (verdict standard s (length out / recordSize)))) out
   stored-is e =
-      let k = recorded standard s (length out / 32) r h in
-      e ∙ rw (k .each) (records-over out (records (verdict standard s (length out / 32))) (omega (arith, k .few, k .count)))
+      let k = recorded standard s (length out / recordSize) r h in
+      e ∙ rw (k .each) (records-over out (records (verdict standard s (length out / recordSize))) (omega (arith, k .few, k .count)))

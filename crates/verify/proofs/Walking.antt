@@ -1,11 +1,12 @@
 -- The walk from picture to picture: what is still to come makes of the state what the whole stream makes of the first one.
 -- Assumes nothing.
 use mathlib.Core.Path.{_≡_, refl, sym, ap, _∙_}
-use Prim.Native.Nat.{ℕ, suc, _+_, _*_, _^_, _≤_, _<_}
+use Prim.Native.Nat.{ℕ, suc, _+_, _*_, _≤_, _<_}
 use mathlib.Core.List.{List, [], _∷_}
 use native.Mathlib.Omega.{arith}
 use borrow.Author.Tests.{ne-eqb}
 use lib.ListN.{length}
+use Rattle.vbv.specs.Model.{farthest}
 use Rattle.bits.specs.Bits.{pick}
 use Rattle.bits.specs.Refusals.{Answer, value, refused, andThen}
 use Rattle.vbv.specs.declared.VbvParams.{VbvParams}
@@ -55,7 +56,7 @@ pub record Walking (standard : VbvStandard) (s : List ℕ) (p : VbvParams) (i n 
 pub walking-none : (standard : VbvStandard) (s : List ℕ) (p : VbvParams) → Walking standard s p 0 0 Fresh
 walking-none standard s p = record { few = omega arith; inside = omega arith; answer = rw (seen-from-first standard s) }
 
-module _ {standard : VbvStandard} {s : List ℕ} (short : 8 * length s ≤ 2 ^ 48) {p : VbvParams} {i n : ℕ} {st : Progress} (w : Walking standard s p i n st) where
+module _ {standard : VbvStandard} {s : List ℕ} (short : 8 * length s ≤ farthest) {p : VbvParams} {i n : ℕ} {st : Progress} (w : Walking standard s p i n st) where
   pub walking-empty : nextSeen standard s i ≡ value nothing → n ≡ 0 → refused 4 0 0 0 ≡ andThen (seenPictures standard s) (walkedOver p 0 Fresh)
   walking-empty e z = sym (over-none p st) ∙ rw (seen-end standard s short i e, z) at (w .answer)
 
@@ -88,10 +89,10 @@ over-first p (value (x ∷ xs)) = rw (first-some p x xs)
 over-first p (refused n k c e) = refl
 
 module _ (standard : VbvStandard) (s : List ℕ) where
-  pub front-far : 35184372088832 < length s → refused 14 0 0 0 ≡ andThen (front standard s) walkedFront
+  pub front-far : farthest < 8 * length s → refused 14 0 0 0 ≡ andThen (front standard s) walkedFront
   front-far h = rw (front-long standard s (omega arith))
 
-  module _ (h : length s ≤ 35184372088832) where
+  module _ (h : 8 * length s ≤ farthest) where
     pub front-unread : {r : Declared} {e : Unread} → r ≡ NotDeclared e → declaredAnswer r ≡ declared standard s → unread e ≡ andThen (front standard s) walkedFront
     front-unread {r} {e} q d = rw (front-undeclared standard s (omega arith) (sym d ∙ ap declaredAnswer q))
 

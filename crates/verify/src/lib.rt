@@ -1,6 +1,6 @@
 // The buffer report of a constant-rate stream: the check of Annex C over the pictures that its headers show.
 ghost use mathlib.Core.Path.{_≡_};
-ghost use Rattle.verify.specs.Answers.{refusalOf, plain as plainOf};
+ghost use Rattle.verify.specs.Answers.{refusalOf};
 ghost use Rattle.verify.specs.declared.VbvVerifyError.the-variants.{Violation};
 
 pub mod lent; // the check with records in a lent slice of structs
@@ -11,13 +11,19 @@ mod run; // one removal after another
 
 pub use crate::report::check_stream;
 pub use crate::report::verify_cbr_stream;
+pub use bits::VbvRefusal;
+pub use bits::plain;
 use headers::Error;
 use pictures::Unread;
+pub use pictures::VbvStandard;
 use vbv::RemovalInterval;
 use vbv::VbvCbrModel;
 use vbv::VbvError;
 use vbv::VbvParams;
 use vbv::VbvViolation;
+
+// The bytes of a record (docs/LAYOUT.md).
+pub const RECORD_BYTES: usize = 32;
 
 // One removal. Occupancy is in whole bits, just before it.
 pub struct VbvPictureRecord {
@@ -49,14 +55,6 @@ pub enum VbvVerifyError {
     RecordPlaces,
     // Overflow, underflow or a delay unlike the expected one.
     Violation(VbvViolation),
-}
-
-// A refusal as paper 01 writes it.
-pub struct VbvRefusal {
-    pub number: u8,
-    pub picture: u64,
-    pub coded: u16,
-    pub expected: u16,
 }
 
 pub enum VbvVerified {
@@ -117,18 +115,6 @@ impl VbvVerifyError {
             VbvVerifyError::RecordPlaces => plain(15),
             VbvVerifyError::Violation(v) => violation(v),
         }
-    }
-}
-
-// A refusal that carries its number alone.
-pub fn plain(number: u8) -> VbvRefusal
-    ensures { λ r. ⌜ r ≡ plainOf number ⌝ }
-{
-    VbvRefusal {
-        number,
-        picture: 0,
-        coded: 0,
-        expected: 0,
     }
 }
 

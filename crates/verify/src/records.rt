@@ -4,8 +4,9 @@ ghost use Prim.Native.Nat.{_+_, _*_, _≤_};
 ghost use lib.ListN.{length};
 ghost use lib.Seq.{sets};
 ghost use Rattle.pictures.specs.Sequence.{declared};
-ghost use Rattle.verify.specs.Layout.{recordBytes, recordsBytes};
+ghost use Rattle.verify.specs.Layout.{recordSize, recordBytes, recordsBytes};
 ghost use Rattle.verify.specs.Steps.{recorderOf, recordsOf};
+use crate::RECORD_BYTES;
 use crate::VbvPictureRecord;
 use crate::recorder::VbvRecorder;
 use pictures::VbvStandard;
@@ -13,7 +14,7 @@ use words::put_words;
 
 // A record, from byte `at` on.
 fn put_record(out: &mut [u8], at: usize, record: VbvPictureRecord)
-    requires { ⌜ at + 32 ≤ length (now out) ⌝ }
+    requires { ⌜ at + recordSize ≤ length (now out) ⌝ }
     ensures { λ r. ⌜ now (out .exit) ≡ sets (now (out .entry)) at (recordBytes «record») ⌝ }
 {
     let words = [
@@ -27,14 +28,14 @@ fn put_record(out: &mut [u8], at: usize, record: VbvPictureRecord)
 
 // The first `count` records of a stream, each at its place.
 pub(crate) fn store(stream: &[u8], standard: VbvStandard, count: usize, out: &mut [u8])
-    requires { ⌜ 32 * count ≤ length (now out) ⌝ }
+    requires { ⌜ recordSize * count ≤ length (now out) ⌝ }
     ensures { λ r. ⌜ now (out .exit) ≡ sets (now (out .entry)) 0 (recordsBytes (recordsOf (now (stream .entry)) (recorderOf standard (declared standard (now (stream .entry)))) count)) ⌝ }
 {
     let mut recorder = VbvRecorder::new(stream, standard);
     let mut i: usize = 0;
     while i < count {
         let recorded = recorder.next_record(stream);
-        put_record(out, 32 * i, recorded.last);
+        put_record(out, RECORD_BYTES * i, recorded.last);
         recorder = recorded.recorder;
         i += 1;
     }

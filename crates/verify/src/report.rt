@@ -2,18 +2,20 @@
 // an accepted stream.
 ghost use mathlib.Core.Path.{_≡_};
 ghost use mathlib.Core.List.{_∷_};
-ghost use Prim.Native.Nat.{_*_, _/_, _^_, _≤_};
+ghost use Prim.Native.Nat.{_*_, _/_, _≤_};
 ghost use lib.ListN.{length};
+ghost use Rattle.vbv.specs.Model.{farthest};
 ghost use Rattle.bits.specs.Refusals.{andThen, value};
 ghost use Rattle.bits.specs.Answers.{over};
 ghost use Rattle.pictures.specs.Front.{front as frontOf};
 ghost use Rattle.pictures.specs.Seen.{seenPictures};
 ghost use Rattle.verify.specs.Answers.{verifiedAnswer};
 ghost use Rattle.verify.specs.Check.{verdict, reported, records as recordsOf};
-ghost use Rattle.verify.specs.Layout.{recordsBytes};
+ghost use Rattle.verify.specs.Layout.{recordSize, recordsBytes};
 ghost use Rattle.verify.specs.Steps.{walkedAnswer, walkedOver, unreadError, ifPlaced, judgement};
 ghost use Rattle.verify.specs.declared.Progress.the-variants.{Fresh};
 use crate::Progress;
+use crate::RECORD_BYTES;
 use crate::VbvStreamReport;
 use crate::VbvVerified;
 use crate::VbvVerifyError;
@@ -27,12 +29,13 @@ use pictures::Unread;
 use pictures::VbvStandard;
 use pictures::declared_params;
 use pictures::next_seen;
+use vbv::FARTHEST;
 use vbv::VbvError;
 use vbv::VbvParams;
 
 // Walks over the pictures and runs the model over them, as long as their headers can be read; there must be one.
 fn walk(stream: &[u8], standard: VbvStandard, params: VbvParams) -> Walked
-    requires { ⌜ 8 * length (now stream) ≤ 2 ^ 48 ⌝ }
+    requires { ⌜ 8 * length (now stream) ≤ farthest ⌝ }
     ensures { λ r. ⌜ walkedAnswer r ≡ andThen (seenPictures standard (now (stream .entry))) (walkedOver params 0 Fresh) ⌝ }
 {
     let mut i: usize = 0;
@@ -61,8 +64,7 @@ fn walk(stream: &[u8], standard: VbvStandard, params: VbvParams) -> Walked
 fn front(stream: &[u8], standard: VbvStandard) -> Walked
     ensures { λ r. ⌜ walkedAnswer r ≡ andThen (frontOf standard (now (stream .entry))) (λ f. walkedOver (f .params) 0 Fresh (f .first ∷ f .others)) ⌝ }
 {
-    // 2^48 bits.
-    if 35184372088832 < stream.len() {
+    if FARTHEST / 8 < stream.len() as u64 {
         return Walked::Refused(Unread::Model(VbvError::Range));
     }
     match declared_params(stream, standard) {
@@ -129,12 +131,12 @@ pub fn check_stream(stream: &[u8], standard: VbvStandard, places: usize) -> VbvV
     judge(front(stream, standard), places)
 }
 
-// The buffer report of a stream with its records, or why it is refused. A place is 32 bytes (docs/LAYOUT.md).
+// The buffer report of a stream with its records, or why it is refused. A place has the bytes of a record.
 pub fn verify_cbr_stream(stream: &[u8], standard: VbvStandard, records: &mut [u8]) -> VbvVerified
-    ensures { λ r. ⌜ verifiedAnswer r ≡ reported (verdict standard (now (stream .entry)) (length (now (records .entry)) / 32)) ⌝ }
-    ensures { λ r. ⌜ now (records .exit) ≡ over (recordsBytes (recordsOf (verdict standard (now (stream .entry)) (length (now (records .entry)) / 32)))) (now (records .entry)) ⌝ }
+    ensures { λ r. ⌜ verifiedAnswer r ≡ reported (verdict standard (now (stream .entry)) (length (now (records .entry)) / recordSize)) ⌝ }
+    ensures { λ r. ⌜ now (records .exit) ≡ over (recordsBytes (recordsOf (verdict standard (now (stream .entry)) (length (now (records .entry)) / recordSize)))) (now (records .entry)) ⌝ }
 {
-    let answer = check_stream(stream, standard, records.len() / 32);
+    let answer = check_stream(stream, standard, records.len() / RECORD_BYTES);
     store(stream, standard, record_count(answer), records);
     answer
 }

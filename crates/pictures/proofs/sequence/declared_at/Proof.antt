@@ -15,9 +15,6 @@ enum-told-2 c = search needs
 cast-rated-by : tie.Need-cast-rated-by
 cast-rated-by c = search needs
 
-cast-rated-by-2 : tie.Need-cast-rated-by-2
-cast-rated-by-2 c = search needs
-
 rated-by-requires : tie.Need-rated-by-requires
 rated-by-requires c κs = search needs
 
@@ -33,12 +30,6 @@ from-buf-requires c κs = search needs
 enum-told-4 : tie.Need-enum-told-4
 enum-told-4 c = search needs
 
-cast-rated-by-3 : tie.Need-cast-rated-by-3
-cast-rated-by-3 c = search needs
-
-cast-rated-by-4 : tie.Need-cast-rated-by-4
-cast-rated-by-4 c = search needs
-
 rated-by-requires-2 : tie.Need-rated-by-requires-2
 rated-by-requires-2 c κs = search needs
 
@@ -47,7 +38,7 @@ enum-known-answer-2 c = search needs
 
 returns : tie.Need-returns
 unfolding declaredBy
-returns c = rw (c .before .before .before .before .before .before .before .enum-told .given .1, ← c .before .before .before .before .before .before .parse .ensures .0, c .before .before .before .before .enum-told2 .given .1) (c .rated-by .ensures)
+returns c = rw (c .before .before .before .before .before .before .enum-told .given .1, ← c .before .before .before .before .before .parse .ensures .0, c .before .before .before .enum-told2 .given .1) (c .rated-by .ensures)
 
 returns-2 : tie.Need-returns-2
 unfolding declaredBy
@@ -55,7 +46,7 @@ returns-2 c = rw (c .before .before .before .before .enum-told .given .1, ← c 
 
 returns-3 : tie.Need-returns-3
 unfolding declaredBy
-returns-3 c = rw (c .before .before .before .before .before .before .before .before .enum-told3 .given .1, ← c .before .before .before .before .before .before .before .from-buf .ensures .0, c .before .before .before .before .before .enum-told4 .given .1) (c .rated-by2 .ensures)
+returns-3 c = rw (c .before .before .before .before .before .before .enum-told3 .given .1, ← c .before .before .before .before .before .from-buf .ensures .0, c .before .before .before .enum-told4 .given .1) (c .rated-by2 .ensures)
 
 returns-4 : tie.Need-returns-4
 unfolding declaredBy
@@ -69,14 +60,11 @@ declared-at-spec =
     parse-requires
     enum-told-2
     cast-rated-by
-    cast-rated-by-2
     rated-by-requires
     enum-known-answer
     enum-told-3
     from-buf-requires
     enum-told-4
-    cast-rated-by-3
-    cast-rated-by-4
     rated-by-requires-2
     enum-known-answer-2
     returns

@@ -9,18 +9,15 @@ frame-rate-value-requires c κs = search needs
 enum-known-frn : tie.Need-enum-known-frn
 enum-known-frn c = search needs
 
-mul-t9 : tie.Need-mul-t9
-mul-t9 c = search needs
-
-mul-t10 : tie.Need-mul-t10
-mul-t10 c = search needs
+params-of-requires : tie.Need-params-of-requires
+params-of-requires c κs = search needs
 
 enum-known-error : tie.Need-enum-known-error
 enum-known-error c = search needs
 
 returns : tie.Need-returns
 unfolding rated
-returns c = rw (← c .before .before .before .frame-rate-value .ensures, c .before .frn .given .1)
+returns c = rw (← c .before .before .before .before .frame-rate-value .ensures, c .before .before .frn .given .1, c .params-of .ensures)
 
 returns-2 : tie.Need-returns-2
 unfolding rated
@@ -32,8 +29,7 @@ rated-by-spec =
     (tie.spec
     frame-rate-value-requires
     enum-known-frn
-    mul-t9
-    mul-t10
+    params-of-requires
     enum-known-error
     returns
     returns-2)
