@@ -17,7 +17,7 @@ use Rattle.rate_control.specs.declared.CbrWriter.{CbrWriter}
 use Rattle.rate_control.specs.declared.Pending.the-variants.{Nothing}
 use Rattle.rate_control.proofs.Placing.{room-enough}
 use Rattle.rate_control.proofs.Keeping.{refused-keeps, refused-closes, refused-out, withdraw-unpending}
-use Rattle.rate_control.proofs.Refusing.{withdraws}
+use Rattle.rate_control.proofs.Refusing.{withdraw-answer}
 use Rattle.layout.specs.State.{stateBytes, stateFits, writerAt}
 use Rattle.words.specs.Words.{laid}
 use Rattle.layout.proofs.RoundTrip.{read-back, state-fits}
@@ -59,7 +59,7 @@ module _ (s : List ℕ) (o : COffer) (b : Bytes s) where
 
   withdrawn-state : stateFits s ≡ true → stateAfter (withdrawal s) s ≡ laid (stateBytes (orElse w (withdraw w))) s
   unfolding withdrawal stateAfter pick
-  withdrawn-state f = rw (f, withdraws w (state-fits s f .2))
+  withdrawn-state f = rw (f, withdraw-answer w (state-fits s f .2))
 
   -- number, state and output part, by how far the offer comes
   abbrev told : Answer (CbrWriter × Offer) → ℕ

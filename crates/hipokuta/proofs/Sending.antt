@@ -26,9 +26,9 @@ use Rattle.rate_control.specs.declared.CbrOffered.{CbrOffered}
 use Rattle.rate_control.specs.declared.CbrWithdrawal.the-variants.{Withdrawn, Refused as NotWithdrawn}
 use Rattle.rate_control.specs.declared.CbrWithdrawn.{CbrWithdrawn}
 use Rattle.rate_control.proofs.Creation.{within-is}
-use Rattle.rate_control.proofs.Refusing.{withdraws}
+use Rattle.rate_control.proofs.Refusing.{withdraw-answer}
 use Rattle.layout.specs.Answers.{answerWords}
-use Rattle.layout.specs.State.{stateBytes, writerAt, held}
+use Rattle.layout.specs.State.{stateBytes, writerAt, stateAt}
 use Rattle.words.specs.Words.{wordsBytes, laid}
 use Rattle.layout.specs.declared.CbrState.{CbrState}
 use Rattle.layout.proofs.Answering.{length-refused}
@@ -85,7 +85,7 @@ module _ (s : List ℕ) (o : COffer) where
   unfolding choicesFit
   codes-told = rw (within-is 1 2 (o .interval))
 
-  module _ (x : CbrState) (e : x ≡ held s) where
+  module _ (x : CbrState) (e : x ≡ stateAt s) where
     pub no-state : x .fits ≡ false → {r : VbvRefusal} {answer : List ℕ} → r ≡ plain 12 → answer ≡ worded r → Leaves 12 s (o .out) answer
     unfolding reach pick
     no-state h f g = stopped 12 (rw (holds-none s x e h)) f g
@@ -123,7 +123,7 @@ module _ (s : List ℕ) (o : COffer) where
 
 -- ---- a withdrawal: the number, and the state afterwards
 
-module _ (s : List ℕ) (x : CbrState) (e : x ≡ held s) where
+module _ (s : List ℕ) (x : CbrState) (e : x ≡ stateAt s) where
   abbrev Withdraws : ℕ → List ℕ → Type 0
   Withdraws n after = (n ≡ number (withdrawal s)) × (after ≡ stateAfter (withdrawal s) s)
 
@@ -144,5 +144,5 @@ module _ (s : List ℕ) (x : CbrState) (e : x ≡ held s) where
     not-withdrawn v a =
         let k = holds s x e h in
         let b : refusal v ≡ withdraw (x .writer) = sym (ap (λ y. withdrawalAnswer y (r .writer)) a) ∙ f in
-        let d : withdraw (x .writer) ≡ value _ = ap withdraw (k .1) ∙ withdraws (writerAt s) (state-fits s (k .0) .2) in
+        let d : withdraw (x .writer) ≡ value _ = ap withdraw (k .1) ∙ withdraw-answer (writerAt s) (state-fits s (k .0) .2) in
         absurd (true≢false cc)

@@ -7,7 +7,7 @@ use native.Mathlib.Omega.{arith}
 use lib.ListN.{length}
 use Rattle.bits.specs.Refusals.{refused}
 use Rattle.verify.specs.declared.VbvRefusal.{VbvRefusal}
-use Rattle.rate_control.specs.Answers.{refusalOf, offerAnswer}
+use Rattle.rate_control.specs.Answers.{offerRefusal, offerAnswer}
 use Rattle.rate_control.specs.declared.CbrError.{CbrError}
 use Rattle.rate_control.specs.declared.CbrAnswer.{CbrAnswer}
 use Rattle.rate_control.specs.declared.CbrAnswer.the-variants.{Placed, Again, Refused}
@@ -30,7 +30,7 @@ module _ (a : CbrAnswer) (place after : List ℕ) where
   unfolding answerWords
   way-again q e w = rw e w
 
-  pub way-refused : (e : CbrError) (r : VbvRefusal) → a ≡ Refused e → r ≡ refusalOf e
+  pub way-refused : (e : CbrError) (r : VbvRefusal) → a ≡ Refused e → r ≡ offerRefusal e
       → after ≡ laid (wordsBytes (answerWords (refused (r .number) (r .picture) (r .coded) (r .expected)))) place
       → after ≡ laid (wordsBytes (answerWords (offerAnswer a))) place
   way-refused e r h g w = rw (h, ← g) w

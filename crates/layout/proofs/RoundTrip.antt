@@ -23,7 +23,7 @@ use Rattle.rate_control.specs.declared.CbrWriter.{CbrWriter}
 use Rattle.words.specs.Words.{wordsBytes, laid, wordAt}
 use Rattle.words.proofs.Bytes.{length-words, word-put, wordsFrom, words-back}
 use Rattle.words.proofs.Laying.{laid-over, length-laid}
-use Rattle.layout.specs.State.{pendingCode, pendingQuantiser, stateWords, stateBytes, pendingOf, codesFit, writerAt, stateFits, held}
+use Rattle.layout.specs.State.{pendingCode, pendingQuantiser, stateWords, stateBytes, pendingOf, codesFit, writerAt, stateFits, stateAt}
 use Rattle.layout.proofs.Ranges.{code-low, state-small}
 
 -- ---- a writer's lists
@@ -121,8 +121,8 @@ module _ (w : CbrWriter) (place : List ℕ) (h : writerFits w ≡ true) (t : len
       (rw (length-laid (stateBytes w) place, le-leb _ _ l, r .0, r .1, h), r .1)
 
   -- so the place holds the writer
-  pub held-put : held (laid (stateBytes w) place) ≡ record { fits = true; writer = w }
-  unfolding held pick
+  pub held-put : stateAt (laid (stateBytes w) place) ≡ record { fits = true; writer = w }
+  unfolding stateAt pick
   held-put = rw (read-put .0, read-put .1)
 
 -- ---- put back what was read

@@ -16,6 +16,6 @@ refusalWords r = r .number ∷ r .picture ∷ r .coded ∷ r .expected ∷ []
 
 -- outcome (0 placed, 1 again, 2 refused), number, picture, coded, expected, quantiser, delay, bytes placed, stuffing bytes among them; 0 where an outcome has no use for it
 unfoldable pub answerWords : Answer Given → List ℕ
-answerWords (value (placed q delay bytes zeros)) = 0 ∷ 0 ∷ 0 ∷ 0 ∷ 0 ∷ q ∷ delay ∷ bytes ∷ zeros ∷ []
+answerWords (value (placed q delay bytes stuffing)) = 0 ∷ 0 ∷ 0 ∷ 0 ∷ 0 ∷ q ∷ delay ∷ bytes ∷ stuffing ∷ []
 answerWords (value (again q)) = 1 ∷ 0 ∷ 0 ∷ 0 ∷ 0 ∷ q ∷ 0 ∷ 0 ∷ 0 ∷ []
 answerWords (refused n picture coded expected) = 2 ∷ n ∷ picture ∷ coded ∷ expected ∷ 0 ∷ 0 ∷ 0 ∷ 0 ∷ []

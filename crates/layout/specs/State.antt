@@ -91,5 +91,5 @@ unfoldable pub stateFits : List ℕ → Bool
 stateFits s = leb 152 (length s) && (codesFit s && writerFits (writerAt s))
 
 -- beside bytes that hold none stands a writer of no use
-unfoldable pub held : List ℕ → CbrState
-held s = pick (stateFits s) (record { fits = true; writer = writerAt s }) (record { fits = false; writer = noWriter })
+unfoldable pub stateAt : List ℕ → CbrState
+stateAt s = pick (stateFits s) (record { fits = true; writer = writerAt s }) (record { fits = false; writer = noWriter })

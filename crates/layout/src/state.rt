@@ -4,7 +4,7 @@ ghost use mathlib.Core.Bool.{false};
 ghost use Rattle.headers.specs.Answers.{flagOf};
 ghost use Rattle.rate_control.specs.Create.{noWriter};
 ghost use Rattle.words.specs.Words.{laid};
-ghost use Rattle.layout.specs.State.{pendingCode, pendingQuantiser, pendingOf, writerAt, stateBytes, held};
+ghost use Rattle.layout.specs.State.{pendingCode, pendingQuantiser, pendingOf, writerAt, stateBytes, stateAt};
 ghost use Rattle.layout.specs.Steps.{Narrow, narrow as narrowOf};
 use crate::CbrState;
 use layers::PictureKind;
@@ -154,7 +154,7 @@ fn unfit() -> CbrState
 
 // The writer that a place holds: none where it is too short or has a value out of its range.
 pub fn read_state(place: &[u8]) -> CbrState
-    ensures { λ r. ⌜ r ≡ held (now (place .entry)) ⌝ }
+    ensures { λ r. ⌜ r ≡ stateAt (now (place .entry)) ⌝ }
 {
     if place.len() < STATE_BYTES {
         return unfit();

@@ -39,7 +39,7 @@ pub data Outcome (w : CbrWriter) (o : Offer) : Answer Given → Type 0 where
   stays : {n k : ℕ} → eqb n 21 ≡ false → Outcome w o (refused n k 0 0)
   closes : q-of w o ≡ 31 → Outcome w o (refused 21 0 0 0)
   retries : (q-of w o ≡ 31 → ⊥) → Outcome w o (value (again (coarser (q-of w o))))
-  places : Placing w o → Outcome w o (value (placed (q-of w o) (delay w o) (length (placedBytes w o)) (stuffing w o)))
+  hands-out : Placing w o → Outcome w o (value (placed (q-of w o) (delay w o) (length (placedBytes w o)) (stuffing w o)))
 
 size-outcome : (w : CbrWriter) (o : Offer) → Outcome w o (tooLarge (q-of w o))
 size-outcome w o = pick-elim (Outcome w o) _ (λ e. closes (eqb-true _ _ e)) (λ e. retries (eqb-false _ _ e))
@@ -57,7 +57,7 @@ outcome w o =
     pick-elim P _ (λ e. size-outcome w o) λ size.
     pick-elim P _ (λ e. stays refl) λ h22.
     pick-elim P _ (λ e. stays refl) λ h19.
-    places (record {
+    hands-out (record {
       fitted = not-false _ h12;
       unfinished = or-left _ _ h17;
       same-kind = or-right (w .finished) _ h17;

@@ -22,9 +22,9 @@ use Rattle.vbv.proofs.Cases.{RateCode, known, unknown, rate-code, NewModel, mak
 use Rattle.rate_control.proofs.Fitting.{within-bounds}
 use Rattle.rate_control.proofs.Knowing.{fresh-known}
 
-ranges : (c : CbrConfig) → configFits c ≡ true → Ranges c
+ranges-of : (c : CbrConfig) → configFits c ≡ true → Ranges c
 unfolding configFits
-ranges c h =
+ranges-of c h =
     let r = both-true (within 1 262143 (c .«bit_rate_value»)) _ h in
     let s = both-true (within 1 1023 (c .«vbv_buffer_size_value»)) _ (r .1) in
     let q = both-true (within 1 31 (c .«initial_quantiser_scale_code»)) _ (s .1) in
@@ -91,13 +91,13 @@ pub creation-due : (c : CbrConfig) → CreationDue c (create c)
 unfolding create
 creation-due c =
     pick-elim (CreationDue c) _ (λ e. bad-range (λ r. true≢false (sym (ranges-fit c r) ∙ not-true _ e)))
-    (λ e. with-code c (ranges c (not-false _ e)) (frameRate (c .«frame_rate_code»)) refl (rate-code (c .«frame_rate_code»)))
+    (λ e. with-code c (ranges-of c (not-false _ e)) (frameRate (c .«frame_rate_code»)) refl (rate-code (c .«frame_rate_code»)))
 
 -- ---- and no other
 
 pub creation-only : (c : CbrConfig) (a : Answer CbrWriter) → CreationDue c a → a ≡ create c
 unfolding create
-creation-only c a (bad-range n) = failed (configFits c) _ _ (is-false (configFits c) (λ e. n (ranges c e))) refl
+creation-only c a (bad-range n) = failed (configFits c) _ _ (is-false (configFits c) (λ e. n (ranges-of c e))) refl
 creation-only c a (bad-code r n) = held (configFits c) _ _ (ranges-fit c r) (go (rate-code (c .«frame_rate_code»)))
   where
     go : {x : Answer (ℕ × ℕ)} → RateCode (c .«frame_rate_code») x → refused 6 0 0 0 ≡ andThen x (λ f. andThen (newModel (configParams c f)) (λ m. value (freshWriter c m)))

@@ -28,8 +28,8 @@ use Rattle.vbv.proofs.Laws.{refused-value, made}
 use Rattle.rate_control.specs.Targets.{groupPictures, groupBits, groupWeight, target, targets}
 use Rattle.rate_control.specs.Answers.{createdAnswer}
 use Rattle.rate_control.specs.Create.{within, configFits, configParams, freshWriter, noWriter, create}
-use Rattle.rate_control.specs.Writer.{every}
-use Rattle.rate_control.specs.Steps.{ConfigFits, Shares, notCreated, Creates, withRate}
+use Rattle.rate_control.specs.Writer.{allFit}
+use Rattle.rate_control.specs.Steps.{ConfigFits, TargetsFit, notCreated, Creates, withRate}
 use Rattle.rate_control.specs.declared.CbrConfig.{CbrConfig}
 use Rattle.rate_control.specs.declared.Pending.the-variants.{Nothing}
 use Rattle.rate_control.specs.declared.CbrWriter.{CbrWriter}
@@ -74,7 +74,7 @@ config-fits c h = config-bounds c h .0
 
 -- ---- the targets
 
-module _ (p : VbvParams) (between anchors : ℕ) (h : Shares p between anchors) where
+module _ (p : VbvParams) (between anchors : ℕ) (h : TargetsFit p between anchors) where
   -- no product passes 64 bits
   pub pictures-most : anchors * (between + 1) ≤ 4080
   pictures-most = mul-le-mul {n₂ = 255} {m₂ = 16} (omega arith) (omega arith)
@@ -104,14 +104,14 @@ module _ (p : VbvParams) (between anchors : ℕ) (h : Shares p between anchors) 
       let g = div-lt-iff-lt-mul {k = all} {x = share * pictures * weight} {y = 2 ^ 48 + 1} (omega arith) .1 (omega arith) in
       omega arith
 
-  targets-low : every (λ t. leb t (2 ^ 48)) (targets p between anchors) ≡ true
-  unfolding targets every
+  targets-low : allFit (λ t. leb t (2 ^ 48)) (targets p between anchors) ≡ true
+  unfolding targets allFit
   targets-low =
       simp (le-leb _ _ (target-low 40 (omega arith)), le-leb _ _ (target-low 16 (omega arith)), le-leb _ _ (target-low 9 (omega arith)))
 
 -- a model of parameters that fit has targets
 pub shared-out : (p : VbvParams) (m : VbvCbrModel) (between anchors : ℕ) → newModel p ≡ value m
-    → p .«bit_rate» ≤ 104857200 → between ≤ 15 → anchors ≤ 255 → Shares (m .params) between anchors
+    → p .«bit_rate» ≤ 104857200 → between ≤ 15 → anchors ≤ 255 → TargetsFit (m .params) between anchors
 shared-out p m between anchors h r b a =
     let k = made p m h in
     let f = params-fit (k .params-fit) in
@@ -197,9 +197,9 @@ pub record Creation (c : CbrConfig) (w : CbrWriter) : Type 0 where
 same-value : {X : Type 0} {x y : X} → value x ≡ value y → x ≡ y
 same-value e = cc
 
-pub creation : (c : CbrConfig) (w : CbrWriter) → create c ≡ value w → Creation c w
+pub creation-found : (c : CbrConfig) (w : CbrWriter) → create c ≡ value w → Creation c w
 unfolding create
-creation c w h =
+creation-found c w h =
     let a = was-held (configFits c) _ _ refused-value h in
     let f = then-value (frameRate (c .«frame_rate_code»)) (a .1) in
     let m = then-value (newModel (configParams c (f .0))) (f .2) in
@@ -214,12 +214,12 @@ pub record Fresh (w : CbrWriter) : Type 0 where
   pub at-zero : w .model .«prev_end_bits» ≡ 0
   pub unstuffed : w .«stuffing_bytes» ≡ 0
 
-fresh : {c : CbrConfig} {w : CbrWriter} (x : Creation c w) → Fresh (freshWriter c (x .model))
-unfolding freshWriter every
-fresh {c} x =
+fresh-writer : {c : CbrConfig} {w : CbrWriter} (x : Creation c w) → Fresh (freshWriter c (x .model))
+unfolding freshWriter allFit
+fresh-writer {c} x =
     let a = made _ (x .model) (x .model-is) in
     let f = config-bounds c (x .ranges) in
-    let t : Shares (x .model .params) (c .«b_between») (c .«anchors_per_gop»)
+    let t : TargetsFit (x .model .params) (c .«b_between») (c .«anchors_per_gop»)
     = shared-out _ (x .model) _ _ (x .model-is) (omega (arith, f .0 .rate-high)) (f .0 .between-high) (f .0 .anchors-high) in
     record {
       inv =
@@ -246,5 +246,5 @@ fresh {c} x =
       unstuffed = refl;
     }
 
-pub created : (c : CbrConfig) (w : CbrWriter) → create c ≡ value w → Fresh w
-created c w h = let x = creation c w h in rw (← x .writer-is) (fresh x)
+pub created-fresh : (c : CbrConfig) (w : CbrWriter) → create c ≡ value w → Fresh w
+created-fresh c w h = let x = creation-found c w h in rw (← x .writer-is) (fresh-writer x)

@@ -51,6 +51,6 @@ withdraw-numbered w = pick-elim (Numbered (12 ∷ []) [] []) _ (λ e. by-number 
 pub writer-numbers : WriterNumbers
 writer-numbers = record { creation = created-numbered; offers = offer-numbered; withdrawals = withdraw-numbered }
 
-pub withdraws : (w : CbrWriter) → writerFits w ≡ true → withdraw w ≡ value (withPending w Nothing)
+pub withdraw-answer : (w : CbrWriter) → writerFits w ≡ true → withdraw w ≡ value (withPending w Nothing)
 unfolding withdraw pick
-withdraws w f = rw f
+withdraw-answer w f = rw f

@@ -13,7 +13,7 @@ use Rattle.bits.specs.Bits.{pick}
 use Rattle.bits.proofs.Appending.{lt-or-le}
 use Rattle.vbv.specs.Model.{modelFits}
 use Rattle.layers.specs.declared.PictureKind.{PictureKind}
-use Rattle.rate_control.specs.Writer.{every, quantiser, pendingFits, writerFits}
+use Rattle.rate_control.specs.Writer.{allFit, quantiserFits, pendingFits, writerFits}
 use Rattle.bits.specs.Refusals.{value, refused, orElse}
 use Rattle.rate_control.specs.Offer.{withPending, withdraw}
 use Rattle.rate_control.specs.declared.Pending.{Pending}
@@ -21,21 +21,21 @@ use Rattle.rate_control.specs.declared.Pending.the-variants.{Nothing, Wa
 use Rattle.rate_control.specs.declared.CbrWriter.{CbrWriter}
 
 -- a test of each of three
-pub every-three : (f : ℕ → Bool) (s : List ℕ) → length s ≡ 3 → (f (getD s 0 0) && (f (getD s 1 0) && f (getD s 2 0))) ≡ every f s
-unfolding every
-every-three f [] e = absurd (omega arith)
-every-three f (a ∷ []) e = absurd (omega arith)
-every-three f (a ∷ b ∷ []) e = absurd (omega arith)
-every-three f (a ∷ b ∷ d ∷ []) e = rw (and-true (f d))
+pub all-fit-three : (f : ℕ → Bool) (s : List ℕ) → length s ≡ 3 → (f (getD s 0 0) && (f (getD s 1 0) && f (getD s 2 0))) ≡ allFit f s
+unfolding allFit
+all-fit-three f [] e = absurd (omega arith)
+all-fit-three f (a ∷ []) e = absurd (omega arith)
+all-fit-three f (a ∷ b ∷ []) e = absurd (omega arith)
+all-fit-three f (a ∷ b ∷ d ∷ []) e = rw (and-true (f d))
   where
     and-true : (t : Bool) → (t && true) ≡ t
     and-true true = refl
     and-true false = refl
-every-three f (a ∷ b ∷ d ∷ w ∷ s) e = absurd (omega arith)
+all-fit-three f (a ∷ b ∷ d ∷ w ∷ s) e = absurd (omega arith)
 
-pub quantisers-told : (s : List ℕ) (a b d : Bool) → length s ≡ 3 → a ≡ quantiser (getD s 0 0) → b ≡ quantiser (getD s 1 0) → d ≡ quantiser (getD s 2 0)
-    → (a && (b && d)) ≡ every quantiser s
-quantisers-told s a b d l e f g = rw (e, f, g) (every-three quantiser s l)
+pub quantisers-told : (s : List ℕ) (a b d : Bool) → length s ≡ 3 → a ≡ quantiserFits (getD s 0 0) → b ≡ quantiserFits (getD s 1 0) → d ≡ quantiserFits (getD s 2 0)
+    → (a && (b && d)) ≡ allFit quantiserFits s
+quantisers-told s a b d l e f g = rw (e, f, g) (all-fit-three quantiserFits s l)
 
 -- bytes against bits
 bytes-bits : (n b : ℕ) → leb n (b / 8) ≡ leb (8 * n) b
@@ -45,21 +45,21 @@ bytes-bits n b =
     (λ (h : n ≤ b / 8). le-leb n (b / 8) h ∙ sym (le-leb (8 * n) b (omega arith)))
     (lt-or-le (b / 8) n)
 
-pub writer-fits : (w : CbrWriter) (f t q p : Bool) → f ≡ modelFits (w .model) → t ≡ every (λ x. leb x (2 ^ 48)) (w .«target_bits»)
-    → q ≡ every quantiser (w .q) → p ≡ pendingFits (w .pending)
+pub writer-tested : (w : CbrWriter) (f t q p : Bool) → f ≡ modelFits (w .model) → t ≡ allFit (λ x. leb x (2 ^ 48)) (w .«target_bits»)
+    → q ≡ allFit quantiserFits (w .q) → p ≡ pendingFits (w .pending)
     → (f && (eqb (w .model .«prev_end_bits» % 8) 0
     && (leb (w .model .removed) (w .model .«prev_end_bits» / 8)
     && (leb (w .«stuffing_bytes») (w .model .«prev_end_bits» / 8) && (t && (q && p))))))
     ≡ writerFits w
 unfolding writerFits
-writer-fits w f t q p a b d e =
+writer-tested w f t q p a b d e =
     rw (a, b, d, e, bytes-bits (w .model .removed) (w .model .«prev_end_bits»), bytes-bits (w .«stuffing_bytes») (w .model .«prev_end_bits»))
 
 pub pending-none : (p : Pending) → p ≡ Nothing → true ≡ pendingFits p
 unfolding pendingFits
 pending-none p e = rw e
 
-pub pending-some : (p : Pending) (k : PictureKind) (n : ℕ) (r : Bool) → p ≡ Waits k n → r ≡ quantiser n → r ≡ pendingFits p
+pub pending-some : (p : Pending) (k : PictureKind) (n : ℕ) (r : Bool) → p ≡ Waits k n → r ≡ quantiserFits n → r ≡ pendingFits p
 unfolding pendingFits
 pending-some p k n r e h = rw (e, h)
 

@@ -39,13 +39,13 @@ unfoldable pub position : CbrWriter → Offer → ℕ
 position w o = w .model .«prev_end_bits» + 8 * (length (o .headers) + 4)
 
 -- the sequence's end follows the last picture
-unfoldable pub tail : Bool → List ℕ
-tail true = sequenceEndCode
-tail false = []
+unfoldable pub endCode : Bool → List ℕ
+endCode true = sequenceEndCode
+endCode false = []
 
 -- where headers, layer and the sequence's end come to
 unfoldable pub content : CbrWriter → Offer → ℕ
-content w o = w .model .«prev_end_bits» + 8 * (length (o .headers) + length (o .layer) + length (tail (o .last)))
+content w o = w .model .«prev_end_bits» + 8 * (length (o .headers) + length (o .layer) + length (endCode (o .last)))
 
 -- the first delay: three quarters of the buffer
 unfoldable pub firstDelay : VbvParams → ℕ
@@ -77,8 +77,8 @@ unfolding position deliveredAt
 delay w o = expectedDelay (w .model .params) (position w o) (deliveredAt w o)
 
 unfoldable pub placedBytes : CbrWriter → Offer → List ℕ
-unfolding delay stuffing tail
-placedBytes w o = o .headers ++ (patched (o .layer) (delay w o) ++ (replicate (stuffing w o) 0 ++ tail (o .last)))
+unfolding delay stuffing endCode
+placedBytes w o = o .headers ++ (patched (o .layer) (delay w o) ++ (replicate (stuffing w o) 0 ++ endCode (o .last)))
 
 -- ---- the answers
 
@@ -123,7 +123,7 @@ withPlaced w o = record {
 
 -- the writer that an answer leaves: a refusal changes nothing, 21 excepted, which closes the pending picture
 abbrev pub leftBy : CbrWriter → Offer → Answer Given → CbrWriter
-leftBy w o (value (placed q delay bytes zeros)) = withPlaced w o
+leftBy w o (value (placed q delay bytes stuffing)) = withPlaced w o
 leftBy w o (value (again q)) = withPending w (Waits (o .kind) q)
 leftBy w o (refused n picture coded expected) = pick (eqb n 21) (withPending w Nothing) w
 
@@ -132,7 +132,7 @@ left w o = leftBy w o (offer w o)
 
 -- what the output part then holds: the bytes placed over its first ones; as it was, where none are placed
 abbrev pub outOf : Answer Given → List ℕ → List ℕ → List ℕ
-outOf (value (placed q delay n zeros)) bytes out = over bytes out
+outOf (value (placed q delay n stuffing)) bytes out = over bytes out
 outOf (value (again q)) bytes out = out
 outOf (refused n picture coded expected) bytes out = out
 

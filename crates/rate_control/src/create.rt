@@ -3,7 +3,7 @@ ghost use mathlib.Core.Path.{_≡_};
 ghost use Rattle.bits.specs.Refusals.{orElse};
 ghost use Rattle.rate_control.specs.Answers.{createdAnswer};
 ghost use Rattle.rate_control.specs.Create.{within as withinOf, configFits, freshWriter, noWriter, create as createOf};
-ghost use Rattle.rate_control.specs.Steps.{ConfigFits, Shares, notCreated, Creates, withRate};
+ghost use Rattle.rate_control.specs.Steps.{ConfigFits, TargetsFit, notCreated, Creates, withRate};
 ghost use Rattle.rate_control.specs.Targets.{targets};
 use crate::CbrConfig;
 use crate::CbrCreated;
@@ -24,7 +24,7 @@ fn within(low: u64, high: u64, value: u64) -> bool
 
 // The bits of a group of pictures, shared out by weight.
 fn type_target_bits(params: VbvParams, b_between: u64, anchors_per_gop: u64) -> [u64; 3]
-    requires { ⌜ Shares params «b_between» «anchors_per_gop» ⌝ }
+    requires { ⌜ TargetsFit params «b_between» «anchors_per_gop» ⌝ }
     ensures { λ r. ⌜ r ≡ targets params «b_between» «anchors_per_gop» ⌝ }
 {
     let pictures = 1 + anchors_per_gop * (b_between + 1);
@@ -89,7 +89,7 @@ impl CbrConfig {
 
     // Nothing placed, nothing pending, every kind at the given quantiser.
     fn fresh(self, model: VbvCbrModel) -> CbrWriter
-        requires { ⌜ Shares (model .params) (self .«b_between») (self .«anchors_per_gop») ⌝ }
+        requires { ⌜ TargetsFit (model .params) (self .«b_between») (self .«anchors_per_gop») ⌝ }
         ensures { λ r. ⌜ r ≡ freshWriter self model ⌝ }
     {
         let params = model.params;

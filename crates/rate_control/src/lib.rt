@@ -1,6 +1,6 @@
 // The constant-rate writer: creation, offers of pictures and withdrawals (paper 01, 'A placed picture').
 ghost use mathlib.Core.Path.{_≡_};
-ghost use Rattle.rate_control.specs.Answers.{refusalOf};
+ghost use Rattle.rate_control.specs.Answers.{offerRefusal};
 
 mod create; // creation, and the targets
 mod state; // the ranges of a state, and what it keeps for each kind
@@ -121,7 +121,7 @@ struct Placement {
 }
 
 // What the tests of an offer come to, but for the room in the output part.
-enum Judged {
+enum Tested {
     Refused(CbrError),
     TooLarge,
     Ready(Placement),
@@ -130,7 +130,7 @@ enum Judged {
 impl CbrError {
     // Paper 01's number, and what the refusal carries (docs/REFUSALS.md).
     pub fn refusal(self) -> VbvRefusal
-        ensures { λ r. ⌜ r ≡ refusalOf self ⌝ }
+        ensures { λ r. ⌜ r ≡ offerRefusal self ⌝ }
     {
         match self {
             CbrError::Model(e) => VbvVerifyError::Model(e).refusal(),

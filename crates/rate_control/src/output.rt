@@ -6,7 +6,7 @@ ghost use lib.ListN.{length, replicate};
 ghost use lib.Seq.{sets};
 ghost use Rattle.bits.specs.Answers.{over};
 ghost use Rattle.vbv.specs.Patch.{patched};
-ghost use Rattle.rate_control.specs.Offer.{tail};
+ghost use Rattle.rate_control.specs.Offer.{endCode};
 
 const SEQUENCE_END_CODE: [u8; 4] = *b"\x00\x00\x01\xB7";
 
@@ -38,8 +38,8 @@ fn put_zeros(out: &mut [u8], at: usize, zeros: usize)
 
 // The sequence's end at place `at`, after the last picture.
 fn put_end(out: &mut [u8], at: usize, last: bool)
-    requires { ⌜ at + length (tail last) ≤ length (now out) ⌝ }
-    ensures { λ r. ⌜ now (out .exit) ≡ sets (now (out .entry)) at (tail last) ⌝ }
+    requires { ⌜ at + length (endCode last) ≤ length (now out) ⌝ }
+    ensures { λ r. ⌜ now (out .exit) ≡ sets (now (out .entry)) at (endCode last) ⌝ }
 {
     if last {
         put(out, at, &SEQUENCE_END_CODE);
@@ -55,8 +55,8 @@ pub(crate) fn put_placed(
     zeros: usize,
     last: bool,
 )
-    requires { ⌜ length (now headers) + length (now layer) + zeros + length (tail last) ≤ length (now out) ⌝ }
-    ensures { λ r. ⌜ now (out .exit) ≡ over (now (headers .entry) ++ (patched (now (layer .entry)) «vbv_delay» ++ (replicate zeros 0 ++ tail last))) (now (out .entry)) ⌝ }
+    requires { ⌜ length (now headers) + length (now layer) + zeros + length (endCode last) ≤ length (now out) ⌝ }
+    ensures { λ r. ⌜ now (out .exit) ≡ over (now (headers .entry) ++ (patched (now (layer .entry)) «vbv_delay» ++ (replicate zeros 0 ++ endCode last))) (now (out .entry)) ⌝ }
 {
     let picture = headers.len();
     let behind = picture + layer.len();

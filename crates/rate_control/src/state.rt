@@ -2,7 +2,7 @@
 ghost use mathlib.Core.Path.{_≡_};
 ghost use Prim.Native.Nat.{_+_, _-_, _^_, _≤_, _<_, min, max};
 ghost use lib.Dec.{leb};
-ghost use Rattle.rate_control.specs.Writer.{quantiser as quantiserOf, every, pendingFits, writerFits, index as indexOf, clashes as clashesOf, asked as askedOf, coarser as coarserOf, steered as steeredOf};
+ghost use Rattle.rate_control.specs.Writer.{quantiserFits, allFit, pendingFits, writerFits, index as indexOf, clashes as clashesOf, asked, coarser as coarserOf, steered as steeredOf};
 use crate::CbrWriter;
 use crate::Pending;
 use layers::PictureKind;
@@ -11,19 +11,19 @@ use layers::PictureKind;
 const FAR: u64 = 281474976710656;
 
 fn quantiser(q: u8) -> bool
-    ensures { λ r. ⌜ r ≡ quantiserOf q ⌝ }
+    ensures { λ r. ⌜ r ≡ quantiserFits q ⌝ }
 {
     (1 <= q) & (q <= 31)
 }
 
 fn all_quantisers(q: [u8; 3]) -> bool
-    ensures { λ r. ⌜ r ≡ every quantiserOf q ⌝ }
+    ensures { λ r. ⌜ r ≡ allFit quantiserFits q ⌝ }
 {
     quantiser(q[0]) & (quantiser(q[1]) & quantiser(q[2]))
 }
 
 fn all_targets(target_bits: [u64; 3]) -> bool
-    ensures { λ r. ⌜ r ≡ every (λ t. leb t (2 ^ 48)) «target_bits» ⌝ }
+    ensures { λ r. ⌜ r ≡ allFit (λ t. leb t (2 ^ 48)) «target_bits» ⌝ }
 {
     (target_bits[0] <= FAR) & ((target_bits[1] <= FAR) & (target_bits[2] <= FAR))
 }
@@ -103,7 +103,7 @@ pub(crate) fn steered(q: u8, target: u64, bits: u64) -> u8
 impl CbrWriter {
     // The quantiser that a layer is asked for with: the pending picture's, or the kind's.
     pub(crate) fn asked(self, kind: PictureKind) -> u8
-        ensures { λ r. ⌜ r ≡ askedOf self kind ⌝ }
+        ensures { λ r. ⌜ r ≡ asked self kind ⌝ }
     {
         let pending = self.pending;
         let q = self.q;

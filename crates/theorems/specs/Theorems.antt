@@ -12,9 +12,9 @@ use Rattle.verify.specs.Accepted.{AcceptedExactly, NothingCut}
 use Rattle.verify.specs.Due.{CheckDue}
 use Rattle.verify.specs.Numbers.{CheckNumbers}
 use Rattle.verify.specs.Recording.{RecordsYielded, RecordsCounted, RecordsSmall}
-use Rattle.rate_control.specs.Demand.{Owed as Demand3}
+use Rattle.rate_control.specs.Demand.{Demand3}
 use Rattle.rate_control.specs.Numbers.{WriterNumbers}
-use Rattle.rate_control.specs.Figures.{Figures, Shares, Rules, Steering}
+use Rattle.rate_control.specs.Figures.{WriterFigures, TargetFigures, Rules, Steering}
 use Rattle.hipokuta.specs.Calls.{OwedFromC, OwedOfRefusals}
 use Rattle.hipokuta.specs.Numbers.{Numbers as EntryNumbers}
 
@@ -90,9 +90,9 @@ pub record Theorems : Type 0 where
   pub entry-numbers : EntryNumbers
   -- ---- figures
   -- The figures of paper 01 that are marked P.
-  pub figures : Figures
+  pub writer-figures : WriterFigures
   -- The target of each kind, and targets where a picture's bits are no whole number.
-  pub shares : Shares
+  pub target-figures : TargetFigures
   -- The first delay for every rate and buffer; further steps of a retry.
   pub rules : Rules
   -- The edges of the rule by which a quantiser goes up, stays or goes down.

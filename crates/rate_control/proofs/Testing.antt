@@ -28,14 +28,14 @@ use Rattle.vbv.proofs.Told.{next-told}
 use Rattle.vbv.proofs.Named.{starts-named, removal-named, delays-named, max-named, min-named}
 use Rattle.vbv.proofs.After.{after-same}
 use Rattle.rate_control.specs.Writer.{writerFits}
-use Rattle.rate_control.specs.Offer.{Offer, position, content, end, firstDelay, deliveredAt, deliveredNext, stuffing, delay, tail, placedBytes}
-use Rattle.rate_control.specs.Steps.{startedAt, zeros, byDelay, byEnd, violated, bySize, byMost, withZeros, byLeast, byStart, extentOf, within14, measured}
+use Rattle.rate_control.specs.Offer.{Offer, position, content, end, firstDelay, deliveredAt, deliveredNext, stuffing, delay, endCode, placedBytes}
+use Rattle.rate_control.specs.Steps.{startedAt, stuffingUpTo, readyBy, byEnd, violated, bySize, byMost, withStuffing, byLeast, byStart, extentOf, within14, measured}
 use Rattle.rate_control.specs.declared.CbrWriter.{CbrWriter}
 use Rattle.rate_control.specs.declared.CbrError.the-variants.{Model, Violation, Stuffing}
 use Rattle.rate_control.specs.declared.Extent.{Extent}
 use Rattle.rate_control.specs.declared.Placement.{Placement}
-use Rattle.rate_control.specs.declared.Judged.{Judged}
-use Rattle.rate_control.specs.declared.Judged.the-variants.{Refused, TooLarge, Ready}
+use Rattle.rate_control.specs.declared.Tested.{Tested}
+use Rattle.rate_control.specs.declared.Tested.the-variants.{Refused, TooLarge, Ready}
 use Rattle.rate_control.proofs.Fitting.{writer-fits}
 use Rattle.rate_control.proofs.Placing.{delivered-later, delivered-first, placed-size}
 use Rattle.rate_control.proofs.Ways.{first-low}
@@ -82,7 +82,7 @@ placement w o = record {
   «stuffing_bytes» = stuffing w o;
 }
 
-unfoldable pub measuredFor : CbrWriter → Offer → Judged
+unfoldable pub measuredFor : CbrWriter → Offer → Tested
 measuredFor w o =
     pick (ltb (2 ^ 48) (position w o) || ltb (2 ^ 48) (end w o)) (Refused (Model Range))
     (pick (beyond (w .model .params) (position w o) (deliveredAt w o)) (Refused (Model Early))
@@ -93,7 +93,7 @@ measuredFor w o =
 
 -- ---- the model that the pending picture is removed from
 
-pub record Begun (w : CbrWriter) (o : Offer) (n : VbvCbrModel) : Type 0 where
+pub record StartedFor (w : CbrWriter) (o : Offer) (n : VbvCbrModel) : Type 0 where
   pub fits : modelFits n ≡ true
   pub is-started : n .started ≡ true
   pub same-params : n .params ≡ w .model .params
@@ -101,23 +101,23 @@ pub record Begun (w : CbrWriter) (o : Offer) (n : VbvCbrModel) : Type 0 where
   pub same-count : n .removed ≡ w .model .removed
   pub delivered-is : delivered n ≡ deliveredAt w o
 
-pub record BegunAt (w : CbrWriter) (o : Offer) : Type 0 where
+pub record StartedModel (w : CbrWriter) (o : Offer) : Type 0 where
   pub model : VbvCbrModel
   pub started-is : startedAt (w .model) (position w o) ≡ md.Model model
-  pub begun : Begun w o model
+  pub begun : StartedFor w o model
 
 first-small : (p : VbvParams) → paramsFit p ≡ true → firstDelay p < 65536
 unfolding firstDelay
 first-small p f = first-low p (params-fit f)
 
-begin : (w : CbrWriter) (o : Offer) → writerFits w ≡ true → position w o ≤ 2 ^ 48 → BegunAt w o
+start-model : (w : CbrWriter) (o : Offer) → writerFits w ≡ true → position w o ≤ 2 ^ 48 → StartedModel w o
 unfolding startedAt
-begin w o f h = go (w .model .started) refl
+start-model w o f h = go (w .model .started) refl
   where
     fitted : modelFits (w .model) ≡ true
     fitted = writer-fits f .model-fits
 
-    go : (t : Bool) → w .model .started ≡ t → BegunAt w o
+    go : (t : Bool) → w .model .started ≡ t → StartedModel w o
     go true e =
         record {
           model = w .model;
@@ -146,7 +146,7 @@ begin w o f h = go (w .model .started) refl
 
 -- the picture in the stream
 abbrev pub extent : CbrWriter → Offer → Extent
-extent w o = record { position = position w o; content = content w o; bytes = length (o .headers) + length (o .layer) + length (tail (o .last)) }
+extent w o = record { position = position w o; content = content w o; bytes = length (o .headers) + length (o .layer) + length (endCode (o .last)) }
 
 extent-is : (w : CbrWriter) (o : Offer) → extentOf (w .model) (length (o .headers)) (length (o .layer)) (o .last) ≡ extent w o
 unfolding extentOf position content
@@ -159,15 +159,15 @@ end-same w o = refl
 -- the cases of each test
 module _ (m : VbvCbrModel) (x : Extent) (z : ℕ) (i : RemovalInterval) where
   delay-case : (next : VbvCbrModel) (d : ℕ)
-      → byDelay next x z (dl.Delay d) ≡ Ready (record { model = next; «vbv_delay» = d; bytes = x .bytes + z; «stuffing_bytes» = z })
-  unfolding byDelay
+      → readyBy next x z (dl.Delay d) ≡ Ready (record { model = next; «vbv_delay» = d; bytes = x .bytes + z; «stuffing_bytes» = z })
+  unfolding readyBy
   delay-case next d = refl
 
   end-violated : (v : VbvViolation) → byEnd m x z (rm.Violation v) ≡ Refused Stuffing
   unfolding byEnd
   end-violated v = refl
 
-  end-model : (next : VbvCbrModel) → byEnd m x z (rm.Model next) ≡ byDelay next x z (delayOf (delayForPicture m (x .position)))
+  end-model : (next : VbvCbrModel) → byEnd m x z (rm.Model next) ≡ readyBy next x z (delayOf (delayForPicture m (x .position)))
   unfolding byEnd
   end-model next = refl
 
@@ -187,7 +187,7 @@ module _ (m : VbvCbrModel) (x : Extent) (z : ℕ) (i : RemovalInterval) where
   unfolding byMost
   most-case most = refl
 
-module _ (w : CbrWriter) (o : Offer) (f : writerFits w ≡ true) (n : VbvCbrModel) (b : Begun w o n) where
+module _ (w : CbrWriter) (o : Offer) (f : writerFits w ≡ true) (n : VbvCbrModel) (b : StartedFor w o n) where
   abbrev p : VbvParams
   p = w .model .params
 
@@ -236,7 +236,7 @@ module _ (w : CbrWriter) (o : Offer) (f : writerFits w ≡ true) (n : VbvCbrMode
   -- in time and no overflow: the delay can be measuredFor
   ready-told : position w o ≤ 2 ^ 48 → beyond p (position w o) (deliveredAt w o) ≡ false
       → overflows p (w .model .«prev_end_bits») (deliveredAt w o) ≡ false
-      → byDelay (afterRemoval (w .model) (end w o) (deliveredNext w o)) x (stuffing w o) (delayOf (delayForPicture n (position w o))) ≡ Ready (placement w o)
+      → readyBy (afterRemoval (w .model) (end w o) (deliveredNext w o)) x (stuffing w o) (delayOf (delayForPicture n (position w o))) ≡ Ready (placement w o)
   unfolding placement delay
   ready-told h t g =
       let e : beyond (n .params) (position w o) (delivered n) ≡ false = rw (b .delivered-is, b .same-params) t in
@@ -279,7 +279,7 @@ module _ (w : CbrWriter) (o : Offer) (f : writerFits w ≡ true) (n : VbvCbrMode
 -- ---- 14
 
 module _ (w : CbrWriter) (o : Offer) where
-  abbrev Same : Judged → Type 0
+  abbrev Same : Tested → Type 0
   Same j = j ≡ measuredFor w o
 
   far-told : 281474976710656 < max (position w o) (end w o) → Refused (Model Range) ≡ measuredFor w o
@@ -287,19 +287,19 @@ module _ (w : CbrWriter) (o : Offer) where
   far-told h = sym (one _ _ _ (either (position w o) (end w o) h))
 
   module _ (f : writerFits w ≡ true) where
-    zeros-told : (n : VbvCbrModel) → Begun w o n → position w o ≤ 2 ^ 48 → withZeros n (extent w o) (o .interval) (stuffing w o) ≡ measuredFor w o
-    unfolding withZeros
-    zeros-told n b near =
+    stuffed-told : (n : VbvCbrModel) → StartedFor w o n → position w o ≤ 2 ^ 48 → withStuffing n (extent w o) (o .interval) (stuffing w o) ≡ measuredFor w o
+    unfolding withStuffing
+    stuffed-told n b near =
         pick-elim Same _ (λ e. far-told (omega (arith, ltb-true (2 ^ 45) (stuffing w o) e, end-same w o))) λ z.
         pick-elim Same _ (λ e. far-told (omega (arith, ltb-true (2 ^ 48) (content w o + 8 * stuffing w o) e, end-same w o))) λ e.
         position-told w o f n b near (omega (arith, ltb-false (2 ^ 48) (content w o + 8 * stuffing w o) e, end-same w o))
 
     start-told : position w o ≤ 2 ^ 48
         → byStart (extent w o) (o .interval) (o .last) (startedAt (w .model) (position w o)) ≡ measuredFor w o
-    unfolding byStart byLeast zeros stuffing
+    unfolding byStart byLeast stuffingUpTo stuffing
     start-told near =
-        let g = begin w o f near in
-        rw (g .started-is, least-told w o f (g .model) (g .begun)) (zeros-told (g .model) (g .begun) near)
+        let g = start-model w o f near in
+        rw (g .started-is, least-told w o f (g .model) (g .begun)) (stuffed-told (g .model) (g .begun) near)
 
     bytes-far : 35184372088832 < max (length (o .headers)) (length (o .layer)) → 281474976710656 < max (position w o) (end w o)
     unfolding position content
