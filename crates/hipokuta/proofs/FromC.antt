@@ -16,7 +16,7 @@ use Rattle.rate_control.specs.Offer.{withdraw}
 use Rattle.rate_control.specs.Calls.{Call, offering, withdrawing, stepsOf, final, leftByCall}
 use Rattle.rate_control.specs.declared.CbrConfig.{CbrConfig}
 use Rattle.rate_control.specs.declared.CbrWriter.{CbrWriter}
-use Rattle.rate_control.proofs.Creation.{creation-found as made}
+use Rattle.rate_control.proofs.Creation.{creation-found}
 use Rattle.rate_control.proofs.Demand.{demand}
 use Rattle.rate_control.proofs.Lists.{steps-none, steps-one, steps-append, final-none, final-one, final-append, left-by-offer, left-by-withdrawal, step-offer, step-withdrawal}
 use Rattle.rate_control.proofs.Keeping.{Whole, created-whole, left-whole, final-whole}
@@ -127,9 +127,9 @@ created-state : (c : CbrConfig) (w : CbrWriter) (place : List ℕ) → create c 
 unfolding creation stateAfter pick
 created-state c w place h e = rw (e, h)
 
-accepted : (c : CbrConfig) (w : CbrWriter) (place : List ℕ) → create c ≡ value w → ltb (length place) 152 ≡ false → FromCreation c place
-accepted c w place h e =
-    let m = made c w h in
+created-from : (c : CbrConfig) (w : CbrWriter) (place : List ℕ) → create c ≡ value w → ltb (length place) 152 ≡ false → FromCreation c place
+created-from c w place h e =
+    let m = creation-found c w h in
     let s = created-state c w place h e in
     record {
       rate = m .frames;
@@ -149,5 +149,5 @@ from-c c place n = go (ltb (length place) 152) (create c) refl refl n
   where
     go : (t : Bool) (a : Answer CbrWriter) → ltb (length place) 152 ≡ t → create c ≡ a → number (pick t (refused 19 0 0 0) a) ≡ 0 → FromCreation c place
     go true a e f h = absurd (omega arith)
-    go false (value w) e f h = accepted c w place f e
+    go false (value w) e f h = created-from c w place f e
     go false (refused m k i j) e f h = absurd (omega (arith, refused-low refl refl refl (writer-numbers .creation c) f))

@@ -15,7 +15,7 @@ use Rattle.rate_control.specs.declared.CbrConfig.{CbrConfig}
 use Rattle.rate_control.proofs.Refusing.{writer-numbers}
 use Rattle.hipokuta.specs.Check.{checked}
 use Rattle.hipokuta.specs.Send.{creation, COffer, reach, answered, withdrawal}
-use Rattle.hipokuta.specs.Numbers.{Numbers}
+use Rattle.hipokuta.specs.Numbers.{EntryNumbers}
 
 abbrev Checks : Answer Accepted → Type 0
 Checks a = Numbered (19 ∷ 12 ∷ 14 ∷ 3 ∷ 1 ∷ 2 ∷ 6 ∷ 4 ∷ 5 ∷ 15 ∷ 7 ∷ 8 ∷ []) [] (11 ∷ 9 ∷ 10 ∷ []) a
@@ -51,7 +51,7 @@ withdrawal-numbered : (s : List ℕ) → Numbered (12 ∷ []) [] [] (withdrawal 
 unfolding withdrawal
 withdrawal-numbered s = pick-elim (Numbered (12 ∷ []) [] []) _ (λ e. by-number refl) λ e. wider refl refl refl (writer-numbers .withdrawals _)
 
-pub numbers : Numbers
+pub numbers : EntryNumbers
 numbers = record {
   vbv-check = checked-numbered;
   vbv-patch-delay = model-numbers .patch;

@@ -17,7 +17,7 @@ use Rattle.rate_control.specs.declared.CbrWriter.{CbrWriter}
 use Rattle.rate_control.specs.declared.Pending.the-variants.{Nothing}
 use Rattle.rate_control.proofs.Placing.{room-enough}
 use Rattle.rate_control.proofs.Keeping.{refused-keeps, refused-closes, refused-out, withdraw-unpending}
-use Rattle.rate_control.proofs.Refusing.{withdraw-answer}
+use Rattle.rate_control.proofs.States.{withdraw-answer}
 use Rattle.layout.specs.State.{stateBytes, stateFits, writerAt}
 use Rattle.words.specs.Words.{laid}
 use Rattle.layout.proofs.RoundTrip.{read-back, state-fits}
@@ -62,8 +62,8 @@ module _ (s : List ℕ) (o : COffer) (b : Bytes s) where
   withdrawn-state f = rw (f, withdraw-answer w (state-fits s f .2))
 
   -- number, state and output part, by how far the offer comes
-  abbrev told : Answer (CbrWriter × Offer) → ℕ
-  told r = number (andThen r (λ x. offer (x .0) (x .1)))
+  abbrev toldNumber : Answer (CbrWriter × Offer) → ℕ
+  toldNumber r = number (andThen r (λ x. offer (x .0) (x .1)))
 
   abbrev leaves : Answer (CbrWriter × Offer) → List ℕ
   leaves r = stateAfter (andThen r (λ x. value (left (x .0) (x .1)))) s
@@ -71,7 +71,7 @@ module _ (s : List ℕ) (o : COffer) (b : Bytes s) where
   abbrev puts : Answer (CbrWriter × Offer) → List ℕ
   puts r = orElse (o .out) (andThen r (λ x. value (outAfter (x .0) (x .1))))
 
-  state-kept : {r : Answer (CbrWriter × Offer)} → Way s o r → 1 ≤ told r → (told r ≡ 21 → ⊥) → leaves r ≡ s
+  state-kept : {r : Answer (CbrWriter × Offer)} → Way s o r → 1 ≤ toldNumber r → (toldNumber r ≡ 21 → ⊥) → leaves r ≡ s
   unfolding stateAfter
   state-kept (stops n k l) h t = refl
   state-kept (reaches f) h t = go (offer w p) refl h t
@@ -80,7 +80,7 @@ module _ (s : List ℕ) (o : COffer) (b : Bytes s) where
       go (value g) e h t = absurd (omega arith)
       go (refused n k c x) e h t = same-writer f (refused-keeps w p e t)
 
-  closing : {r : Answer (CbrWriter × Offer)} → Way s o r → told r ≡ 21 → leaves r ≡ stateAfter (withdrawal s) s
+  closing : {r : Answer (CbrWriter × Offer)} → Way s o r → toldNumber r ≡ 21 → leaves r ≡ stateAfter (withdrawal s) s
   unfolding stateAfter
   closing (stops n k l) h = absurd (omega arith)
   closing (reaches f) h = go (offer w p) refl h
@@ -89,7 +89,7 @@ module _ (s : List ℕ) (o : COffer) (b : Bytes s) where
       go (value g) e h = absurd (omega arith)
       go (refused n k c x) e h = rw (withdrawn-state f, refused-closes w p e (state-fits s f .2) h)
 
-  out-kept : {r : Answer (CbrWriter × Offer)} → Way s o r → 1 ≤ told r → puts r ≡ o .out
+  out-kept : {r : Answer (CbrWriter × Offer)} → Way s o r → 1 ≤ toldNumber r → puts r ≡ o .out
   unfolding offerOf
   out-kept (stops n k l) h = refl
   out-kept (reaches f) h = go (offer w p) refl h
@@ -106,7 +106,7 @@ module _ (s : List ℕ) (o : COffer) (b : Bytes s) where
       go true f = withdrawn-state f ∙ same-writer f (withdraw-unpending w n)
       go false f = rw f
 
-  room-kept : {r : Answer (CbrWriter × Offer)} → Way s o r → 72 ≤ length (o .answer) → w .model .params .«buffer_size_bits» ≤ 8 * length (o .out) → told r ≡ 19 → ⊥
+  room-kept : {r : Answer (CbrWriter × Offer)} → Way s o r → 72 ≤ length (o .answer) → w .model .params .«buffer_size_bits» ≤ 8 * length (o .out) → toldNumber r ≡ 19 → ⊥
   unfolding offerOf
   room-kept (stops n k m) a l h = omega (arith, k a)
   room-kept (reaches f) a l h = room-enough w p l h

@@ -26,12 +26,12 @@ use Rattle.rate_control.specs.declared.CbrOffered.{CbrOffered}
 use Rattle.rate_control.specs.declared.CbrWithdrawal.the-variants.{Withdrawn, Refused as NotWithdrawn}
 use Rattle.rate_control.specs.declared.CbrWithdrawn.{CbrWithdrawn}
 use Rattle.rate_control.proofs.Creation.{within-is}
-use Rattle.rate_control.proofs.Refusing.{withdraw-answer}
+use Rattle.rate_control.proofs.States.{withdraw-answer}
 use Rattle.layout.specs.Answers.{answerWords}
 use Rattle.layout.specs.State.{stateBytes, writerAt, stateAt}
 use Rattle.words.specs.Words.{wordsBytes, laid}
 use Rattle.layout.specs.declared.CbrState.{CbrState}
-use Rattle.layout.proofs.Answering.{length-refused}
+use Rattle.layout.proofs.Answering.{length-refused-answer}
 use Rattle.layout.proofs.Held.{holds, holds-none}
 use Rattle.layout.proofs.RoundTrip.{state-fits}
 use Rattle.words.proofs.Laying.{laid-short}
@@ -94,7 +94,7 @@ module _ (s : List ℕ) (o : COffer) where
       pub no-answer-place : length (o .answer) < 72 → Leaves 19 s (o .out) (o .answer)
       unfolding reach pick
       no-answer-place l =
-          let short = laid-short (wordsBytes (answerWords (refused 19 0 0 0))) (o .answer) (omega (arith, length-refused 19 0 0 0)) in
+          let short = laid-short (wordsBytes (answerWords (refused 19 0 0 0))) (o .answer) (omega (arith, length-refused-answer 19 0 0 0)) in
           stopped 19 (rw (holds s x e h .0, lt-ltb (length (o .answer)) 72 l)) refl (sym short)
 
       module _ (l : 72 ≤ length (o .answer)) where

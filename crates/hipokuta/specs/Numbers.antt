@@ -8,7 +8,7 @@ use Rattle.rate_control.specs.declared.CbrConfig.{CbrConfig}
 use Rattle.hipokuta.specs.Check.{checked}
 use Rattle.hipokuta.specs.Send.{creation, COffer, answered, withdrawal}
 
-pub record Numbers : Type 0 where
+pub record EntryNumbers : Type 0 where
   pub vbv-check : (s : List ℕ) (standard : ℕ) (report recs refusal : List ℕ)
       → Numbered (19 ∷ 12 ∷ 14 ∷ 3 ∷ 1 ∷ 2 ∷ 6 ∷ 4 ∷ 5 ∷ 15 ∷ 7 ∷ 8 ∷ []) [] (11 ∷ 9 ∷ 10 ∷ []) (checked s standard report recs refusal)
   pub vbv-patch-delay : (picture : List ℕ) → Numbered (20 ∷ []) [] [] (patchPicture picture)

@@ -15,9 +15,9 @@ use Rattle.words.specs.Words.{wordsBytes, laid}
 use Rattle.layout.specs.Answers.{answerWords}
 use Rattle.words.proofs.Bytes.{length-words}
 
-pub length-refused : (n picture coded expected : ℕ) → length (wordsBytes (answerWords (refused n picture coded expected))) ≡ 72
+pub length-refused-answer : (n picture coded expected : ℕ) → length (wordsBytes (answerWords (refused n picture coded expected))) ≡ 72
 unfolding answerWords
-length-refused n picture coded expected = omega (arith, length-words (answerWords (refused n picture coded expected)))
+length-refused-answer n picture coded expected = omega (arith, length-words (answerWords (refused n picture coded expected)))
 
 module _ (a : CbrAnswer) (place after : List ℕ) where
   pub way-placed : (q delay bytes zeros : ℕ) → a ≡ Placed q delay bytes zeros

@@ -39,8 +39,8 @@ quantisers-small : (vs : List ℕ) → allFit quantiserFits vs ≡ true → AllS
 quantisers-small vs h = each-small vs (λ k g. omega (arith, quantiser-is (all-fit-at quantiserFits vs k h g) .high))
 
 -- as a function, so that the goal says which word is meant
-more : {v : ℕ} {vs : List ℕ} → v < 2 ^ 64 → AllSmall vs → AllSmall (v ∷ vs)
-more h f = some h f
+small-more : {v : ℕ} {vs : List ℕ} → v < 2 ^ 64 → AllSmall vs → AllSmall (v ∷ vs)
+small-more h f = some h f
 
 pub state-small : (w : CbrWriter) → writerFits w ≡ true → AllSmall (stateWords w)
 unfolding stateWords
@@ -48,18 +48,18 @@ state-small w h =
     let f = writer-fits h in
     let m = model-fits (f .model-fits) in
     let p = m .params-fit in
-    more (omega (arith, p .rate-high))
-    (more (omega (arith, p .size-high))
-    (more (omega (arith, p .frn-high))
-    (more (omega (arith, p .frd-high))
-    (more (omega (arith, m .whole-high))
-    (more (omega (arith, m .rest-low, p .frn-high))
-    (more (omega (arith, m .end-high))
-    (more (omega (arith, m .removed-high))
-    (more (omega (arith, flag-bound (w .model .started)))
+    small-more (omega (arith, p .rate-high))
+    (small-more (omega (arith, p .size-high))
+    (small-more (omega (arith, p .frn-high))
+    (small-more (omega (arith, p .frd-high))
+    (small-more (omega (arith, m .whole-high))
+    (small-more (omega (arith, m .rest-low, p .frn-high))
+    (small-more (omega (arith, m .end-high))
+    (small-more (omega (arith, m .removed-high))
+    (small-more (omega (arith, flag-bound (w .model .started)))
     (small-append (targets-small (w .«target_bits») (f .targets))
     (small-append (quantisers-small (w .q) (f .quantisers))
-    (more (omega (arith, code-low (w .pending)))
-    (more (omega (arith, quantiser-low (w .pending) (f .pending)))
-    (more (omega (arith, f .stuffed, m .end-high))
-    (more (omega (arith, flag-bound (w .finished))) none))))))))))))))
+    (small-more (omega (arith, code-low (w .pending)))
+    (small-more (omega (arith, quantiser-low (w .pending) (f .pending)))
+    (small-more (omega (arith, f .stuffed, m .end-high))
+    (small-more (omega (arith, flag-bound (w .finished))) none))))))))))))))

@@ -27,17 +27,17 @@ use Rattle.layout.specs.Steps.{Narrow, narrow}
 use Rattle.layout.specs.declared.CbrState.{CbrState}
 use Rattle.layout.proofs.RoundTrip.{state-fits}
 
-abbrev unfit : CbrState
-unfit = record { fits = false; writer = noWriter }
+abbrev noState : CbrState
+noState = record { fits = false; writer = noWriter }
 
-pub unfit-told : (w : CbrWriter) → w ≡ noWriter → record { fits = false; writer = w } ≡ unfit
+pub unfit-told : (w : CbrWriter) → w ≡ noWriter → record { fits = false; writer = w } ≡ noState
 unfit-told w e = rw e
 
 -- a test in strict operations, and the definition's
-told : (a b : Bool) → (not a || b) ≡ pick a b true
+or-pick : (a b : Bool) → (not a || b) ≡ pick a b true
 unfolding pick
-told true b = refl
-told false b = refl
+or-pick true b = refl
+or-pick false b = refl
 
 -- a pending picture in its range has a quantiser of few bits
 waits-low : (code q : ℕ) → pick (eqb code 0) (eqb q 0) true ≡ true → pendingFits (pendingOf code q) ≡ true → q ≤ 31
@@ -68,7 +68,7 @@ module _ (s : List ℕ) where
       ≡ narrow s
   unfolding narrow codesFit
   narrow-told started code waits i p b finished e f g h j k l =
-      rw (e, f, g, h, j, k, l, told (eqb (wordAt s 15) 0) (eqb (wordAt s 16) 0))
+      rw (e, f, g, h, j, k, l, or-pick (eqb (wordAt s 15) 0) (eqb (wordAt s 16) 0))
 
   narrow-is : narrow s ≡ true → (codesFit s ≡ true) × Narrow s
   unfolding narrow
@@ -112,21 +112,21 @@ module _ (s : List ℕ) where
       }
 
   -- the ways through
-  unheld : (r : CbrState) → (stateFits s ≡ true → ⊥) → r ≡ unfit → r ≡ stateAt s
+  not-state : (r : CbrState) → (stateFits s ≡ true → ⊥) → r ≡ noState → r ≡ stateAt s
   unfolding stateAt
-  unheld r f e = pick-elim (λ x. r ≡ x) (stateFits s) (λ h. absurd (f h)) (λ h. e)
+  not-state r f e = pick-elim (λ x. r ≡ x) (stateFits s) (λ h. absurd (f h)) (λ h. e)
 
-  pub way-short : (r : CbrState) → length s < 152 → r ≡ unfit → r ≡ stateAt s
-  way-short r h = unheld r (λ e. absurd (omega (arith, state-fits s e .0)))
+  pub way-short : (r : CbrState) → length s < 152 → r ≡ noState → r ≡ stateAt s
+  way-short r h = not-state r (λ e. absurd (omega (arith, state-fits s e .0)))
 
   module _ (n : Bool) (e : n ≡ narrow s) where
-    pub way-wide : (r : CbrState) → n ≡ false → r ≡ unfit → r ≡ stateAt s
+    pub way-wide : (r : CbrState) → n ≡ false → r ≡ noState → r ≡ stateAt s
     way-wide r h =
-        unheld r (λ f. let g = state-fits s f in true≢false (sym (is-narrow (g .1) (fits-narrow (g .1) (g .2))) ∙ sym e ∙ h))
+        not-state r (λ f. let g = state-fits s f in true≢false (sym (is-narrow (g .1) (fits-narrow (g .1) (g .2))) ∙ sym e ∙ h))
 
     module _ (w : CbrWriter) (f : Bool) (g : w ≡ writerAt s) (k : f ≡ writerFits w) where
-      pub way-unfit : (r : CbrState) → f ≡ false → r ≡ unfit → r ≡ stateAt s
-      way-unfit r h = unheld r (λ z. true≢false (sym (state-fits s z .2) ∙ rw (← g, ← k) h))
+      pub way-unfit : (r : CbrState) → f ≡ false → r ≡ noState → r ≡ stateAt s
+      way-unfit r h = not-state r (λ z. true≢false (sym (state-fits s z .2) ∙ rw (← g, ← k) h))
 
       pub way-held : 152 ≤ length s → n ≡ true → f ≡ true → _≡_ {A = CbrState} (record { fits = true; writer = w }) (stateAt s)
       unfolding stateAt stateFits pick

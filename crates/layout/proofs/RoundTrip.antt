@@ -20,6 +20,7 @@ use Rattle.rate_control.specs.Writer.{writerFits}
 use Rattle.rate_control.specs.declared.Pending.{Pending}
 use Rattle.rate_control.specs.declared.Pending.the-variants.{Nothing, Waits}
 use Rattle.rate_control.specs.declared.CbrWriter.{CbrWriter}
+use Rattle.rate_control.proofs.States.{Three, of-three, is-three}
 use Rattle.words.specs.Words.{wordsBytes, laid, wordAt}
 use Rattle.words.proofs.Bytes.{length-words, word-put, wordsFrom, words-back}
 use Rattle.words.proofs.Laying.{laid-over, length-laid}
@@ -27,17 +28,6 @@ use Rattle.layout.specs.State.{pendingCode, pendingQuantiser, stateWords
 use Rattle.layout.proofs.Ranges.{code-low, state-small}
 
 -- ---- a writer's lists
-
--- three numbers
-data Three : List ℕ → Type 0 where
-  three : (a b c : ℕ) → Three (a ∷ b ∷ c ∷ [])
-
-is-three : (vs : List ℕ) → length vs ≡ 3 → Three vs
-is-three [] h = absurd (omega arith)
-is-three (a ∷ []) h = absurd (omega arith)
-is-three (a ∷ b ∷ []) h = absurd (omega arith)
-is-three (a ∷ b ∷ c ∷ []) h = three a b c
-is-three (a ∷ b ∷ c ∷ d ∷ vs) h = absurd (omega arith)
 
 length-state-words : (w : CbrWriter) → length (w .«target_bits») ≡ 3 → length (w .q) ≡ 3 → length (stateWords w) ≡ 19
 unfolding stateWords
@@ -84,7 +74,7 @@ stand-read : (m : VbvCbrModel) {t q : List ℕ} → Three t → Three q → (p :
     → (codesFit s ≡ true)
     × (writerAt s ≡ record { model = m; «target_bits» = t; q = q; pending = p; «stuffing_bytes» = n; finished = f })
 unfolding stateWords codesFit writerAt
-stand-read m (three a b c) (three d e g) p n f s at = (
+stand-read m (of-three a b c) (of-three d e g) p n f s at = (
   rw (at 8 tt, at 15 tt, at 16 tt, at 18 tt, pending-told p) (simp (le-leb _ _ (flag-bound (m .started)), le-leb _ _ (code-low p), le-leb _ _ (flag-bound f))),
   rw (
     at 0 tt,
@@ -119,11 +109,6 @@ module _ (w : CbrWriter) (place : List ℕ) (h : writerFits w ≡ true) (t : len
       let s = laid (stateBytes w) place in
       let r = stand-read (w .model) (is-three _ t) (is-three _ q) (w .pending) (w .«stuffing_bytes») (w .finished) s (stand-put w place h t q l) in
       (rw (length-laid (stateBytes w) place, le-leb _ _ l, r .0, r .1, h), r .1)
-
-  -- so the place holds the writer
-  pub held-put : stateAt (laid (stateBytes w) place) ≡ record { fits = true; writer = w }
-  unfolding stateAt pick
-  held-put = rw (read-put .0, read-put .1)
 
 -- ---- put back what was read
 

@@ -5,7 +5,7 @@ ghost use Rattle.headers.specs.Answers.{flagOf};
 ghost use Rattle.rate_control.specs.Create.{noWriter};
 ghost use Rattle.words.specs.Words.{laid};
 ghost use Rattle.layout.specs.State.{pendingCode, pendingQuantiser, pendingOf, writerAt, stateBytes, stateAt};
-ghost use Rattle.layout.specs.Steps.{Narrow, narrow as narrowOf};
+ghost use Rattle.layout.specs.Steps.{Narrow, narrow};
 use crate::CbrState;
 use layers::PictureKind;
 use rate_control::CbrWriter;
@@ -101,7 +101,7 @@ fn model_at(place: &[u8]) -> VbvCbrModel
 
 // The words that a writer has in fewer bits: flags, the pending picture, quantisers up to 31.
 fn narrow(place: &[u8]) -> bool
-    ensures { λ r. ⌜ r ≡ narrowOf (now (place .entry)) ⌝ }
+    ensures { λ r. ⌜ r ≡ narrow (now (place .entry)) ⌝ }
 {
     let code = word_at(place, 15);
     let q = word_at(place, 16);

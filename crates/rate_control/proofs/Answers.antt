@@ -1,30 +1,25 @@
 -- Every call's answer is the one that is due, and 21 comes at quantiser 31 alone, after at most eleven retries.
 -- Assumes nothing.
 use mathlib.Core.Path.{_≡_, sym, ap, subst, _∙_}
-use mathlib.Core.Bool.{true}
 use mathlib.Core.List.{List, [], _∷_}
 use Prim.Native.Nat.{ℕ}
 use native.Mathlib.Omega.{arith}
 use borrow.Author.Tests.{eqb-false}
-use Rattle.bits.specs.Bits.{pick}
 use Rattle.bits.specs.Refusals.{Answer, number}
 use Rattle.vbv.specs.declared.VbvParams.{VbvParams}
 use Rattle.rate_control.specs.Answers.{Given}
-use Rattle.rate_control.specs.Writer.{writerFits, asked}
-use Rattle.rate_control.specs.Offer.{Offer, offer, left, withdraw}
+use Rattle.rate_control.specs.Writer.{asked}
+use Rattle.rate_control.specs.Offer.{Offer, offer, left}
 use Rattle.rate_control.specs.Calls.{Call, offering, withdrawing, stepOf, leftByCall, stepsOf}
 use Rattle.rate_control.specs.Due.{Known, askedFor, holding, Answered, no-calls, offer-then, withdrawal-then}
 use Rattle.rate_control.specs.Demand.{Patient, calls-end, step-then}
 use Rattle.rate_control.specs.declared.CbrWriter.{CbrWriter}
 use Rattle.rate_control.proofs.Chain.{Outcome, stays, closes, retries, hands-out, outcome}
 use Rattle.rate_control.proofs.Invariant.{Inv, pending-few, call-inv}
+use Rattle.rate_control.proofs.States.{withdraw-answer}
 use Rattle.rate_control.proofs.Knowing.{offer-told, withdrawal-told}
 use Rattle.rate_control.proofs.Answering.{due, outcome-holds}
 use Rattle.rate_control.proofs.Only.{only}
-
-withdraw-told : (w : CbrWriter) → writerFits w ≡ true → number (withdraw w) ≡ 0
-unfolding withdraw pick
-withdraw-told w e = rw e
 
 module _ (p : VbvParams) (t : List ℕ) where
   pub all-answered : {n : ℕ} (w : CbrWriter) (x : Known) (l : List Call) → w ≡ holding p t x → Inv n w → Answered p t x (stepsOf w l)
@@ -36,7 +31,7 @@ module _ (p : VbvParams) (t : List ℕ) where
       (λ b d. only p t x o i d ∙ ap (λ (v : CbrWriter). offer v o) (sym e)) (outcome-holds w o (outcome w o))
       (all-answered _ _ l (offer-told p t w x o e) (call-inv (offering o) h))
   all-answered w x (withdrawing ∷ l) e h =
-      rw (withdraw-told w (h .fits)) (withdrawal-then (all-answered _ _ l (withdrawal-told p t w x (h .fits) e) (call-inv withdrawing h)))
+      rw (ap number (withdraw-answer w (h .fits))) (withdrawal-then (all-answered _ _ l (withdrawal-told p t w x (h .fits) e) (call-inv withdrawing h)))
 
   coarsest : (x : Known) (o : Offer) {a : Answer Given} → Outcome (holding p t x) o a → number a ≡ 21 → askedFor x o ≡ 31
   unfolding asked

@@ -5,45 +5,22 @@ use mathlib.Core.Bool.{true, false, true≢false}
 use Prim.Native.Nat.{ℕ, _*_, _≤_, _<_}
 use native.Mathlib.Omega.{arith}
 use native.Mathlib.Decide.{decLt}
-use borrow.Author.Tests.{le-leb, not-true, not-false}
+use borrow.Author.Tests.{not-true, not-false}
 use Rattle.bits.specs.Refusals.{Answer, value, refused, andThen}
 use Rattle.bits.proofs.Flags.{is-false, pick-elim}
-use Rattle.bits.proofs.Reading.{both-true}
 use Rattle.vbv.specs.Answers.{frameRate}
 use Rattle.vbv.specs.Model.{paramsFit, newModel}
 use Rattle.vbv.specs.declared.VbvCbrModel.{VbvCbrModel}
 use Rattle.vbv.proofs.Picks.{held, failed}
 use Rattle.vbv.proofs.Fitting.{params-fit, fitting-params}
-use Rattle.rate_control.specs.Create.{within, configFits, configParams, freshWriter, create}
+use Rattle.rate_control.specs.Create.{configFits, configParams, freshWriter, create}
 use Rattle.rate_control.specs.Due.{atFirst, holding, Ranges, rateOf, bufferOf, paramsOf, targetsOf, CreationDue, bad-range, bad-code, bad-ratio, created}
 use Rattle.rate_control.specs.declared.CbrConfig.{CbrConfig}
 use Rattle.rate_control.specs.declared.CbrWriter.{CbrWriter}
 use Rattle.vbv.proofs.Cases.{RateCode, known, unknown, rate-code, NewModel, makes, unfit, new-model}
-use Rattle.rate_control.proofs.Fitting.{within-bounds}
+use Rattle.rate_control.proofs.Fitting.{in-bounds}
+use Rattle.rate_control.proofs.Creation.{config-ranges}
 use Rattle.rate_control.proofs.Knowing.{fresh-known}
-
-ranges-of : (c : CbrConfig) → configFits c ≡ true → Ranges c
-unfolding configFits
-ranges-of c h =
-    let r = both-true (within 1 262143 (c .«bit_rate_value»)) _ h in
-    let s = both-true (within 1 1023 (c .«vbv_buffer_size_value»)) _ (r .1) in
-    let q = both-true (within 1 31 (c .«initial_quantiser_scale_code»)) _ (s .1) in
-    let b = both-true (within 0 15 (c .«b_between»)) (within 1 255 (c .«anchors_per_gop»)) (q .1) in
-    record {
-      rate-low = within-bounds 1 262143 _ (r .0) .0;
-      rate-high = within-bounds 1 262143 _ (r .0) .1;
-      buffer-low = within-bounds 1 1023 _ (s .0) .0;
-      buffer-high = within-bounds 1 1023 _ (s .0) .1;
-      quantiser-low = within-bounds 1 31 _ (q .0) .0;
-      quantiser-high = within-bounds 1 31 _ (q .0) .1;
-      between-high = within-bounds 0 15 _ (b .0) .1;
-      anchors-low = within-bounds 1 255 _ (b .1) .0;
-      anchors-high = within-bounds 1 255 _ (b .1) .1;
-    }
-
-in-bounds : (low high v : ℕ) → low ≤ v → v ≤ high → within low high v ≡ true
-unfolding within
-in-bounds low high v l h = simp (le-leb low v l, le-leb v high h)
 
 ranges-fit : (c : CbrConfig) → Ranges c → configFits c ≡ true
 unfolding configFits
@@ -91,13 +68,13 @@ pub creation-due : (c : CbrConfig) → CreationDue c (create c)
 unfolding create
 creation-due c =
     pick-elim (CreationDue c) _ (λ e. bad-range (λ r. true≢false (sym (ranges-fit c r) ∙ not-true _ e)))
-    (λ e. with-code c (ranges-of c (not-false _ e)) (frameRate (c .«frame_rate_code»)) refl (rate-code (c .«frame_rate_code»)))
+    (λ e. with-code c (config-ranges c (not-false _ e)) (frameRate (c .«frame_rate_code»)) refl (rate-code (c .«frame_rate_code»)))
 
 -- ---- and no other
 
 pub creation-only : (c : CbrConfig) (a : Answer CbrWriter) → CreationDue c a → a ≡ create c
 unfolding create
-creation-only c a (bad-range n) = failed (configFits c) _ _ (is-false (configFits c) (λ e. n (ranges-of c e))) refl
+creation-only c a (bad-range n) = failed (configFits c) _ _ (is-false (configFits c) (λ e. n (config-ranges c e))) refl
 creation-only c a (bad-code r n) = held (configFits c) _ _ (ranges-fit c r) (go (rate-code (c .«frame_rate_code»)))
   where
     go : {x : Answer (ℕ × ℕ)} → RateCode (c .«frame_rate_code») x → refused 6 0 0 0 ≡ andThen x (λ f. andThen (newModel (configParams c f)) (λ m. value (freshWriter c m)))

@@ -29,13 +29,13 @@ use Rattle.rate_control.specs.Targets.{groupPictures, groupBits, groupWe
 use Rattle.rate_control.specs.Answers.{createdAnswer}
 use Rattle.rate_control.specs.Create.{within, configFits, configParams, freshWriter, noWriter, create}
 use Rattle.rate_control.specs.Writer.{allFit}
-use Rattle.rate_control.specs.Steps.{ConfigFits, TargetsFit, notCreated, Creates, withRate}
+use Rattle.rate_control.specs.Due.{Ranges}
+use Rattle.rate_control.specs.Steps.{TargetsFit, notCreated, Creates, withRate}
 use Rattle.rate_control.specs.declared.CbrConfig.{CbrConfig}
 use Rattle.rate_control.specs.declared.Pending.the-variants.{Nothing}
 use Rattle.rate_control.specs.declared.CbrWriter.{CbrWriter}
 use Rattle.rate_control.specs.declared.CbrCreation.the-variants.{Created}
 use Rattle.rate_control.specs.declared.CbrCreated.{CbrCreated}
-use Rattle.rate_control.proofs.Retries.{Quant}
 use Rattle.rate_control.proofs.Fitting.{within-bounds, is-quantiser, none-fits, fitting-writer}
 use Rattle.rate_control.proofs.Invariant.{Inv}
 
@@ -52,25 +52,24 @@ pub config-told : (c : CbrConfig) (r s q b a : Bool) → r ≡ within 1 262143 (
 unfolding configFits
 config-told c r s q b a e f g h k = rw (e, f, g, h, k)
 
-config-bounds : (c : CbrConfig) → configFits c ≡ true → ConfigFits c × Quant (c .«initial_quantiser_scale_code»)
+pub config-ranges : (c : CbrConfig) → configFits c ≡ true → Ranges c
 unfolding configFits
-config-bounds c h =
+config-ranges c h =
     let r = both-true (within 1 262143 (c .«bit_rate_value»)) _ h in
     let s = both-true (within 1 1023 (c .«vbv_buffer_size_value»)) _ (r .1) in
     let q = both-true (within 1 31 (c .«initial_quantiser_scale_code»)) _ (s .1) in
     let b = both-true (within 0 15 (c .«b_between»)) (within 1 255 (c .«anchors_per_gop»)) (q .1) in
-    let scale = within-bounds 1 31 _ (q .0) in (
-      record {
-        rate-high = within-bounds 1 262143 _ (r .0) .1;
-        size-high = within-bounds 1 1023 _ (s .0) .1;
-        between-high = within-bounds 0 15 _ (b .0) .1;
-        anchors-high = within-bounds 1 255 _ (b .1) .1;
-      },
-      record { low = scale .0; high = scale .1 },
-    )
-
-pub config-fits : (c : CbrConfig) → configFits c ≡ true → ConfigFits c
-config-fits c h = config-bounds c h .0
+    record {
+      rate-low = within-bounds 1 262143 _ (r .0) .0;
+      rate-high = within-bounds 1 262143 _ (r .0) .1;
+      buffer-low = within-bounds 1 1023 _ (s .0) .0;
+      buffer-high = within-bounds 1 1023 _ (s .0) .1;
+      quantiser-low = within-bounds 1 31 _ (q .0) .0;
+      quantiser-high = within-bounds 1 31 _ (q .0) .1;
+      between-high = within-bounds 0 15 _ (b .0) .1;
+      anchors-low = within-bounds 1 255 _ (b .1) .0;
+      anchors-high = within-bounds 1 255 _ (b .1) .1;
+    }
 
 -- ---- the targets
 
@@ -218,9 +217,9 @@ fresh-writer : {c : CbrConfig} {w : CbrWriter} (x : Creation c w) → Fresh (fre
 unfolding freshWriter allFit
 fresh-writer {c} x =
     let a = made _ (x .model) (x .model-is) in
-    let f = config-bounds c (x .ranges) in
+    let f = config-ranges c (x .ranges) in
     let t : TargetsFit (x .model .params) (c .«b_between») (c .«anchors_per_gop»)
-    = shared-out _ (x .model) _ _ (x .model-is) (omega (arith, f .0 .rate-high)) (f .0 .between-high) (f .0 .anchors-high) in
+    = shared-out _ (x .model) _ _ (x .model-is) (omega (arith, f .rate-high)) (f .between-high) (f .anchors-high) in
     record {
       inv =
           record {
@@ -232,7 +231,7 @@ fresh-writer {c} x =
                   few = rw (a .at-zero, a .none-removed) (omega arith);
                   stuffed = omega arith;
                   targets = targets-low _ _ _ t;
-                  quantisers = simp (is-quantiser (f .1));
+                  quantisers = simp (is-quantiser (record { low = f .quantiser-low; high = f .quantiser-high }));
                   pending = none-fits;
                 });
             three = refl;

@@ -48,6 +48,10 @@ within-bounds low high v h =
     let b = both-true (leb low v) (leb v high) h in
     (leb-true _ _ (b .0), leb-true _ _ (b .1))
 
+pub in-bounds : (low high v : ℕ) → low ≤ v → v ≤ high → within low high v ≡ true
+unfolding within
+in-bounds low high v l h = simp (le-leb low v l, le-leb v high h)
+
 pub quantiser-is : {q : ℕ} → quantiserFits q ≡ true → Quant q
 unfolding quantiserFits
 quantiser-is {q} h =
@@ -55,8 +59,8 @@ quantiser-is {q} h =
     record { low = b .0; high = b .1 }
 
 pub is-quantiser : {q : ℕ} → Quant q → quantiserFits q ≡ true
-unfolding quantiserFits within
-is-quantiser h = simp (le-leb _ _ (h .low), le-leb _ _ (h .high))
+unfolding quantiserFits
+is-quantiser {q} h = in-bounds 1 31 q (h .low) (h .high)
 
 pub none-fits : pendingFits Nothing ≡ true
 unfolding pendingFits

@@ -1,6 +1,6 @@
 -- What holds of a writer between calls, after n retries of the pending picture.
 -- Assumes nothing.
-use mathlib.Core.Path.{_≡_, refl, sym, _∙_}
+use mathlib.Core.Path.{_≡_, refl, sym, ap, _∙_}
 use mathlib.Core.Bool.{true, false, true≢false}
 use Prim.Native.Nat.{ℕ, _+_, _^_, _≤_, _<_}
 use native.Mathlib.Omega.{arith}
@@ -26,6 +26,7 @@ use Rattle.rate_control.proofs.Chain.{q-of, Placing, Outcome, stays, cl
 use Rattle.rate_control.proofs.Retries.{Quant, below-31, rest, rest-small, rest-step, coarser-quant, steered-quant}
 use Rattle.rate_control.proofs.Fitting.{all-fit-at, all-fit-set, quantiser-is, is-quantiser, none-fits, waits-fits, WriterFits, writer-fits, fitting-writer}
 use Rattle.rate_control.proofs.Placing.{placed-size, end-is, next-room, params-fitted}
+use Rattle.rate_control.proofs.States.{withdraw-answer}
 
 -- no picture pending: no retries; one pending: those it had and those it may have are eleven at most
 abbrev pub PendingOk : ℕ → Pending → Type 0
@@ -145,8 +146,7 @@ outcome-inv {n} {w} {o} h (retries g) =
 outcome-inv h (hands-out g) = place-inv h g
 
 pub withdraw-is : (w : CbrWriter) → writerFits w ≡ true → orElse w (withdraw w) ≡ withPending w Nothing
-unfolding withdraw pick
-withdraw-is w e = rw e
+withdraw-is w e = ap (orElse w) (withdraw-answer w e)
 
 pub call-inv : {n : ℕ} {w : CbrWriter} (c : Call) → Inv n w → Inv (retriesAfter n (stepOf w c)) (leftByCall w c)
 unfolding stepOf leftByCall

@@ -1,15 +1,15 @@
 -- The code's answers to an offer are the definition's, by number, and so is the writer that is left.
 -- Assumes nothing.
 use mathlib.Core.Path.{_≡_, refl}
-use mathlib.Core.Bool.{Bool, true, false}
+use mathlib.Core.Bool.{false}
 use Prim.Native.Nat.{ℕ}
 use lib.Dec.{eqb}
 use lib.ListN.{length}
 use Rattle.bits.specs.Bits.{pick}
-use Rattle.bits.specs.Refusals.{Answer, value, refused as toldRefused}
-use Rattle.rate_control.specs.Answers.{Given, placed as given, again, offerRefusal, offerAnswer}
+use Rattle.bits.specs.Refusals.{Answer, value, refused}
+use Rattle.rate_control.specs.Answers.{Given, placed, again, offerRefusal, offerAnswer}
 use Rattle.rate_control.specs.Writer.{asked}
-use Rattle.rate_control.specs.Offer.{Offer, stuffing, delay, placedBytes, withPending, tooLarge as sizeAnswer, offer, leftBy, left}
+use Rattle.rate_control.specs.Offer.{Offer, stuffing, delay, placedBytes, withPending, tooLarge, offer, leftBy, left}
 use Rattle.rate_control.specs.Steps.{refusedInCode, tooLargeInCode, placedInCode, offerInCode}
 use Rattle.rate_control.specs.declared.CbrWriter.{CbrWriter}
 use Rattle.rate_control.specs.declared.Pending.the-variants.{Nothing, Waits}
@@ -17,12 +17,7 @@ use Rattle.rate_control.specs.declared.CbrError.{CbrError}
 use Rattle.rate_control.specs.declared.CbrError.the-variants.{TooLarge}
 use Rattle.rate_control.specs.declared.CbrAnswer.the-variants.{Again, Refused}
 use Rattle.rate_control.specs.declared.CbrOffered.{CbrOffered}
-
--- two choices by one test
-alike : {A B : Type 0} (R : A → B → Type 0) (t : Bool) {a b : A} {c d : B} → R a c → (t ≡ false → R b d) → R (pick t a b) (pick t c d)
-unfolding pick
-alike R true e h = e
-alike R false e h = h refl
+use Rattle.rate_control.proofs.Testing.{alike}
 
 module _ (w : CbrWriter) (o : Offer) where
   Same : CbrOffered → Answer Given → Type 0
@@ -32,7 +27,7 @@ module _ (w : CbrWriter) (o : Offer) where
   unfolding Same refusedInCode pick
   refused-same e h = (refl, rw h)
 
-  largest-same : Same (record { answer = Refused TooLarge; writer = withPending w Nothing }) (toldRefused 21 0 0 0)
+  largest-same : Same (record { answer = Refused TooLarge; writer = withPending w Nothing }) (refused 21 0 0 0)
   unfolding Same pick
   largest-same = (refl, refl)
 
@@ -40,11 +35,11 @@ module _ (w : CbrWriter) (o : Offer) where
   unfolding Same
   again-same q = (refl, refl)
 
-  large-same : Same (tooLargeInCode w (o .kind) (asked w (o .kind))) (sizeAnswer (asked w (o .kind)))
+  large-same : Same (tooLargeInCode w (o .kind) (asked w (o .kind))) (tooLarge (asked w (o .kind)))
   unfolding tooLargeInCode
   large-same = alike Same _ largest-same (λ h. again-same _)
 
-  placed-same : Same (placedInCode w o (asked w (o .kind))) (value (given (asked w (o .kind)) (delay w o) (length (placedBytes w o)) (stuffing w o)))
+  placed-same : Same (placedInCode w o (asked w (o .kind))) (value (placed (asked w (o .kind)) (delay w o) (length (placedBytes w o)) (stuffing w o)))
   unfolding Same placedInCode
   placed-same = (refl, refl)
 

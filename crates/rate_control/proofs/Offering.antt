@@ -35,7 +35,7 @@ use Rattle.rate_control.specs.declared.Tested.the-variants.{Refused, Too
 use Rattle.rate_control.proofs.Fitting.{all-fit-get, writer-fits}
 use Rattle.rate_control.proofs.Placing.{placed-size}
 use Rattle.rate_control.proofs.Numbers.{answer-is, writer-is}
-use Rattle.rate_control.proofs.Testing.{through, placement, measuredFor, measured-is}
+use Rattle.rate_control.proofs.Testing.{alike, placement, measuredFor, measured-is}
 
 -- ---- the tests
 
@@ -99,20 +99,22 @@ module _ (w : CbrWriter) (o : Offer) where
   unfolding answerTo placement
   answer-ready = ap (pick (ltb (length (o .out)) (length (placedBytes w o))) (refusedInCode w Output)) placed-by
 
+  abbrev Gives : Tested → CbrOffered → Type 0
+  Gives j r = answerTo w o j ≡ r
+
   offer-is : answerTo w o (testedFor w o) ≡ offerInCode w o
   unfolding tested offerInCode measuredFor
   offer-is =
-      let a = answerTo w o in
-      through a _ _ _ _ _ (answer-refused _) λ h12.
-      through a _ _ _ _ _ (answer-refused _) λ h17.
-      through a _ _ _ _ _ (answer-refused _) λ h18.
-      through a _ _ _ _ _ (answer-refused _) λ h20.
-      ap a (measured-is w o (not-false _ h12)) ∙
-      (through a _ _ _ _ _ (answer-refused _) λ h14.
-      through a _ _ _ _ _ (answer-refused _) λ h7.
-      through a _ _ _ _ _ (answer-refused _) λ h9.
-      through a _ _ _ _ _ answer-large λ size.
-      through a _ _ _ _ _ (answer-refused _) λ h22.
+      alike Gives _ (answer-refused _) λ h12.
+      alike Gives _ (answer-refused _) λ h17.
+      alike Gives _ (answer-refused _) λ h18.
+      alike Gives _ (answer-refused _) λ h20.
+      ap (answerTo w o) (measured-is w o (not-false _ h12)) ∙
+      (alike Gives _ (answer-refused _) λ h14.
+      alike Gives _ (answer-refused _) λ h7.
+      alike Gives _ (answer-refused _) λ h9.
+      alike Gives _ answer-large λ size.
+      alike Gives _ (answer-refused _) λ h22.
       answer-ready)
 
 -- ---- a picture to place

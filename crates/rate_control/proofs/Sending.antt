@@ -1,4 +1,4 @@
--- The bytes that a list of calls hands out are parts that fit, endToEnd end to end.
+-- The bytes that a list of calls hands out are parts that fit, laid end to end.
 -- Assumes nothing.
 use mathlib.Core.Path.{_≡_, refl, sym, ap, subst}
 use mathlib.Core.Bool.{Bool, true, false}
@@ -22,6 +22,7 @@ use Rattle.rate_control.specs.Calls.{Call, offering, withdrawing, stepOf
 use Rattle.rate_control.specs.Sent.{positionOf, Sent, sentPosition, sentEnd, sentBy, sent, endToEnd}
 use Rattle.rate_control.specs.Demand.{AllBytes}
 use Rattle.rate_control.specs.declared.CbrWriter.{CbrWriter}
+use Rattle.rate_control.proofs.Storage.{end-code-last, end-code-none}
 use Rattle.rate_control.proofs.Chain.{Placing, Outcome, stays, closes, retries, hands-out, outcome}
 use Rattle.rate_control.proofs.Placing.{delay-told}
 use Rattle.rate_control.proofs.Invariant.{Inv, outcome-inv, call-inv, withdraw-is}
@@ -47,14 +48,6 @@ placed-part w o = part-then (partOf w o) (endCode (o .last))
 placed-length : (w : CbrWriter) (o : Offer) → length (placedBytes w o) ≡ length (bytesOf (partOf w o)) + length (endCode (o .last))
 placed-length w o = rw (placed-part w o) (length-append (bytesOf (partOf w o)) (endCode (o .last)))
 
-end-code-last : (o : Offer) → o .last ≡ true → endCode (o .last) ≡ sequenceEndCode
-unfolding endCode
-end-code-last o e = rw e
-
-end-code-other : (o : Offer) → o .last ≡ false → endCode (o .last) ≡ []
-unfolding endCode
-end-code-other o e = rw e
-
 -- ---- all of them
 
 -- pictures sent, n bytes being handed out before: parts end to end and what follows them
@@ -75,13 +68,13 @@ coded-front n e x [] t l z h =
     rw (← h, coded-none, coded-last, c)
 coded-front n e x (y ∷ ys) t l z h = rw (← h, ← l) (coded-more n x y ys t)
 
--- a picture before others; none behind the last
+-- a picture before others; none after the last
 module _ {p : VbvParams} {placed : Bool} (n : ℕ) (w : CbrWriter) (o : Offer) {xs : List Sent} (f : PartFits p placed (partOf w o))
     (s : Sending p true (n + length (placedBytes w o)) xs) (z : o .last ≡ true → xs ≡ []) where
   last-sending : o .last ≡ true → Sending p placed n (sentOf n w o ∷ xs)
   unfolding codedBy codedSent sentOf endToEnd positionOf
   last-sending e =
-      let t = end-code-last o e in
+      let t = end-code-last (o .last) e in
       let c : n + (length (bytesOf (partOf w o)) + length sequenceEndCode) ≡ n + length (placedBytes w o) = omega (arith, placed-length w o, ap length t) in
       record {
         parts = partOf w o ∷ [];
@@ -96,7 +89,7 @@ module _ {p : VbvParams} {placed : Bool} (n : ℕ) (w : CbrWriter) (o : Offer) {
   other-sending : o .last ≡ false → Sending p placed n (sentOf n w o ∷ xs)
   unfolding codedBy codedSent sentOf endToEnd positionOf
   other-sending e =
-      let t = end-code-other o e in
+      let t = end-code-none (o .last) e in
       let c : length (bytesOf (partOf w o)) ≡ length (placedBytes w o) = omega (arith, placed-length w o, ap length t) in
       record {
         parts = partOf w o ∷ s .parts;

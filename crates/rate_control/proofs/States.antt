@@ -20,18 +20,28 @@ use Rattle.rate_control.specs.declared.Pending.{Pending}
 use Rattle.rate_control.specs.declared.Pending.the-variants.{Nothing, Waits}
 use Rattle.rate_control.specs.declared.CbrWriter.{CbrWriter}
 
--- a test of each of three
+-- three numbers
+pub data Three : List ℕ → Type 0 where
+  of-three : (a b c : ℕ) → Three (a ∷ b ∷ c ∷ [])
+
+pub is-three : (s : List ℕ) → length s ≡ 3 → Three s
+is-three [] e = absurd (omega arith)
+is-three (a ∷ []) e = absurd (omega arith)
+is-three (a ∷ b ∷ []) e = absurd (omega arith)
+is-three (a ∷ b ∷ c ∷ []) e = of-three a b c
+is-three (a ∷ b ∷ c ∷ d ∷ s) e = absurd (omega arith)
+
+-- a test of each of them
 pub all-fit-three : (f : ℕ → Bool) (s : List ℕ) → length s ≡ 3 → (f (getD s 0 0) && (f (getD s 1 0) && f (getD s 2 0))) ≡ allFit f s
 unfolding allFit
-all-fit-three f [] e = absurd (omega arith)
-all-fit-three f (a ∷ []) e = absurd (omega arith)
-all-fit-three f (a ∷ b ∷ []) e = absurd (omega arith)
-all-fit-three f (a ∷ b ∷ d ∷ []) e = rw (and-true (f d))
+all-fit-three f s e = go (is-three s e)
   where
     and-true : (t : Bool) → (t && true) ≡ t
     and-true true = refl
     and-true false = refl
-all-fit-three f (a ∷ b ∷ d ∷ w ∷ s) e = absurd (omega arith)
+
+    go : {s : List ℕ} → Three s → (f (getD s 0 0) && (f (getD s 1 0) && f (getD s 2 0))) ≡ allFit f s
+    go (of-three a b d) = rw (and-true (f d))
 
 pub quantisers-told : (s : List ℕ) (a b d : Bool) → length s ≡ 3 → a ≡ quantiserFits (getD s 0 0) → b ≡ quantiserFits (getD s 1 0) → d ≡ quantiserFits (getD s 2 0)
     → (a && (b && d)) ≡ allFit quantiserFits s
@@ -62,6 +72,11 @@ pending-none p e = rw e
 pub pending-some : (p : Pending) (k : PictureKind) (n : ℕ) (r : Bool) → p ≡ Waits k n → r ≡ quantiserFits n → r ≡ pendingFits p
 unfolding pendingFits
 pending-some p k n r e h = rw (e, h)
+
+-- a writer that fits is not refused
+pub withdraw-answer : (w : CbrWriter) → writerFits w ≡ true → withdraw w ≡ value (withPending w Nothing)
+unfolding withdraw pick
+withdraw-answer w f = rw f
 
 -- the ways through a withdrawal
 module _ (w : CbrWriter) (f : Bool) (e : f ≡ writerFits w) where

@@ -12,6 +12,7 @@ use Rattle.bits.specs.Answers.{over}
 use Rattle.bits.proofs.Over.{over-sets, sets-append}
 use Rattle.vbv.specs.Patch.{patched}
 use Rattle.vbv.proofs.After.{patched-size}
+use Rattle.scan.specs.Codes.{sequenceEndCode}
 use Rattle.rate_control.specs.Offer.{endCode}
 
 -- one byte more
@@ -32,18 +33,23 @@ pub zeros-end : (out : List ℕ) (k left : ℕ) → left ≤ 0 → sets out k (r
 zeros-end out k zero h = refl
 zeros-end out k (suc left) h = absurd (omega arith)
 
--- the sequence's end
-pub end-put : (o out : List ℕ) (at : ℕ) (last : Bool) → last ≡ true → o ≡ sets out at (0 ∷ 0 ∷ 1 ∷ 0xB7 ∷ []) → o ≡ sets out at (endCode last)
+-- the sequence's end, after the last picture
+pub end-code-last : (last : Bool) → last ≡ true → endCode last ≡ sequenceEndCode
 unfolding endCode
-end-put o out at last h e = rw h e
+end-code-last last h = rw h
+
+pub end-code-none : (last : Bool) → last ≡ false → endCode last ≡ []
+unfolding endCode
+end-code-none last h = rw h
+
+pub end-put : (o out : List ℕ) (at : ℕ) (last : Bool) → last ≡ true → o ≡ sets out at (0 ∷ 0 ∷ 1 ∷ 0xB7 ∷ []) → o ≡ sets out at (endCode last)
+end-put o out at last h e = rw (end-code-last last h) e
 
 pub end-none : (out : List ℕ) (at : ℕ) (last : Bool) → last ≡ false → out ≡ sets out at (endCode last)
-unfolding endCode
-end-none out at last h = rw h
+end-none out at last h = rw (end-code-none last h)
 
 pub end-size : (last : Bool) → last ≡ true → length (endCode last) ≡ 4
-unfolding endCode
-end-size last h = rw h
+end-size last h = ap length (end-code-last last h)
 
 -- a run over another one of its length, in its place: what a part lent becomes
 module _ (s x y : List ℕ) (a : ℕ) (h : a + length x ≤ length s) (l : length y ≡ length x) where

@@ -19,9 +19,11 @@ use Rattle.vbv.specs.declared.VbvError.the-variants.{Early, Range}
 use Rattle.vbv.specs.declared.VbvViolation.{VbvViolation}
 use Rattle.vbv.specs.declared.VbvViolation.the-variants.{Overflow, Underflow}
 use Rattle.vbv.specs.declared.VbvModel.the-variants as md
+use Rattle.vbv.specs.declared.VbvRemoval.{VbvRemoval}
 use Rattle.vbv.specs.declared.VbvRemoval.the-variants as rm
 use Rattle.vbv.specs.declared.VbvDelay.the-variants as dl
 use Rattle.vbv.specs.declared.VbvBits.the-variants as bt
+use Rattle.vbv.proofs.Picks.{yes, no}
 use Rattle.vbv.proofs.Fitting.{params-fit, model-fits}
 use Rattle.vbv.proofs.Laws.{beyond-is, delay-most, fits-params, started, starts}
 use Rattle.vbv.proofs.Told.{next-told}
@@ -42,24 +44,11 @@ use Rattle.rate_control.proofs.Ways.{first-low}
 
 -- ---- chains
 
--- a function of a choice
-pub through : {A B : Type 0} (f : A → B) (t : Bool) (a b : A) (c d : B) → f a ≡ c → (t ≡ false → f b ≡ d) → f (pick t a b) ≡ pick t c d
+-- two choices by one test: what holds between their first sides and, where the test fails, between their second ones
+pub alike : {A B : Type 0} (R : A → B → Type 0) (t : Bool) {a b : A} {c d : B} → R a c → (t ≡ false → R b d) → R (pick t a b) (pick t c d)
 unfolding pick
-through f true a b c d e h = e
-through f false a b c d e h = h refl
-
-pick-no : {A : Type 0} (t : Bool) (x : A) {y z : A} → (t ≡ false → y ≡ z) → pick t x y ≡ pick t x z
-unfolding pick
-pick-no true x h = refl
-pick-no false x h = h refl
-
-one : {A : Type 0} (t : Bool) (x y : A) → t ≡ true → pick t x y ≡ x
-unfolding pick
-one t x y h = rw h
-
-other : {A : Type 0} (t : Bool) (x y : A) → t ≡ false → pick t x y ≡ y
-unfolding pick
-other t x y h = rw h
+alike R true e h = e
+alike R false e h = h refl
 
 -- one of two numbers passes 2^48
 either : (a b : ℕ) → 281474976710656 < max a b → (ltb (2 ^ 48) a || ltb (2 ^ 48) b) ≡ true
@@ -106,10 +95,6 @@ pub record StartedModel (w : CbrWriter) (o : Offer) : Type 0 where
   pub started-is : startedAt (w .model) (position w o) ≡ md.Model model
   pub begun : StartedFor w o model
 
-first-small : (p : VbvParams) → paramsFit p ≡ true → firstDelay p < 65536
-unfolding firstDelay
-first-small p f = first-low p (params-fit f)
-
 start-model : (w : CbrWriter) (o : Offer) → writerFits w ≡ true → position w o ≤ 2 ^ 48 → StartedModel w o
 unfolding startedAt
 start-model w o f h = go (w .model .started) refl
@@ -121,7 +106,7 @@ start-model w o f h = go (w .model .started) refl
     go true e =
         record {
           model = w .model;
-          started-is = one _ _ _ e;
+          started-is = sym (yes _ _ _ e refl);
           begun = record { fits = fitted; is-started = e; same-params = refl; same-end = refl; same-count = refl; delivered-is = sym (delivered-later w o e) };
         }
     go false e =
@@ -130,10 +115,10 @@ start-model w o f h = go (w .model .started) refl
         let r = started (w .model) d (position w o) _ s in
         record {
           model = atDelivered (w .model) (firstDelivered (w .model .params) (position w o) d);
-          started-is = other _ _ _ e ∙ starts-named (w .model) d (position w o) fitted e h;
+          started-is = sym (no _ _ _ e refl) ∙ starts-named (w .model) d (position w o) fitted e h;
           begun =
               record {
-                fits = r .fits (first-small (w .model .params) (fits-params (w .model) fitted));
+                fits = r .fits (first-low (w .model .params) (params-fit (fits-params (w .model) fitted)));
                 is-started = r .is-started;
                 same-params = r .params-kept;
                 same-end = r .end-kept;
@@ -233,7 +218,7 @@ module _ (w : CbrWriter) (o : Offer) (f : writerFits w ≡ true) (n : VbvCbrMode
   unfolding content
   inside = omega arith
 
-  -- in time and no overflow: the delay can be measuredFor
+  -- in time and no overflow: the delay can be told
   ready-told : position w o ≤ 2 ^ 48 → beyond p (position w o) (deliveredAt w o) ≡ false
       → overflows p (w .model .«prev_end_bits») (deliveredAt w o) ≡ false
       → readyBy (afterRemoval (w .model) (end w o) (deliveredNext w o)) x (stuffing w o) (delayOf (delayForPicture n (position w o))) ≡ Ready (placement w o)
@@ -251,8 +236,8 @@ module _ (w : CbrWriter) (o : Offer) (f : writerFits w ≡ true) (n : VbvCbrMode
         ≡ pick (beyond p (end w o) (deliveredAt w o)) (Refused Stuffing) (Ready (placement w o))
     end-told t g =
         let i = o .interval in
-        ap (byEnd n x (stuffing w o)) (removal (end w o) (omega (arith, inside, end-same w o)) far ∙ other _ _ _ g)
-        ∙ through (byEnd n x (stuffing w o)) _ _ _ _ _ (end-violated n x (stuffing w o) i _)
+        ap (byEnd n x (stuffing w o)) (removal (end w o) (omega (arith, inside, end-same w o)) far ∙ sym (no _ _ _ g refl))
+        ∙ alike (λ (r : VbvRemoval) (j : Tested). byEnd n x (stuffing w o) r ≡ j) _ (end-violated n x (stuffing w o) i _)
         (λ h22. end-model n x (stuffing w o) i _ ∙ ready-told near t g)
 
     size-told : beyond p (position w o) (deliveredAt w o) ≡ false
@@ -264,8 +249,8 @@ module _ (w : CbrWriter) (o : Offer) (f : writerFits w ≡ true) (n : VbvCbrMode
         let i = o .interval in
         let z = stuffing w o in
         ap (bySize n x z i) (removal (content w o) inside (omega (arith, end-same w o)))
-        ∙ through (bySize n x z i) _ _ _ _ _ (size-over n x z i _ _ _)
-        (λ h9. through (bySize n x z i) _ _ _ _ _ (size-under n x z i _ _ _)
+        ∙ alike (λ (r : VbvRemoval) (j : Tested). bySize n x z i r ≡ j) _ (size-over n x z i _ _ _)
+        (λ h9. alike (λ (r : VbvRemoval) (j : Tested). bySize n x z i r ≡ j) _ (size-under n x z i _ _ _)
         (λ size. size-model n x z i _ ∙ rw (end-same w o) (end-told t h9)))
 
     pub position-told : byMost n x (stuffing w o) (o .interval) (bitsOf (maxEndBits n)) ≡ measuredFor w o
@@ -274,7 +259,7 @@ module _ (w : CbrWriter) (o : Offer) (f : writerFits w ≡ true) (n : VbvCbrMode
         rw most-told
         (most-case n x (stuffing w o) (o .interval) _
         ∙ rw (← beyond-is p params-fits (position w o) (deliveredAt w o))
-        (pick-no _ _ (λ h7. size-told h7) ∙ sym (other _ _ _ (neither (position w o) (end w o) near far))))
+        (alike (λ (a b : Tested). a ≡ b) _ refl (λ h7. size-told h7) ∙ no _ _ _ (neither (position w o) (end w o) near far) refl))
 
 -- ---- 14
 
@@ -284,7 +269,7 @@ module _ (w : CbrWriter) (o : Offer) where
 
   far-told : 281474976710656 < max (position w o) (end w o) → Refused (Model Range) ≡ measuredFor w o
   unfolding measuredFor
-  far-told h = sym (one _ _ _ (either (position w o) (end w o) h))
+  far-told h = yes _ _ _ (either (position w o) (end w o) h) refl
 
   module _ (f : writerFits w ≡ true) where
     stuffed-told : (n : VbvCbrModel) → StartedFor w o n → position w o ≤ 2 ^ 48 → withStuffing n (extent w o) (o .interval) (stuffing w o) ≡ measuredFor w o

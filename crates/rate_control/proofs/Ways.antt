@@ -34,10 +34,12 @@ use Rattle.rate_control.specs.declared.CbrError.the-variants.{Model, Vio
 use Rattle.rate_control.specs.declared.Extent.{Extent}
 use Rattle.rate_control.specs.declared.Tested.{Tested}
 use Rattle.rate_control.specs.declared.Tested.the-variants.{Refused, TooLarge, Ready}
+use Rattle.rate_control.proofs.Storage.{end-code-none, end-size}
 
 -- ---- the first delay
 
-pub first-low : (p : VbvParams) → ParamsFit p → 90000 * p .«buffer_size_bits» * 3 / (4 * p .«bit_rate») < 65536
+pub first-low : (p : VbvParams) → ParamsFit p → firstDelay p < 65536
+unfolding firstDelay
 first-low p f =
     div-lt-iff-lt-mul {k = 4 * p .«bit_rate»} {x = 90000 * p .«buffer_size_bits» * 3} {y = 65536} (omega arith) .1 (omega arith)
 
@@ -150,12 +152,10 @@ module _ (m : VbvCbrModel) (x : Extent) (i : RemovalInterval) (last : Bool) (r :
 -- ---- all
 
 pub end-code-four : (last : Bool) → last ≡ true → (4 ≡ length (endCode last)) × (4 ≤ 4)
-unfolding endCode
-end-code-four last h = (rw h, omega arith)
+end-code-four last h = (sym (end-size last h), omega arith)
 
-pub end-code-none : (last : Bool) → last ≡ false → (0 ≡ length (endCode last)) × (0 ≤ 4)
-unfolding endCode
-end-code-none last h = (rw h, omega arith)
+pub end-code-empty : (last : Bool) → last ≡ false → (0 ≡ length (endCode last)) × (0 ≤ 4)
+end-code-empty last h = (rw (end-code-none last h), omega arith)
 
 module _ (m : VbvCbrModel) (headers layer : ℕ) (i : RemovalInterval) (last : Bool) (a : ℕ) (e : a ≡ max headers layer) where
   pub far-bytes : 35184372088832 < a → Refused (Model Range) ≡ measured m headers layer i last

@@ -62,7 +62,7 @@ sent n [] = []
 sent n (offered o a out ∷ l) = sentBy n o a out (λ k. sent k l)
 sent n (withdrawn k ∷ l) = sent n l
 
--- endToEnd end to end
+-- laid end to end
 unfoldable pub endToEnd : List Sent → List ℕ
 endToEnd [] = []
 endToEnd (x ∷ xs) = x .bytes ++ endToEnd xs

@@ -49,13 +49,6 @@ use Rattle.rate_control.specs.declared.Tested.the-variants.{Refused, Too
 
 -- ---- creation
 
--- what the ranges say, as bounds
-pub record ConfigFits (c : CbrConfig) : Type 0 where
-  pub rate-high : c .«bit_rate_value» ≤ 262143
-  pub size-high : c .«vbv_buffer_size_value» ≤ 1023
-  pub between-high : c .«b_between» ≤ 15
-  pub anchors-high : c .«anchors_per_gop» ≤ 255
-
 -- the targets are counted in 64 bits
 pub record TargetsFit (p : VbvParams) (between anchors : ℕ) : Type 0 where
   pub rate-high : p .«bit_rate» ≤ 104857200

@@ -1,7 +1,7 @@
 // The writer after an offer.
 ghost use mathlib.Core.Path.{_≡_};
 ghost use Rattle.rate_control.specs.Writer.{asked};
-ghost use Rattle.rate_control.specs.Steps.{Placeable, placedBy, refusedInCode as refusedOf, tooLargeInCode};
+ghost use Rattle.rate_control.specs.Steps.{Placeable, placedBy, refusedInCode, tooLargeInCode};
 use crate::CbrAnswer;
 use crate::CbrError;
 use crate::CbrOffered;
@@ -16,7 +16,7 @@ use layers::PictureKind;
 impl CbrWriter {
     // Nothing changes.
     pub(crate) fn refused(self, error: CbrError) -> CbrOffered
-        ensures { λ r. ⌜ r ≡ refusedOf self error ⌝ }
+        ensures { λ r. ⌜ r ≡ refusedInCode self error ⌝ }
     {
         CbrOffered {
             answer: CbrAnswer::Refused(error),

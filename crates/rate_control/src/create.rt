@@ -2,8 +2,9 @@
 ghost use mathlib.Core.Path.{_≡_};
 ghost use Rattle.bits.specs.Refusals.{orElse};
 ghost use Rattle.rate_control.specs.Answers.{createdAnswer};
-ghost use Rattle.rate_control.specs.Create.{within as withinOf, configFits, freshWriter, noWriter, create as createOf};
-ghost use Rattle.rate_control.specs.Steps.{ConfigFits, TargetsFit, notCreated, Creates, withRate};
+ghost use Rattle.rate_control.specs.Create.{within, configFits, freshWriter, noWriter, create};
+ghost use Rattle.rate_control.specs.Due.{Ranges};
+ghost use Rattle.rate_control.specs.Steps.{TargetsFit, notCreated, Creates, withRate};
 ghost use Rattle.rate_control.specs.Targets.{targets};
 use crate::CbrConfig;
 use crate::CbrCreated;
@@ -17,7 +18,7 @@ use vbv::VbvModel;
 use vbv::VbvParams;
 
 fn within(low: u64, high: u64, value: u64) -> bool
-    ensures { λ r. ⌜ r ≡ withinOf low high value ⌝ }
+    ensures { λ r. ⌜ r ≡ within low high value ⌝ }
 {
     (low <= value) & (value <= high)
 }
@@ -108,7 +109,7 @@ impl CbrConfig {
     }
 
     fn with_rate(self, frn: u64, frd: u64) -> CbrCreated
-        requires { ⌜ ConfigFits self ⌝ }
+        requires { ⌜ Ranges self ⌝ }
         ensures { λ r. ⌜ Creates r (withRate self (frn, frd)) ⌝ }
     {
         let rate = self.bit_rate_value as u64;
@@ -132,8 +133,8 @@ impl CbrConfig {
 impl CbrWriter {
     // Refused in this order: 12 for a range, 6 for the rate code, 12 for the ratio.
     pub fn create(config: CbrConfig) -> CbrCreated
-        ensures { λ r. ⌜ createdAnswer r ≡ createOf config ⌝ }
-        ensures { λ r. ⌜ r .writer ≡ orElse noWriter (createOf config) ⌝ }
+        ensures { λ r. ⌜ createdAnswer r ≡ create config ⌝ }
+        ensures { λ r. ⌜ r .writer ≡ orElse noWriter (create config) ⌝ }
     {
         if config.fits() {
             match vbv::frame_rate_value(config.frame_rate_code) {

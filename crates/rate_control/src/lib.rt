@@ -112,7 +112,7 @@ struct Extent {
     pub bytes: u64,
 }
 
-// What is placed: the model behind it, the delay, all bytes and the zeros among them.
+// What is placed: the model after it, the delay, all bytes and the zeros among them.
 struct Placement {
     pub model: VbvCbrModel,
     pub vbv_delay: u16,

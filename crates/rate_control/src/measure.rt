@@ -6,7 +6,7 @@ ghost use Rattle.vbv.specs.Steps.{ParamsFit, ModelFits};
 ghost use Rattle.vbv.specs.Model.{delayForPicture, removePicture, maxEndBits, minEndBits};
 ghost use Rattle.vbv.specs.Steps.{delayOf, bitsOf, removalOf};
 ghost use Rattle.rate_control.specs.Offer.{firstDelay, endCode};
-ghost use Rattle.rate_control.specs.Steps.{ExtentFits, startedAt, stuffingUpTo, violated as violatedOf, readyBy, byEnd, byMost, byLeast, measured as measuredOf};
+ghost use Rattle.rate_control.specs.Steps.{ExtentFits, startedAt, stuffingUpTo, violated, readyBy, byEnd, byMost, byLeast, measured};
 use crate::CbrError;
 use crate::Extent;
 use crate::Placement;
@@ -64,7 +64,7 @@ fn stuffing(least: u64, content: u64, last: bool) -> u64
 
 // An underflow is a picture too large.
 fn violated(violation: VbvViolation) -> Tested
-    ensures { λ r. ⌜ r ≡ violatedOf violation ⌝ }
+    ensures { λ r. ⌜ r ≡ violated violation ⌝ }
 {
     match violation {
         VbvViolation::Overflow {
@@ -85,7 +85,7 @@ fn violated(violation: VbvViolation) -> Tested
     }
 }
 
-// With the model behind the picture, the delay.
+// With the model after the picture, the delay.
 fn ready(model: VbvCbrModel, next: VbvCbrModel, extent: Extent, zeros: u64) -> Tested
     requires { ⌜ ExtentFits extent zeros ⌝ }
     ensures { λ r. ⌜ r ≡ readyBy next extent zeros (delayOf (delayForPicture model (extent .position))) ⌝ }
@@ -160,7 +160,7 @@ fn greater(a: u64, b: u64) -> u64
     if a < b { b } else { a }
 }
 
-fn tail_bytes(last: bool) -> u64
+fn end_code_bytes(last: bool) -> u64
     ensures { λ r. ⌜ (r ≡ length (endCode last)) × (r ≤ 4) ⌝ }
 {
     if last { 4 } else { 0 }
@@ -175,13 +175,13 @@ pub(crate) fn measured(
     last: bool,
 ) -> Tested
     requires { ⌜ ModelFits model ⌝ }
-    ensures { λ r. ⌜ r ≡ measuredOf model headers layer interval last ⌝ }
+    ensures { λ r. ⌜ r ≡ measured model headers layer interval last ⌝ }
 {
     if FAR_BYTES < greater(headers, layer) {
         return Tested::Refused(CbrError::Model(VbvError::Range));
     }
     let previous = model.prev_end_bits;
-    let bytes = headers + layer + tail_bytes(last);
+    let bytes = headers + layer + end_code_bytes(last);
     let position = previous + 8 * (headers + 4);
     let content = previous + 8 * bytes;
     if FAR < greater(position, content) {

@@ -1,7 +1,7 @@
 // An offer: its tests in paper 01's order, and its answer.
 ghost use mathlib.Core.Path.{_≡_};
 ghost use Rattle.rate_control.specs.Answers.{offerAnswer};
-ghost use Rattle.rate_control.specs.Offer.{offer as offerOf, left, outAfter};
+ghost use Rattle.rate_control.specs.Offer.{offer, left, outAfter};
 ghost use Rattle.rate_control.specs.Steps.{tested};
 use crate::CbrError;
 use crate::CbrOffered;
@@ -56,7 +56,7 @@ impl CbrWriter {
         layer: &[u8],
         out: &mut [u8],
     ) -> CbrOffered
-        ensures { λ r. ⌜ offerAnswer (r .answer) ≡ offerOf self (record { headers = now (headers .entry); kind = kind; interval = interval; last = last; layer = now (layer .entry); out = now (out .entry) }) ⌝ }
+        ensures { λ r. ⌜ offerAnswer (r .answer) ≡ offer self (record { headers = now (headers .entry); kind = kind; interval = interval; last = last; layer = now (layer .entry); out = now (out .entry) }) ⌝ }
         ensures { λ r. ⌜ r .writer ≡ left self (record { headers = now (headers .entry); kind = kind; interval = interval; last = last; layer = now (layer .entry); out = now (out .entry) }) ⌝ }
         ensures { λ r. ⌜ now (out .exit) ≡ outAfter self (record { headers = now (headers .entry); kind = kind; interval = interval; last = last; layer = now (layer .entry); out = now (out .entry) }) ⌝ }
     {

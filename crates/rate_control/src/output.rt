@@ -59,10 +59,10 @@ pub(crate) fn put_placed(
     ensures { λ r. ⌜ now (out .exit) ≡ over (now (headers .entry) ++ (patched (now (layer .entry)) «vbv_delay» ++ (replicate zeros 0 ++ endCode last))) (now (out .entry)) ⌝ }
 {
     let picture = headers.len();
-    let behind = picture + layer.len();
+    let after = picture + layer.len();
     put(out, 0, headers);
     put(out, picture, layer);
-    vbv::patch_vbv_delay(&mut out[picture..behind], vbv_delay);
-    put_zeros(out, behind, zeros);
-    put_end(out, behind + zeros, last);
+    vbv::patch_vbv_delay(&mut out[picture..after], vbv_delay);
+    put_zeros(out, after, zeros);
+    put_end(out, after + zeros, last);
 }

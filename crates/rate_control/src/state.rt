@@ -2,7 +2,7 @@
 ghost use mathlib.Core.Path.{_≡_};
 ghost use Prim.Native.Nat.{_+_, _-_, _^_, _≤_, _<_, min, max};
 ghost use lib.Dec.{leb};
-ghost use Rattle.rate_control.specs.Writer.{quantiserFits, allFit, pendingFits, writerFits, index as indexOf, clashes as clashesOf, asked, coarser as coarserOf, steered as steeredOf};
+ghost use Rattle.rate_control.specs.Writer.{quantiserFits, allFit, pendingFits, writerFits, index, clashes, asked, coarser, steered};
 use crate::CbrWriter;
 use crate::Pending;
 use layers::PictureKind;
@@ -38,7 +38,7 @@ fn pending_fits(pending: Pending) -> bool
 }
 
 pub(crate) fn index(kind: PictureKind) -> usize
-    ensures { λ r. ⌜ (r ≡ indexOf kind) × (r < 3) ⌝ }
+    ensures { λ r. ⌜ (r ≡ index kind) × (r < 3) ⌝ }
 {
     match kind {
         PictureKind::I => 0,
@@ -49,7 +49,7 @@ pub(crate) fn index(kind: PictureKind) -> usize
 
 // Whether the pending picture is of another kind.
 pub(crate) fn clashes(pending: Pending, kind: PictureKind) -> bool
-    ensures { λ r. ⌜ r ≡ clashesOf pending kind ⌝ }
+    ensures { λ r. ⌜ r ≡ clashes pending kind ⌝ }
 {
     match pending {
         Pending::Nothing => false,
@@ -59,7 +59,7 @@ pub(crate) fn clashes(pending: Pending, kind: PictureKind) -> bool
 
 // The quantiser with which a picture that is too large is to be encoded again.
 pub(crate) fn coarser(q: u8) -> u8
-    ensures { λ r. ⌜ r ≡ coarserOf q ⌝ }
+    ensures { λ r. ⌜ r ≡ coarser q ⌝ }
 {
     let wide = q as u16;
     let next = wide + 1 + wide / 4;
@@ -88,7 +88,7 @@ fn at_least_one(target: u64) -> u64
 pub(crate) fn steered(q: u8, target: u64, bits: u64) -> u8
     requires { ⌜ target ≤ 2 ^ 48 ⌝ }
     requires { ⌜ bits ≤ 2 ^ 48 ⌝ }
-    ensures { λ r. ⌜ r ≡ steeredOf q target bits ⌝ }
+    ensures { λ r. ⌜ r ≡ steered q target bits ⌝ }
 {
     let aim = at_least_one(target);
     if 6 * aim < 5 * bits {
