@@ -22,7 +22,7 @@ use Rattle.verify.specs.declared.VbvVerifyError.{VbvVerifyError}
 use Rattle.verify.specs.declared.VbvStreamReport.{VbvStreamReport}
 use Rattle.verify.specs.declared.VbvRefusal.{VbvRefusal}
 use Rattle.words.specs.Words.{wordsBytes, laid}
-use Rattle.layout.specs.Answers.{reportWords, refusalWords}
+use Rattle.layout.specs.Answers.{reportSize, refusalSize, reportWords, refusalWords}
 use Rattle.hipokuta.specs.Check.{checked, reportAfter, recordsAfter, refusalAfter}
 
 -- ---- an answer of the check, without its records
@@ -60,12 +60,12 @@ module _ (s : List ℕ) (standard : ℕ) (p q f : List ℕ) where
 
   -- ---- the ways of the chain
 
-  pub no-place : {r : VbvRefusal} {n : ℕ} {f' : List ℕ} → (ltb (length f) 32 || ltb (length p) 40) ≡ true
+  pub no-place : {r : VbvRefusal} {n : ℕ} {f' : List ℕ} → (ltb (length f) refusalSize || ltb (length p) reportSize) ≡ true
       → r ≡ plain 19 → n ≡ r .number → f' ≡ laid (wordsBytes (refusalWords r)) f → Leaves (checked s standard p q f) n p q f'
   unfolding checked pick
   no-place h e n w = rw h (leaves-refused 19 e n w)
 
-  module _ (h : (ltb (length f) 32 || ltb (length p) 40) ≡ false) where
+  module _ (h : (ltb (length f) refusalSize || ltb (length p) reportSize) ≡ false) where
     pub no-standard : {r : VbvRefusal} {n : ℕ} {f' : List ℕ} → (standard ≡ 1 → ⊥) → (standard ≡ 2 → ⊥)
         → r ≡ plain 12 → n ≡ r .number → f' ≡ laid (wordsBytes (refusalWords r)) f → Leaves (checked s standard p q f) n p q f'
     unfolding checked pick

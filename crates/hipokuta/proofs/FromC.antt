@@ -22,16 +22,17 @@ use Rattle.rate_control.proofs.Lists.{steps-none, steps-one, steps-append, fina
 use Rattle.rate_control.proofs.Keeping.{Whole, created-whole, left-whole, final-whole}
 use Rattle.bits.proofs.Numbering.{refused-low}
 use Rattle.rate_control.proofs.Refusing.{writer-numbers}
-use Rattle.layout.specs.State.{stateBytes, stateFits, writerAt}
+use Rattle.layout.specs.State.{stateSize, stateBytes, stateFits, writerAt}
 use Rattle.words.specs.Words.{laid}
 use Rattle.layout.proofs.RoundTrip.{read-put, length-state}
 use Rattle.words.proofs.Laying.{laid-laid}
-use Rattle.hipokuta.specs.Send.{stateAfter, creation, COffer, choicesFit, offerOf, reach, answered, offerState, offerOut, offerPlace, withdrawal}
+use Rattle.hipokuta.specs.Send.{stateAfter, createIn, COffer, choicesFit, offerOf, reach, offerIn, offerState, offerOut, offerPlace, withdrawIn}
 use Rattle.hipokuta.specs.Calls.{CCall, offers, withdraws, callState, offerSteps, callSteps, stepsFromC, finalState, forWriter, allForWriter, seenOf, seenOfAll, shownAs, shownStep, shown, shownAll, FromCreation, OwedFromC}
+use Rattle.layout.specs.Answers.{answerSize}
 
 -- ---- a call on a writer's state in a place
 
-module _ (w : CbrWriter) (h : Whole w) (place : List ℕ) (room : 152 ≤ length place) where
+module _ (w : CbrWriter) (h : Whole w) (place : List ℕ) (room : stateSize ≤ length place) where
   abbrev bytes : List ℕ
   bytes = laid (stateBytes w) place
 
@@ -48,14 +49,14 @@ module _ (w : CbrWriter) (h : Whole w) (place : List ℕ) (room : 152 ≤ length
       laid-laid _ _ place (length-state (leftByCall w c) (n .targets) (n .inv .three) ∙ sym (length-state w (h .targets) (h .inv .three)))
 
   -- what C sees
-  sees-offer : (o : COffer) (a f : Bool) → ltb (length (o .answer)) 72 ≡ a → choicesFit o ≡ f → seenOf bytes (offers o) ≡ shown w (offers o)
-  unfolding seenOf shown shownAs shownStep reach answered offerOut offerPlace pick
+  sees-offer : (o : COffer) (a f : Bool) → ltb (length (o .answer)) answerSize ≡ a → choicesFit o ≡ f → seenOf bytes (offers o) ≡ shown w (offers o)
+  unfolding seenOf shown shownAs shownStep reach offerIn offerOut offerPlace pick
   sees-offer o true f e g = rw (fits, e)
   sees-offer o false false e g = rw (fits, e, g)
   sees-offer o false true e g = rw (fits, e, g, read, step-offer w (offerOf o))
 
   sees : (c : CCall) → seenOf bytes c ≡ shown w c
-  unfolding seenOf shown shownStep withdrawal pick
+  unfolding seenOf shown shownStep withdrawIn pick
   sees (offers o) = sees-offer o _ _ refl refl
   sees withdraws = rw (fits, read, step-withdrawal w)
 
@@ -83,7 +84,7 @@ module _ (w : CbrWriter) (h : Whole w) (place : List ℕ) (room : 152 ≤ length
   withdrawal-leaves (refused n k c x) e l = refl
 
   asks-withdrawal : Asks withdraws
-  unfolding callSteps callState withdrawal forWriter pick
+  unfolding callSteps callState withdrawIn forWriter pick
   asks-withdrawal =
       record {
         same = rw (fits, read) (sym (steps-one w withdrawing));
@@ -94,9 +95,9 @@ module _ (w : CbrWriter) (h : Whole w) (place : List ℕ) (room : 152 ≤ length
   asks : (c : CCall) → Asks c
   unfolding reach forWriter pick
   asks withdraws = asks-withdrawal
-  asks (offers o) = go (ltb (length (o .answer)) 72) (choicesFit o) refl refl
+  asks (offers o) = go (ltb (length (o .answer)) answerSize) (choicesFit o) refl refl
     where
-      go : (a t : Bool) → ltb (length (o .answer)) 72 ≡ a → choicesFit o ≡ t → Asks (offers o)
+      go : (a t : Bool) → ltb (length (o .answer)) answerSize ≡ a → choicesFit o ≡ t → Asks (offers o)
       go true t e f = asks-nothing o 19 (rw (fits, e)) (rw e)
       go false false e f = asks-nothing o 12 (rw (fits, e, f)) (rw (e, f))
       go false true e f = asks-offer o (rw (fits, e, f, read)) (rw (e, f))
@@ -108,7 +109,7 @@ record AskAll (w : CbrWriter) (place : List ℕ) (cs : List CCall) : Type 0 wher
   sees : seenOfAll (laid (stateBytes w) place) cs ≡ shownAll w cs
   left : finalState (laid (stateBytes w) place) cs ≡ laid (stateBytes (final w (allForWriter cs))) place
 
-ask-all : (w : CbrWriter) → Whole w → (place : List ℕ) → 152 ≤ length place → (cs : List CCall) → AskAll w place cs
+ask-all : (w : CbrWriter) → Whole w → (place : List ℕ) → stateSize ≤ length place → (cs : List CCall) → AskAll w place cs
 unfolding stepsFromC finalState seenOfAll shownAll allForWriter
 ask-all w h place room [] = record { same = sym (steps-none w); sees = refl; left = rw (final-none w) }
 ask-all w h place room (c ∷ cs) =
@@ -122,12 +123,12 @@ ask-all w h place room (c ∷ cs) =
 
 -- ---- creation
 
-created-state : (c : CbrConfig) (w : CbrWriter) (place : List ℕ) → create c ≡ value w → ltb (length place) 152 ≡ false
-    → stateAfter (creation c place) place ≡ laid (stateBytes w) place
-unfolding creation stateAfter pick
+created-state : (c : CbrConfig) (w : CbrWriter) (place : List ℕ) → create c ≡ value w → ltb (length place) stateSize ≡ false
+    → stateAfter (createIn c place) place ≡ laid (stateBytes w) place
+unfolding createIn stateAfter pick
 created-state c w place h e = rw (e, h)
 
-created-from : (c : CbrConfig) (w : CbrWriter) (place : List ℕ) → create c ≡ value w → ltb (length place) 152 ≡ false → FromCreation c place
+created-from : (c : CbrConfig) (w : CbrWriter) (place : List ℕ) → create c ≡ value w → ltb (length place) stateSize ≡ false → FromCreation c place
 created-from c w place h e =
     let m = creation-found c w h in
     let s = created-state c w place h e in
@@ -138,16 +139,16 @@ created-from c w place h e =
       writer-is = h;
       from-c =
           λ cs b.
-          let a = ask-all w (created-whole c w h) place (ltb-false (length place) 152 e) cs in
+          let a = ask-all w (created-whole c w h) place (ltb-false (length place) stateSize e) cs in
           record { same = rw s (a .same); sees = rw s (a .sees); left = rw s (a .left); demand = demand c (m .frames) w (allForWriter cs) (m .frames-are) h b };
     }
 
 -- 0 says that there is room, and a writer
 pub from-c : OwedFromC
-unfolding creation pick
-from-c c place n = go (ltb (length place) 152) (create c) refl refl n
+unfolding createIn pick
+from-c c place n = go (ltb (length place) stateSize) (create c) refl refl n
   where
-    go : (t : Bool) (a : Answer CbrWriter) → ltb (length place) 152 ≡ t → create c ≡ a → number (pick t (refused 19 0 0 0) a) ≡ 0 → FromCreation c place
+    go : (t : Bool) (a : Answer CbrWriter) → ltb (length place) stateSize ≡ t → create c ≡ a → number (pick t (refused 19 0 0 0) a) ≡ 0 → FromCreation c place
     go true a e f h = absurd (omega arith)
     go false (value w) e f h = created-from c w place f e
     go false (refused m k i j) e f h = absurd (omega (arith, refused-low refl refl refl (writer-numbers .creation c) f))

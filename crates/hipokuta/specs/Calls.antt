@@ -20,9 +20,9 @@ use Rattle.rate_control.specs.declared.CbrConfig.{CbrConfig}
 use Rattle.rate_control.specs.declared.CbrWriter.{CbrWriter}
 use Rattle.rate_control.specs.declared.Pending.the-variants.{Nothing}
 use Rattle.layout.specs.State.{stateBytes, stateFits, writerAt}
-use Rattle.layout.specs.Answers.{answerWords}
+use Rattle.layout.specs.Answers.{answerSize, answerWords}
 use Rattle.words.specs.Words.{wordsBytes, laid}
-use Rattle.hipokuta.specs.Send.{stateAfter, creation, COffer, choicesFit, offerOf, reach, answered, offerState, offerOut, offerPlace, withdrawal}
+use Rattle.hipokuta.specs.Send.{stateAfter, createIn, COffer, choicesFit, offerOf, reach, offerIn, offerState, offerOut, offerPlace, withdrawIn}
 
 pub data CCall : Type 0 where
   offers : COffer → CCall
@@ -31,7 +31,7 @@ pub data CCall : Type 0 where
 -- the state's bytes after a call
 unfoldable pub callState : List ℕ → CCall → List ℕ
 callState s (offers o) = offerState s o
-callState s withdraws = stateAfter (withdrawal s) s
+callState s withdraws = stateAfter (withdrawIn s) s
 
 -- what the writer was asked and answered in a call; nothing, where the call stopped ahead of it
 unfoldable pub offerSteps : Answer (CbrWriter × Offer) → List Step
@@ -53,7 +53,7 @@ finalState s (c ∷ cs) = finalState (callState s c) cs
 -- the calls of the list that are for the writer: an offer with an answer place, and with a kind, interval and flag
 unfoldable pub forWriter : CCall → List Call
 forWriter (offers o) =
-    pick (ltb (length (o .answer)) 72) []
+    pick (ltb (length (o .answer)) answerSize) []
     (pick (not (choicesFit o)) []
     (offering (offerOf o) ∷ []))
 forWriter withdraws = withdrawing ∷ []
@@ -70,8 +70,8 @@ pub record SeenByC : Type 0 where
 
 -- of calls on a state's bytes, by the promises of the entries
 unfoldable pub seenOf : List ℕ → CCall → SeenByC
-seenOf s (offers o) = record { returned = number (answered s o); out = offerOut s o; answer = offerPlace s o }
-seenOf s withdraws = record { returned = number (withdrawal s); out = []; answer = [] }
+seenOf s (offers o) = record { returned = number (offerIn s o); out = offerOut s o; answer = offerPlace s o }
+seenOf s withdraws = record { returned = number (withdrawIn s); out = []; answer = [] }
 
 unfoldable pub seenOfAll : List ℕ → List CCall → List SeenByC
 seenOfAll s [] = []
@@ -87,7 +87,7 @@ shownStep (withdrawn n) place = record { returned = n; out = []; answer = place 
 
 unfoldable pub shown : CbrWriter → CCall → SeenByC
 shown w (offers o) =
-    pick (ltb (length (o .answer)) 72) (shownAs (refused 19 0 0 0) (o .out) (o .answer))
+    pick (ltb (length (o .answer)) answerSize) (shownAs (refused 19 0 0 0) (o .out) (o .answer))
     (pick (not (choicesFit o)) (shownAs (refused 12 0 0 0) (o .out) (o .answer))
     (shownStep (stepOf w (offering (offerOf o))) (o .answer)))
 shown w withdraws = shownStep (stepOf w withdrawing) []
@@ -99,11 +99,11 @@ shownAll w (c ∷ cs) = shown w c ∷ shownAll (final w (forWriter c)) cs
 -- of calls on the state of the writer w, created with c in a place, the frame rate of its code being f
 pub record FromC (c : CbrConfig) (f : ℕ × ℕ) (w : CbrWriter) (place : List ℕ) (cs : List CCall) : Type 0 where
   -- the writer is asked these calls, in order, each on what the one before left, and these are its answers
-  pub same : stepsFromC (stateAfter (creation c place) place) cs ≡ stepsOf w (allForWriter cs)
+  pub same : stepsFromC (stateAfter (createIn c place) place) cs ≡ stepsOf w (allForWriter cs)
   -- C sees of every call what the writer shows of it; no call finds the state unfit
-  pub sees : seenOfAll (stateAfter (creation c place) place) cs ≡ shownAll w cs
+  pub sees : seenOfAll (stateAfter (createIn c place) place) cs ≡ shownAll w cs
   -- the bytes that are left are those of the writer that is left
-  pub left : finalState (stateAfter (creation c place) place) cs ≡ laid (stateBytes (final w (allForWriter cs))) place
+  pub left : finalState (stateAfter (createIn c place) place) cs ≡ laid (stateBytes (final w (allForWriter cs))) place
   pub demand : DemandOf c f w (allForWriter cs)
 
 -- a creation that C sees accepted has a frame rate and a writer, and so it is with every list of calls
@@ -115,25 +115,25 @@ pub record FromCreation (c : CbrConfig) (place : List ℕ) : Type 0 where
   pub from-c : (cs : List CCall) → AllBytes (allForWriter cs) → FromC c rate writer place cs
 
 abbrev pub OwedFromC : Type 0
-OwedFromC = (c : CbrConfig) (place : List ℕ) → number (creation c place) ≡ 0 → FromCreation c place
+OwedFromC = (c : CbrConfig) (place : List ℕ) → number (createIn c place) ≡ 0 → FromCreation c place
 
 -- ---- one call
 
 -- what a refusal leaves as it was, of any state bytes and offer; Numbers.antt says which numbers there are
 pub record Keeps (s : List ℕ) (o : COffer) : Type 0 where
   -- state bytes that hold no writer are 12 before anything else
-  pub no-writer : stateFits s ≡ false → (answered s o ≡ refused 12 0 0 0) × (withdrawal s ≡ refused 12 0 0 0)
+  pub no-writer : stateFits s ≡ false → (offerIn s o ≡ refused 12 0 0 0) × (withdrawIn s ≡ refused 12 0 0 0)
   -- a refusal changes neither state nor output part, but that 21 does what a withdrawal does
-  pub state : 1 ≤ number (answered s o) → (number (answered s o) ≡ 21 → ⊥) → offerState s o ≡ s
-  pub closes : number (answered s o) ≡ 21 → offerState s o ≡ stateAfter (withdrawal s) s
+  pub state : 1 ≤ number (offerIn s o) → (number (offerIn s o) ≡ 21 → ⊥) → offerState s o ≡ s
+  pub closes : number (offerIn s o) ≡ 21 → offerState s o ≡ stateAfter (withdrawIn s) s
   -- which with nothing pending has nothing to close
-  pub not-pending : writerAt s .pending ≡ Nothing → stateAfter (withdrawal s) s ≡ s
-  pub out : 1 ≤ number (answered s o) → offerOut s o ≡ o .out
+  pub not-pending : writerAt s .pending ≡ Nothing → stateAfter (withdrawIn s) s ≡ s
+  pub out : 1 ≤ number (offerIn s o) → offerOut s o ≡ o .out
   -- an output part as large as the buffer always has room
-  pub room : 72 ≤ length (o .answer) → writerAt s .model .params .«buffer_size_bits» ≤ 8 * length (o .out) → number (answered s o) ≡ 19 → ⊥
+  pub room : answerSize ≤ length (o .answer) → writerAt s .model .params .«buffer_size_bits» ≤ 8 * length (o .out) → number (offerIn s o) ≡ 19 → ⊥
   -- a refused withdrawal, and a refused creation in the same place
-  pub not-withdrawn : 1 ≤ number (withdrawal s) → stateAfter (withdrawal s) s ≡ s
-  pub not-created : (c : CbrConfig) → 1 ≤ number (creation c s) → stateAfter (creation c s) s ≡ s
+  pub not-withdrawn : 1 ≤ number (withdrawIn s) → stateAfter (withdrawIn s) s ≡ s
+  pub not-created : (c : CbrConfig) → 1 ≤ number (createIn c s) → stateAfter (createIn c s) s ≡ s
 
 abbrev pub OwedOfRefusals : Type 0
 OwedOfRefusals = (s : List ℕ) (o : COffer) → Bytes s → Keeps s o

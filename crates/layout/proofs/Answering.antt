@@ -12,10 +12,10 @@ use Rattle.rate_control.specs.declared.CbrError.{CbrError}
 use Rattle.rate_control.specs.declared.CbrAnswer.{CbrAnswer}
 use Rattle.rate_control.specs.declared.CbrAnswer.the-variants.{Placed, Again, Refused}
 use Rattle.words.specs.Words.{wordsBytes, laid}
-use Rattle.layout.specs.Answers.{answerWords}
+use Rattle.layout.specs.Answers.{answerSize, answerWords}
 use Rattle.words.proofs.Bytes.{length-words}
 
-pub length-refused-answer : (n picture coded expected : ℕ) → length (wordsBytes (answerWords (refused n picture coded expected))) ≡ 72
+pub length-refused-answer : (n picture coded expected : ℕ) → length (wordsBytes (answerWords (refused n picture coded expected))) ≡ answerSize
 unfolding answerWords
 length-refused-answer n picture coded expected = omega (arith, length-words (answerWords (refused n picture coded expected)))
 

@@ -22,7 +22,7 @@ use Rattle.rate_control.specs.declared.CbrWriter.{CbrWriter}
 use Rattle.rate_control.proofs.Fitting.{all-fit-at, quantiser-is, writer-fits}
 use Rattle.rate_control.proofs.States.{pending-some}
 use Rattle.words.specs.Words.{wordAt}
-use Rattle.layout.specs.State.{codesFit, pendingOf, writerAt, stateFits, stateAt}
+use Rattle.layout.specs.State.{stateSize, codesFit, pendingOf, writerAt, stateFits, stateAt}
 use Rattle.layout.specs.Steps.{Narrow, narrow}
 use Rattle.layout.specs.declared.CbrState.{CbrState}
 use Rattle.layout.proofs.RoundTrip.{state-fits}
@@ -116,7 +116,7 @@ module _ (s : List ℕ) where
   unfolding stateAt
   not-state r f e = pick-elim (λ x. r ≡ x) (stateFits s) (λ h. absurd (f h)) (λ h. e)
 
-  pub way-short : (r : CbrState) → length s < 152 → r ≡ noState → r ≡ stateAt s
+  pub way-short : (r : CbrState) → length s < stateSize → r ≡ noState → r ≡ stateAt s
   way-short r h = not-state r (λ e. absurd (omega (arith, state-fits s e .0)))
 
   module _ (n : Bool) (e : n ≡ narrow s) where
@@ -128,6 +128,6 @@ module _ (s : List ℕ) where
       pub way-unfit : (r : CbrState) → f ≡ false → r ≡ noState → r ≡ stateAt s
       way-unfit r h = not-state r (λ z. true≢false (sym (state-fits s z .2) ∙ rw (← g, ← k) h))
 
-      pub way-held : 152 ≤ length s → n ≡ true → f ≡ true → _≡_ {A = CbrState} (record { fits = true; writer = w }) (stateAt s)
+      pub way-held : stateSize ≤ length s → n ≡ true → f ≡ true → _≡_ {A = CbrState} (record { fits = true; writer = w }) (stateAt s)
       unfolding stateAt stateFits pick
-      way-held h t u = rw (le-leb 152 (length s) h, narrow-is (sym e ∙ t) .0, ← g, ← k, u)
+      way-held h t u = rw (le-leb stateSize (length s) h, narrow-is (sym e ∙ t) .0, ← g, ← k, u)

@@ -24,7 +24,7 @@ use Rattle.rate_control.proofs.States.{Three, of-three, is-three}
 use Rattle.words.specs.Words.{wordsBytes, laid, wordAt}
 use Rattle.words.proofs.Bytes.{length-words, word-put, wordsFrom, words-back}
 use Rattle.words.proofs.Laying.{laid-over, length-laid}
-use Rattle.layout.specs.State.{pendingCode, pendingQuantiser, stateWords, stateBytes, pendingOf, codesFit, writerAt, stateFits, stateAt}
+use Rattle.layout.specs.State.{stateSize, pendingCode, pendingQuantiser, stateWords, stateBytes, pendingOf, codesFit, writerAt, stateFits}
 use Rattle.layout.proofs.Ranges.{code-low, state-small}
 
 -- ---- a writer's lists
@@ -35,7 +35,7 @@ length-state-words w t q =
     let rest = pendingCode (w .pending) ∷ pendingQuantiser (w .pending) ∷ w .«stuffing_bytes» ∷ flagOf (w .finished) ∷ [] in
     omega (arith, length-append (w .«target_bits») (w .q ++ rest), length-append (w .q) rest)
 
-pub length-state : (w : CbrWriter) → length (w .«target_bits») ≡ 3 → length (w .q) ≡ 3 → length (stateBytes w) ≡ 152
+pub length-state : (w : CbrWriter) → length (w .«target_bits») ≡ 3 → length (w .q) ≡ 3 → length (stateBytes w) ≡ stateSize
 unfolding stateBytes
 length-state w t q = omega (arith, length-words (stateWords w), length-state-words w t q)
 
@@ -60,7 +60,7 @@ pending-told (Waits B q) = refl
 abbrev Stand : CbrWriter → List ℕ → Type 0
 Stand w s = (k : ℕ) → T (ltb k 19) → wordAt s k ≡ getD (stateWords w) k 0
 
-stand-put : (w : CbrWriter) (place : List ℕ) → writerFits w ≡ true → length (w .«target_bits») ≡ 3 → length (w .q) ≡ 3 → 152 ≤ length place
+stand-put : (w : CbrWriter) (place : List ℕ) → writerFits w ≡ true → length (w .«target_bits») ≡ 3 → length (w .q) ≡ 3 → stateSize ≤ length place
     → Stand w (laid (stateBytes w) place)
 unfolding stateBytes
 stand-put w place h t q l k g =
@@ -102,7 +102,7 @@ stand-read m (of-three a b c) (of-three d e g) p n f s at = (
   ),
 )
 
-module _ (w : CbrWriter) (place : List ℕ) (h : writerFits w ≡ true) (t : length (w .«target_bits») ≡ 3) (q : length (w .q) ≡ 3) (l : 152 ≤ length place) where
+module _ (w : CbrWriter) (place : List ℕ) (h : writerFits w ≡ true) (t : length (w .«target_bits») ≡ 3) (q : length (w .q) ≡ 3) (l : stateSize ≤ length place) where
   pub read-put : (stateFits (laid (stateBytes w) place) ≡ true) × (writerAt (laid (stateBytes w) place) ≡ w)
   unfolding stateFits
   read-put =
@@ -113,10 +113,10 @@ module _ (w : CbrWriter) (place : List ℕ) (h : writerFits w ≡ true) (t : len
 -- ---- put back what was read
 
 -- what the test of a place says
-pub state-fits : (s : List ℕ) → stateFits s ≡ true → (152 ≤ length s) × (codesFit s ≡ true) × (writerFits (writerAt s) ≡ true)
+pub state-fits : (s : List ℕ) → stateFits s ≡ true → (stateSize ≤ length s) × (codesFit s ≡ true) × (writerFits (writerAt s) ≡ true)
 unfolding stateFits
 state-fits s h =
-    let a = both-true (leb 152 (length s)) _ h in
+    let a = both-true (leb stateSize (length s)) _ h in
     let b = both-true (codesFit s) _ (a .1) in
     (leb-true _ _ (a .0), b .0, b .1)
 
@@ -153,5 +153,5 @@ pub read-back : (s : List ℕ) → stateFits s ≡ true → ((k : ℕ) → getD 
 unfolding stateBytes
 read-back s h b =
     let f = state-fits s h in
-    let l = length-take-le 152 s (f .0) in
-    rw (words-read s (f .1), words-back s 19 0 b (f .0), laid-over (take 152 s) s (omega arith), over-is (take 152 s) s, l) (take-append-drop 152 s)
+    let l = length-take-le stateSize s (f .0) in
+    rw (words-read s (f .1), words-back s 19 0 b (f .0), laid-over (take stateSize s) s (omega arith), over-is (take stateSize s) s, l) (take-append-drop stateSize s)

@@ -7,6 +7,16 @@ use Rattle.verify.specs.declared.VbvRefusal.{VbvRefusal}
 use Rattle.bits.specs.Refusals.{Answer, value, refused}
 use Rattle.rate_control.specs.Answers.{Given, placed, again}
 
+-- how many bytes each has: five, four and nine words
+abbrev pub reportSize : ℕ
+reportSize = 40
+
+abbrev pub refusalSize : ℕ
+refusalSize = 32
+
+abbrev pub answerSize : ℕ
+answerSize = 72
+
 unfoldable pub reportWords : VbvStreamReport → List ℕ
 reportWords r =
     r .«bit_rate» ∷ r .«buffer_size_bits» ∷ r .pictures ∷ r .«min_occupancy_after_bits» ∷ r .«max_occupancy_before_bits» ∷ []

@@ -7,6 +7,7 @@ ghost use Rattle.words.specs.Words.{laid};
 ghost use Rattle.layout.specs.State.{pendingCode, pendingQuantiser, pendingOf, writerAt, stateBytes, stateAt};
 ghost use Rattle.layout.specs.Steps.{Narrow, narrow};
 use crate::CbrState;
+use crate::STATE_BYTES;
 use layers::PictureKind;
 use rate_control::CbrWriter;
 use rate_control::Pending;
@@ -15,8 +16,6 @@ use vbv::VbvCbrModel;
 use vbv::VbvParams;
 use words::put_words;
 use words::word_at;
-
-const STATE_BYTES: usize = 152;
 
 fn flag(value: bool) -> u64
     ensures { λ r. ⌜ r ≡ flagOf value ⌝ }
