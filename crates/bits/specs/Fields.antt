@@ -45,10 +45,6 @@ sameBytes [] (b ∷ t) = false
 sameBytes (a ∷ s) [] = false
 sameBytes (a ∷ s) (b ∷ t) = eqb a b && sameBytes s t
 
--- the three bytes that every start code begins with (6.2.1: start_code_prefix)
-abbrev pub startCodePrefix : List ℕ
-startCodePrefix = 0x00 ∷ 0x00 ∷ 0x01 ∷ []
-
 -- a header is a start code, four bytes read as one, and after it the fields (6.2.1)
 unfoldable pub readHeader : List ℕ → List Field → List ℕ → Answer (List ℕ)
 readHeader code fs s = refuse 1 (ltb (length s) 4) (refuse 2 (not (sameBytes (take 4 s) code)) (readFields fs s 32))

@@ -4,6 +4,7 @@
 use Prim.Native.Nat.{ℕ}
 use mathlib.Core.Bool.{Bool}
 use Rattle.bits.specs.Bits.{pick}
+use Rattle.bits.specs.declared.VbvRefusal.{VbvRefusal}
 
 pub data Answer (X : Type 0) : Type 0 where
   value : X → Answer X
@@ -31,3 +32,7 @@ number (refused n p c e) = n
 abbrev pub orElse : {X : Type 0} → X → Answer X → X
 orElse other (value x) = x
 orElse other (refused n p c e) = other
+
+-- in the code's terms: a refusal that carries its number alone
+abbrev pub plain : ℕ → VbvRefusal
+plain n = record { number = n; picture = 0; coded = 0; expected = 0 }

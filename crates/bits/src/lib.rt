@@ -5,8 +5,18 @@ ghost use Prim.Native.Nat.{_+_, _-_, _<_, _≤_, _*_, _/_, _%_, _^_};
 ghost use lib.ListN.{length, take};
 ghost use Rattle.bits.specs.Bits.{bitsAt, there, appendBits};
 ghost use Rattle.bits.specs.Fields.{field, readFields, sameBytes, readHeader, fitsField, fitsAll, fieldBits, total};
-ghost use Rattle.bits.specs.Refusals.{orElse};
+ghost use Rattle.bits.specs.Refusals.{orElse, plain as plainOf};
 ghost use Rattle.bits.specs.Answers.{over, readBits, bitsAnswer, wroteBits, greatest, tableOf, placed, noValues, fieldsAnswer, checkFields, checkedAnswer, writeAnswer, wroteAnswer, writeResult};
+
+pub mod start_codes; // Table 6-1
+
+// A refusal as paper 01 writes it.
+pub struct VbvRefusal {
+    pub number: u8,
+    pub picture: u64,
+    pub coded: u16,
+    pub expected: u16,
+}
 
 // What a read of some bits finds.
 pub enum Bits {
@@ -37,6 +47,18 @@ pub enum Wrote {
     Bytes(usize),
     Unfit,
     Full,
+}
+
+// A refusal that carries its number alone.
+pub fn plain(number: u8) -> VbvRefusal
+    ensures { λ r. ⌜ r ≡ plainOf number ⌝ }
+{
+    VbvRefusal {
+        number,
+        picture: 0,
+        coded: 0,
+        expected: 0,
+    }
 }
 
 fn wide(x: u8) -> u64

@@ -11,12 +11,13 @@ use Rattle.bits.specs.Bits.{pick}
 use Rattle.bits.specs.Fields.{Field, readHeader, writeHeader, fitsAll, total}
 use Rattle.bits.specs.Refusals.{Answer, value}
 use Rattle.bits.specs.Answers.{places}
+use Rattle.bits.specs.StartCodes.{startCode, extensionStartCode}
 use Rattle.bits.proofs.Reading.{places-at, Seen, whole, then-seen, header-seen, header-got, read-range, read-length, header-append, total-none, total-more}
 use Rattle.bits.proofs.Following.{then-value, then-stays, short-cut}
 use Rattle.bits.proofs.Checking.{Fits, fits-none, fits-more, fits-all}
 use Rattle.bits.proofs.Writing.{header-read-written, header-write-read, read-fits}
 use Rattle.headers.specs.Answers.{flagOf, extensionAnswer}
-use Rattle.headers.specs.SequenceExtension.{extensionStartCode, sequenceExtensionFields, chromaFormat, chromaCode, extensionOf, sequenceExtension, extensionValues}
+use Rattle.headers.specs.SequenceExtension.{sequenceExtensionFields, chromaFormat, chromaCode, extensionOf, sequenceExtension, extensionValues}
 use Rattle.headers.specs.StreamWriter.{plainExtension}
 use Rattle.headers.specs.RoundTrips.{ExtensionWrittenReads, ExtensionReadWrites, PlainWrittenReads, ExtensionStays, ExtensionCut}
 use Rattle.headers.proofs.Answers.{flag-bound, flag-same, flag-back, spread, spread-is}
@@ -32,10 +33,10 @@ extension-places vs = simp places-at
 
 -- a parsed extension is the one that its values make
 pub extension-got : (s : List ℕ) (e : Mpeg2SequenceExtension) → sequenceExtension s ≡ value e
-    → (vs : List ℕ) × (readHeader extensionStartCode sequenceExtensionFields s ≡ value vs) × (e ≡ extensionOf vs)
+    → (vs : List ℕ) × (readHeader (startCode extensionStartCode) sequenceExtensionFields s ≡ value vs) × (e ≡ extensionOf vs)
 unfolding sequenceExtension
 extension-got s e q =
-    let a = then-value (readHeader extensionStartCode sequenceExtensionFields s) q in
+    let a = then-value (readHeader (startCode extensionStartCode) sequenceExtensionFields s) q in
     (a .0, a .1, cc)
 
 pub record ExtensionBounds (e : Mpeg2SequenceExtension) : Type 0 where
@@ -51,7 +52,7 @@ pub extension-bounds : (s : List ℕ) (e : Mpeg2SequenceExtension) → sequenceE
 unfolding extensionOf
 extension-bounds s e q =
     let g = extension-got s e q in
-    let r = read-range sequenceExtensionFields s 32 (g .0) (header-got extensionStartCode sequenceExtensionFields s (g .0) (g .1) .fields-read) in
+    let r = read-range sequenceExtensionFields s 32 (g .0) (header-got (startCode extensionStartCode) sequenceExtensionFields s (g .0) (g .1) .fields-read) in
     rw (g .2) record {
       profile = r 1 .1;
       horizontal = r 4 .1;
@@ -66,12 +67,12 @@ extension-bounds s e q =
 pub extension-append : ExtensionStays
 unfolding sequenceExtension
 extension-append s t =
-    then-stays (readHeader extensionStartCode sequenceExtensionFields s) _ _ _ (header-append extensionStartCode sequenceExtensionFields s t) (λ vs k. refl)
+    then-stays (readHeader (startCode extensionStartCode) sequenceExtensionFields s) _ _ _ (header-append (startCode extensionStartCode) sequenceExtensionFields s t) (λ vs k. refl)
 
 -- it is an extension, or refused with 1 or 2
 pub extension-seen : (s : List ℕ) → Seen (sequenceExtension s)
 unfolding sequenceExtension
-extension-seen s = then-seen (header-seen extensionStartCode sequenceExtensionFields s) (λ vs. whole _)
+extension-seen s = then-seen (header-seen (startCode extensionStartCode) sequenceExtensionFields s) (λ vs. whole _)
 
 pub extension-short-cut : ExtensionCut
 extension-short-cut s t = short-cut (extension-seen s) (extension-append s t)
@@ -102,7 +103,7 @@ values-whole e = rw (chroma-same (e .«chroma_format»), flag-same (e .«progres
 -- what was written is read again, whatever stands behind
 pub extension-read-back : ExtensionWrittenReads
 unfolding sequenceExtension
-extension-read-back e t f = rw (header-read-written extensionStartCode sequenceExtensionFields (extensionValues e) t refl f, values-whole e)
+extension-read-back e t f = rw (header-read-written (startCode extensionStartCode) sequenceExtensionFields (extensionValues e) t refl f, values-whole e)
 
 -- what is within its bounds fits
 chroma-bound : (c : ChromaFormat) → (1 ≤ chromaCode c) × (chromaCode c ≤ 3)
@@ -136,10 +137,10 @@ plain-read-back c progressive t =
     (f, extension-read-back (plainExtension c progressive) t f)
 
 -- the values that were read are those of the extension that they make
-values-same : (s vs : List ℕ) → readHeader extensionStartCode sequenceExtensionFields s ≡ value vs → extensionValues (extensionOf vs) ≡ vs
+values-same : (s vs : List ℕ) → readHeader (startCode extensionStartCode) sequenceExtensionFields s ≡ value vs → extensionValues (extensionOf vs) ≡ vs
 unfolding extensionValues extensionOf
 values-same s vs e =
-    let f = header-got extensionStartCode sequenceExtensionFields s vs e .fields-read in
+    let f = header-got (startCode extensionStartCode) sequenceExtensionFields s vs e .fields-read in
     let r = read-range sequenceExtensionFields s 32 vs f in
     let e0 : 1 ≡ getD vs 0 0 = omega (arith, r 0) in
     let e2 : flagOf (eqb (getD vs 2 0) 1) ≡ getD vs 2 0 = flag-back (getD vs 2 0) (r 2 .1) in
@@ -155,7 +156,7 @@ extension-write-back s e b q =
     let g = extension-got s e q in
     let n : total sequenceExtensionFields ≡ 48 = simp (total-more, total-none) in
     let v : extensionValues e ≡ g .0 = ap extensionValues (g .2) ∙ values-same s (g .0) (g .1) in (
-      rw v (read-fits sequenceExtensionFields s 32 (g .0) (header-got extensionStartCode sequenceExtensionFields s (g .0) (g .1) .fields-read)),
-      ap (writeHeader extensionStartCode sequenceExtensionFields) v
-          ∙ rw n at (header-write-read extensionStartCode sequenceExtensionFields s (g .0) b (g .1) (λ k l h. omega arith)),
+      rw v (read-fits sequenceExtensionFields s 32 (g .0) (header-got (startCode extensionStartCode) sequenceExtensionFields s (g .0) (g .1) .fields-read)),
+      ap (writeHeader (startCode extensionStartCode) sequenceExtensionFields) v
+          ∙ rw n at (header-write-read (startCode extensionStartCode) sequenceExtensionFields s (g .0) b (g .1) (λ k l h. omega arith)),
     )

@@ -8,12 +8,13 @@ use lib.Dec.{eqb}
 use lib.ListN.{getD}
 use Rattle.bits.specs.Refusals.{Answer, value, refused, orElse}
 use Rattle.bits.specs.Fields.{readHeader}
+use Rattle.bits.specs.StartCodes.{startCode, sequenceHeaderCode}
 use Rattle.bits.proofs.Reading.{both-true, Seen, whole, then-seen, header-seen as table-seen, read-range, header-got, header-append}
 use Rattle.bits.proofs.Following.{then-value, then-stays, short-cut}
 use Rattle.headers.specs.Answers.{flagOf, refusal, headerAnswer}
 use Rattle.headers.specs.Steps.{matrixAt, matrixAnswer}
 use Rattle.headers.specs.QuantMatrix.{readMatrix, matrixOf}
-use Rattle.headers.specs.SequenceHeader.{sequenceHeaderCode, sequenceHeaderFields, aspectRatio, headerOf, noHeader, sequenceHeader}
+use Rattle.headers.specs.SequenceHeader.{sequenceHeaderFields, aspectRatio, headerOf, noHeader, sequenceHeader}
 use Rattle.headers.specs.RoundTrips.{HeaderStays, HeaderCut}
 use Rattle.headers.specs.declared.Error.{Error}
 use Rattle.headers.specs.declared.quant_matrix_extension.QuantiserMatrix.{QuantiserMatrix}
@@ -25,7 +26,7 @@ use Rattle.headers.proofs.QuantMatrix.{matrix-found, matrix-stays, matr
 
 -- the fields before the matrices
 abbrev pub fixedFields : List ℕ → Answer (List ℕ)
-fixedFields s = readHeader sequenceHeaderCode sequenceHeaderFields s
+fixedFields s = readHeader (startCode sequenceHeaderCode) sequenceHeaderFields s
 
 -- the ways that parsing goes
 module _ (s : List ℕ) where
@@ -152,7 +153,7 @@ pub sequence-header-bounds : (s : List ℕ) (h : Mpeg2SequenceHeader) → sequen
 unfolding headerOf
 sequence-header-bounds s h a =
     let p = header-parts s h a in
-    let r = read-range sequenceHeaderFields s 32 (p .fields) (header-got sequenceHeaderCode sequenceHeaderFields s (p .fields) (p .fields-read) .fields-read) in
+    let r = read-range sequenceHeaderFields s 32 (p .fields) (header-got (startCode sequenceHeaderCode) sequenceHeaderFields s (p .fields) (p .fields-read) .fields-read) in
     rw (p .header-is) (record {
       width-low = r 0 .0;
       width-high = r 0 .1;
@@ -169,7 +170,7 @@ sequence-header-bounds s h a =
 pub header-seen : (s : List ℕ) → Seen (sequenceHeader s)
 unfolding sequenceHeader
 header-seen s =
-    then-seen (table-seen sequenceHeaderCode sequenceHeaderFields s) (λ h.
+    then-seen (table-seen (startCode sequenceHeaderCode) sequenceHeaderFields s) (λ h.
     then-seen (matrix-found s 94) (λ intra.
     then-seen (matrix-found s (95 + 512 * getD intra 0 0)) (λ nonIntra.
     whole _)))
@@ -178,7 +179,7 @@ header-seen s =
 pub sequence-header-append : HeaderStays
 unfolding sequenceHeader
 sequence-header-append s t =
-    then-stays (fixedFields s) _ _ _ (header-append sequenceHeaderCode sequenceHeaderFields s t) (λ h.
+    then-stays (fixedFields s) _ _ _ (header-append (startCode sequenceHeaderCode) sequenceHeaderFields s t) (λ h.
     then-stays (readMatrix s 94) _ _ _ (matrix-stays s 94 t) (λ intra.
     then-stays (readMatrix s (95 + 512 * getD intra 0 0)) _ _ _ (matrix-stays s (95 + 512 * getD intra 0 0) t) (λ nonIntra k. refl)))
 

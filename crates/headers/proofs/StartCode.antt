@@ -12,7 +12,8 @@ use lib.Seq.{drop-cons, drop-append-le, take-append-le}
 use borrow.Author.Tests.{eqb-true, eqb-false}
 use Rattle.bits.specs.Bits.{pick}
 use Rattle.bits.specs.Refusals.{Answer, value, refused}
-use Rattle.bits.specs.Fields.{sameBytes, startCodePrefix}
+use Rattle.bits.specs.Fields.{sameBytes}
+use Rattle.bits.specs.StartCodes.{startCodePrefix}
 use Rattle.bits.proofs.Flags.{pick-elim}
 use Rattle.bits.proofs.Reading.{Seen, broken, whole, same-bytes, same-self, rest-is}
 use Rattle.headers.specs.StartCode.{zeros, prefixAt, nextStartCode}

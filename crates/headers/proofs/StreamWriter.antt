@@ -10,6 +10,7 @@ use lib.ListN.{length}
 use Rattle.bits.specs.Bits.{pick, digits, bitList, appendBits}
 use Rattle.bits.specs.Fields.{any, fieldBits, writeHeader, fitsAll, total}
 use Rattle.bits.specs.Answers.{over, wroteBits, writeAnswer, writeResult}
+use Rattle.bits.specs.StartCodes.{startCode, sequenceHeaderCode}
 use Rattle.bits.proofs.Laws.{length-digits, bit-list-length}
 use Rattle.bits.proofs.Reading.{there-is, total-none, total-more}
 use Rattle.bits.proofs.Appending.{Below, digit-bound, append-append}
@@ -19,7 +20,7 @@ use Rattle.bits.proofs.Writing.{write-unfit, write-full}
 use Rattle.bits.proofs.Joining.{field-bits-more, field-bits-none, fits-append, fits-bytes, write-on, write-over}
 use Rattle.headers.specs.Answers.{writtenAnswer, flagOf}
 use Rattle.headers.specs.QuantMatrix.{matrixBytes, matrixFields, matrixValues}
-use Rattle.headers.specs.SequenceHeader.{sequenceHeaderCode, sequenceHeaderFields}
+use Rattle.headers.specs.SequenceHeader.{sequenceHeaderFields}
 use Rattle.headers.specs.SequenceExtension.{extensionValues, chromaCode}
 use Rattle.headers.specs.StreamWriter.{paramsFields, baseValues, paramsValues, profileAndLevel, plainExtension}
 use Rattle.headers.specs.declared.sequence_extension.ChromaFormat.{ChromaFormat}
@@ -83,7 +84,7 @@ module _ (m : QuantiserMatrix) (l : length (m .bytes) ≡ 64) where
 pub total-fixed : total sequenceHeaderFields ≡ 62
 total-fixed = simp (total-more, total-none)
 
-code-small : Below 256 sequenceHeaderCode
+code-small : Below 256 (startCode sequenceHeaderCode)
 code-small zero = lit< tt
 code-small (suc zero) = lit< tt
 code-small (suc (suc zero)) = lit< tt
@@ -110,10 +111,10 @@ params-total p =
 pub params-laid : (p : SequenceHeaderParams) (out : List ℕ) {m q r : List ℕ}
     → length (intra p .bytes) ≡ 64 → length (nonIntra p .bytes) ≡ 64 → fitsAll sequenceHeaderFields (baseValues p) ≡ true
     → 32 + total (paramsFields p) ≤ 8 * length out
-    → m ≡ writeResult sequenceHeaderCode sequenceHeaderFields (baseValues p) out
+    → m ≡ writeResult (startCode sequenceHeaderCode) sequenceHeaderFields (baseValues p) out
     → q ≡ appendBits m 94 (fieldBits (matrixFields (intra p)) (matrixValues (intra p)))
     → r ≡ appendBits q (94 + total (matrixFields (intra p))) (fieldBits (matrixFields (nonIntra p)) (matrixValues (nonIntra p)))
-    → r ≡ over (writeHeader sequenceHeaderCode (paramsFields p) (paramsValues p)) out
+    → r ≡ over (writeHeader (startCode sequenceHeaderCode) (paramsFields p) (paramsValues p)) out
 unfolding paramsFields paramsValues baseValues
 params-laid p out {q = q} a b f h x y z =
     let i = matrixFields (intra p) in
@@ -124,23 +125,23 @@ params-laid p out {q = q} a b f h x y z =
     let n = matrix-count (intra p) a in
     let s : 94 ≡ 32 + total fs = omega (arith, total-fixed) in
     let u : 94 + total i ≡ 32 + total (fs ++ i) = omega (arith, total-fixed, total-append fs i) in
-    let w = write-over sequenceHeaderCode fs vs out {n = 12} refl f (omega (arith, total-fixed)) (omega arith) refl .1 in
-    let first : q ≡ over (writeHeader sequenceHeaderCode (fs ++ i) (vs ++ v)) out =
-    y ∙ rw (x, ← w, s) (write-on sequenceHeaderCode fs vs out i v code-small refl refl n (omega arith)) in
+    let w = write-over (startCode sequenceHeaderCode) fs vs out {n = 12} refl f (omega (arith, total-fixed)) (omega arith) refl .1 in
+    let first : q ≡ over (writeHeader (startCode sequenceHeaderCode) (fs ++ i) (vs ++ v)) out =
+    y ∙ rw (x, ← w, s) (write-on (startCode sequenceHeaderCode) fs vs out i v code-small refl refl n (omega arith)) in
     z ∙ rw (first, u)
-    (write-on sequenceHeaderCode (fs ++ i) (vs ++ v) out _ (matrixValues (nonIntra p)) code-small refl (omega arith) (matrix-count (nonIntra p) b) (omega arith))
+    (write-on (startCode sequenceHeaderCode) (fs ++ i) (vs ++ v) out _ (matrixValues (nonIntra p)) code-small refl (omega arith) (matrix-count (nonIntra p) b) (omega arith))
 
 -- what `write_sequence_header` promises of its answer and of the bytes that it leaves
 abbrev Promised : SequenceHeaderParams → List ℕ → Written → List ℕ → Type 0
 Promised p out r o =
-    (writtenAnswer r ≡ writeAnswer sequenceHeaderCode (paramsFields p) (paramsValues p) out)
-    × (o ≡ writeResult sequenceHeaderCode (paramsFields p) (paramsValues p) out)
+    (writtenAnswer r ≡ writeAnswer (startCode sequenceHeaderCode) (paramsFields p) (paramsValues p) out)
+    × (o ≡ writeResult (startCode sequenceHeaderCode) (paramsFields p) (paramsValues p) out)
 
 pub params-unfit : (p : SequenceHeaderParams) (out : List ℕ) → fitsAll sequenceHeaderFields (baseValues p) ≡ false
     → Promised p out (Refused FieldToWrite) out
 unfolding paramsFields paramsValues baseValues
 params-unfit p out f =
-    write-unfit sequenceHeaderCode (paramsFields p) (paramsValues p) out (fits-append sequenceHeaderFields _ (baseValues p) _ refl ∙ rw f)
+    write-unfit (startCode sequenceHeaderCode) (paramsFields p) (paramsValues p) out (fits-append sequenceHeaderFields _ (baseValues p) _ refl ∙ rw f)
 
 -- a matrix as the code holds it
 pub record Held (m : QuantiserMatrix) : Type 0 where
@@ -168,12 +169,12 @@ module _ {p : SequenceHeaderParams} {k : ℕ} (d : Sized p k) (out : List ℕ) w
 
   pub params-full : length out < k → Promised p out (Refused ShortOutput) out
   params-full h =
-      write-full sequenceHeaderCode (paramsFields p) (paramsValues p) out refl params-fit (omega (arith, params-bytes d))
+      write-full (startCode sequenceHeaderCode) (paramsFields p) (paramsValues p) out refl params-fit (omega (arith, params-bytes d))
 
-  pub params-written : {r : List ℕ} → k ≤ length out → r ≡ over (writeHeader sequenceHeaderCode (paramsFields p) (paramsValues p)) out
+  pub params-written : {r : List ℕ} → k ≤ length out → r ≡ over (writeHeader (startCode sequenceHeaderCode) (paramsFields p) (paramsValues p)) out
       → Promised p out (Bytes k) r
   params-written h x =
-      write-over sequenceHeaderCode (paramsFields p) (paramsValues p) out refl params-fit (params-bytes d) h x
+      write-over (startCode sequenceHeaderCode) (paramsFields p) (paramsValues p) out refl params-fit (params-bytes d) h x
 
 -- the values that the code lists
 pub base-values-are : (p : SequenceHeaderParams) → baseValues p

@@ -7,10 +7,11 @@ use mathlib.Core.Bool.{Bool, true, false}
 use lib.ListN.{length, getD, take}
 use Rattle.bits.specs.Refusals.{value, refused}
 use Rattle.bits.specs.Fields.{fitsAll, writeHeader}
-use Rattle.headers.specs.SequenceHeader.{sequenceHeaderCode, sequenceHeader, sequenceHeaderBytes}
-use Rattle.headers.specs.SequenceExtension.{extensionStartCode, sequenceExtensionFields, extensionValues, sequenceExtension}
+use Rattle.bits.specs.StartCodes.{startCode, sequenceHeaderCode, extensionStartCode}
+use Rattle.headers.specs.SequenceHeader.{sequenceHeader, sequenceHeaderBytes}
+use Rattle.headers.specs.SequenceExtension.{sequenceExtensionFields, extensionValues, sequenceExtension}
 use Rattle.headers.specs.Sequence.{sequence}
-use Rattle.headers.specs.StreamWriter.{paramsFields, paramsValues, headerOfParams, paramsOf, plainExtension}
+use Rattle.headers.specs.StreamWriter.{paramsFields, paramsValues, headerOfParams, headerParams, plainExtension}
 use Rattle.headers.specs.declared.sequence_header.Mpeg2SequenceHeader.{Mpeg2SequenceHeader}
 use Rattle.headers.specs.declared.sequence_extension.ChromaFormat.{ChromaFormat}
 use Rattle.headers.specs.declared.sequence_extension.Mpeg2SequenceExtension.{Mpeg2SequenceExtension}
@@ -23,10 +24,10 @@ Bytes s = (k : ℕ) → getD s k 0 < 256
 
 -- the bytes that `write_sequence_header` writes, and those of any extension; `write_sequence_extension` writes those of `plainExtension`
 abbrev pub sequenceWritten : SequenceHeaderParams → List ℕ
-sequenceWritten p = writeHeader sequenceHeaderCode (paramsFields p) (paramsValues p)
+sequenceWritten p = writeHeader (startCode sequenceHeaderCode) (paramsFields p) (paramsValues p)
 
 abbrev pub extensionWritten : Mpeg2SequenceExtension → List ℕ
-extensionWritten e = writeHeader extensionStartCode sequenceExtensionFields (extensionValues e)
+extensionWritten e = writeHeader (startCode extensionStartCode) sequenceExtensionFields (extensionValues e)
 
 -- what is not refused with 16: every field fits; a matrix always has its 64 places
 pub record Writable (p : SequenceHeaderParams) : Type 0 where
@@ -42,7 +43,7 @@ WrittenReads = (p : SequenceHeaderParams) (behind : List ℕ) → Writable p
 -- a parsed one with constrained_parameters_flag 0 is not refused, and writes back to its own bytes
 abbrev pub ReadWrites : Type 0
 ReadWrites = (s : List ℕ) (h : Mpeg2SequenceHeader) → Bytes s → sequenceHeader s ≡ value h
-    → h .«constrained_parameters» ≡ false → Writable (paramsOf h) × (sequenceWritten (paramsOf h) ≡ take (sequenceHeaderBytes h) s)
+    → h .«constrained_parameters» ≡ false → Writable (headerParams h) × (sequenceWritten (headerParams h) ≡ take (sequenceHeaderBytes h) s)
 
 -- both of the extension, which has 10 bytes
 abbrev pub ExtensionWrittenReads : Type 0

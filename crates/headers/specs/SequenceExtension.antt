@@ -7,14 +7,11 @@ use lib.ListN.{getD}
 use Rattle.bits.specs.Bits.{pick}
 use Rattle.bits.specs.Fields.{Field, any, nonzero, exactly, readHeader}
 use Rattle.bits.specs.Refusals.{Answer, value, andThen}
+use Rattle.bits.specs.StartCodes.{startCode, extensionStartCode}
 use Rattle.headers.specs.Answers.{flagOf}
 use Rattle.headers.specs.declared.sequence_extension.ChromaFormat.{ChromaFormat}
 use Rattle.headers.specs.declared.sequence_extension.ChromaFormat.the-variants.{Yuv420, Yuv422, Yuv444}
 use Rattle.headers.specs.declared.sequence_extension.Mpeg2SequenceExtension.{Mpeg2SequenceExtension}
-
--- extension_start_code (Table 6-1)
-abbrev pub extensionStartCode : List ℕ
-extensionStartCode = 0x00 ∷ 0x00 ∷ 0x01 ∷ 0xB5 ∷ []
 
 abbrev pub sequenceExtensionFields : List Field
 sequenceExtensionFields =
@@ -55,7 +52,7 @@ extensionOf vs = record {
 }
 
 unfoldable pub sequenceExtension : List ℕ → Answer Mpeg2SequenceExtension
-sequenceExtension s = andThen (readHeader extensionStartCode sequenceExtensionFields s) (λ vs. value (extensionOf vs))
+sequenceExtension s = andThen (readHeader (startCode extensionStartCode) sequenceExtensionFields s) (λ vs. value (extensionOf vs))
 
 -- the other way: the values of the fields
 unfoldable pub extensionValues : Mpeg2SequenceExtension → List ℕ

@@ -8,15 +8,12 @@ use lib.ListN.{getD}
 use Rattle.bits.specs.Bits.{pick}
 use Rattle.bits.specs.Fields.{Field, any, nonzero, exactly, readHeader}
 use Rattle.bits.specs.Refusals.{Answer, value, andThen}
+use Rattle.bits.specs.StartCodes.{startCode, sequenceHeaderCode}
 use Rattle.headers.specs.Answers.{flagOf}
 use Rattle.headers.specs.QuantMatrix.{readMatrix, matrixOf, noMatrix}
 use Rattle.headers.specs.declared.sequence_header.AspectRatio.{AspectRatio}
 use Rattle.headers.specs.declared.sequence_header.AspectRatio.the-variants.{Square, Dar3x4, Dar9x16, Dar1x221, Reserved}
 use Rattle.headers.specs.declared.sequence_header.Mpeg2SequenceHeader.{Mpeg2SequenceHeader}
-
--- sequence_header_code (Table 6-1)
-abbrev pub sequenceHeaderCode : List ℕ
-sequenceHeaderCode = 0x00 ∷ 0x00 ∷ 0x01 ∷ 0xB3 ∷ []
 
 -- reserved aspect and rate codes pass, and bit_rate_value alone must not be 0 (docs/DIFFERENCES.md)
 abbrev pub sequenceHeaderFields : List Field
@@ -51,7 +48,7 @@ headerOf h intra nonIntra = record {
 -- the fields up to bit 94; there the intra matrix, and behind it the other
 unfoldable pub sequenceHeader : List ℕ → Answer Mpeg2SequenceHeader
 sequenceHeader s =
-    andThen (readHeader sequenceHeaderCode sequenceHeaderFields s) (λ h.
+    andThen (readHeader (startCode sequenceHeaderCode) sequenceHeaderFields s) (λ h.
     andThen (readMatrix s 94) (λ intra.
     andThen (readMatrix s (95 + 512 * getD intra 0 0)) (λ nonIntra.
     value (headerOf h intra nonIntra))))

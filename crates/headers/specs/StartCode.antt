@@ -5,7 +5,8 @@ use mathlib.Core.List.{List, [], _∷_}
 use mathlib.Core.Bool.{Bool, not}
 use lib.ListN.{take, drop}
 use Rattle.bits.specs.Refusals.{Answer, value, refuse}
-use Rattle.bits.specs.Fields.{sameBytes, startCodePrefix}
+use Rattle.bits.specs.Fields.{sameBytes}
+use Rattle.bits.specs.StartCodes.{startCodePrefix}
 
 -- how many zero bytes come first
 unfoldable pub zeros : List ℕ → ℕ

@@ -55,8 +55,8 @@ aspectCode Dar9x16 = 3
 aspectCode Dar1x221 = 4
 aspectCode (Reserved c) = c
 
-unfoldable pub paramsOf : Mpeg2SequenceHeader → SequenceHeaderParams
-paramsOf h = record {
+unfoldable pub headerParams : Mpeg2SequenceHeader → SequenceHeaderParams
+headerParams h = record {
   «horizontal_size» = h .width;
   «vertical_size» = h .height;
   «aspect_ratio_code» = aspectCode (h .«aspect_ratio»);

@@ -11,6 +11,8 @@ pub mod sequence_extension; // sequence_extension(), and both sequence headers t
 pub mod sequence_header; // sequence_header()
 pub mod stream_writer; // what the writer of a sequence header is given
 
+use bits::start_codes::START_CODE_PREFIX;
+
 // Why a header is refused, or not written.
 pub enum Error {
     // The bytes end inside the header.
@@ -60,9 +62,6 @@ fn past_zeros(buf: &[u8], from: usize) -> usize
     at
 }
 
-// start_code_prefix (6.2.1).
-const PREFIX: [u8; 3] = *b"\x00\x00\x01";
-
 // Whether 00 00 01 stands at a byte.
 pub fn prefix_at(buf: &[u8], at: usize) -> bool
     ensures { λ r. ⌜ r ≡ prefixAt (now (buf .entry)) at ⌝ }
@@ -70,7 +69,7 @@ pub fn prefix_at(buf: &[u8], at: usize) -> bool
     if buf.len() < at {
         return false;
     }
-    bits::starts_with(&buf[at..], &PREFIX)
+    bits::starts_with(&buf[at..], &START_CODE_PREFIX)
 }
 
 // next_start_code() (5.2.3): zero bytes are passed over; the byte after them must be 01, with two zero bytes before it,

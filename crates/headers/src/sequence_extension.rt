@@ -14,8 +14,7 @@ use crate::sequence_header;
 use crate::sequence_header::Answer;
 use crate::sequence_header::Mpeg2SequenceHeader;
 use bits::Outcome;
-
-pub const EXTENSION_START_CODE: [u8; 4] = *b"\x00\x00\x01\xB5";
+use bits::start_codes::EXTENSION_START;
 
 // extension_start_code_identifier, profile_and_level_indication, progressive_sequence, chroma_format,
 // horizontal_size_extension, vertical_size_extension, bit_rate_extension, marker_bit, vbv_buffer_size_extension,
@@ -81,7 +80,7 @@ impl Mpeg2SequenceExtension {
     pub fn parse(buf: &[u8]) -> SequenceExtensionRead
         ensures { λ r. ⌜ extensionAnswer r ≡ sequenceExtension (now (buf .entry)) ⌝ }
     {
-        let read = bits::read_header(buf, EXTENSION_START_CODE, &SEQUENCE_EXTENSION_TABLE);
+        let read = bits::read_header(buf, EXTENSION_START, &SEQUENCE_EXTENSION_TABLE);
         let outcome = read.outcome;
         match outcome {
             Outcome::Short => SequenceExtensionRead::Refused(Error::ShortHeader),

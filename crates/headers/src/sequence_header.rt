@@ -9,8 +9,7 @@ use crate::quant_matrix_extension::QuantiserMatrix;
 use crate::quant_matrix_extension::no_matrix;
 use crate::quant_matrix_extension::read_matrix;
 use bits::Outcome;
-
-pub const SEQUENCE_HEADER_CODE: [u8; 4] = *b"\x00\x00\x01\xB3";
+use bits::start_codes::SEQUENCE_HEADER;
 
 // horizontal_size_value, vertical_size_value, aspect_ratio_information, frame_rate_code, bit_rate_value, marker_bit,
 // vbv_buffer_size_value, constrained_parameters_flag
@@ -103,7 +102,7 @@ impl Mpeg2SequenceHeader {
         ensures { λ r. ⌜ headerAnswer r ≡ sequenceHeader (now (buf .entry)) ⌝ }
         ensures { λ r. ⌜ r .header ≡ orElse noHeader (sequenceHeader (now (buf .entry))) ⌝ }
     {
-        let read = bits::read_header(buf, SEQUENCE_HEADER_CODE, &SEQUENCE_HEADER_TABLE);
+        let read = bits::read_header(buf, SEQUENCE_HEADER, &SEQUENCE_HEADER_TABLE);
         let outcome = read.outcome;
         match outcome {
             Outcome::Short => refused(Error::ShortHeader),

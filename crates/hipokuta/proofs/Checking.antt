@@ -11,7 +11,8 @@ use Rattle.bits.specs.Bits.{pick}
 use Rattle.bits.specs.Answers.{over}
 use Rattle.bits.specs.Refusals.{Answer, value, refused, number}
 use Rattle.bits.proofs.Over.{over-none}
-use Rattle.verify.specs.Answers.{plain, refusalOf, verifiedAnswer}
+use Rattle.bits.specs.Refusals.{plain}
+use Rattle.verify.specs.Answers.{refusalOf, verifiedAnswer}
 use Rattle.verify.specs.Check.{Accepted, reported, verdict, records}
 use Rattle.verify.proofs.Storing.{no-records}
 use Rattle.verify.specs.Layout.{recordsBytes}
@@ -20,7 +21,7 @@ use Rattle.verify.specs.declared.VbvVerified.{VbvVerified}
 use Rattle.verify.specs.declared.VbvVerified.the-variants.{Report, Refused}
 use Rattle.verify.specs.declared.VbvVerifyError.{VbvVerifyError}
 use Rattle.verify.specs.declared.VbvStreamReport.{VbvStreamReport}
-use Rattle.verify.specs.declared.VbvRefusal.{VbvRefusal}
+use Rattle.bits.specs.declared.VbvRefusal.{VbvRefusal}
 use Rattle.words.specs.Words.{wordsBytes, laid}
 use Rattle.layout.specs.Answers.{reportSize, refusalSize, reportWords, refusalWords}
 use Rattle.hipokuta.specs.Check.{checked, reportAfter, recordsAfter, refusalAfter}

@@ -13,8 +13,8 @@ use Rattle.bits.specs.Refusals.{value, refused, number}
 use Rattle.vbv.specs.Answers.{errorNumber, refusal}
 use Rattle.vbv.specs.declared.RemovalInterval.{RemovalInterval}
 use Rattle.vbv.specs.declared.VbvError.{VbvError}
-use Rattle.verify.specs.Answers.{plain}
-use Rattle.verify.specs.declared.VbvRefusal.{VbvRefusal}
+use Rattle.bits.specs.Refusals.{plain}
+use Rattle.bits.specs.declared.VbvRefusal.{VbvRefusal}
 use Rattle.layers.specs.declared.PictureKind.{PictureKind}
 use Rattle.rate_control.specs.Answers.{offerAnswer, creationAnswer, createdAnswer, withdrawalAnswer, withdrawnAnswer}
 use Rattle.rate_control.specs.Create.{create}

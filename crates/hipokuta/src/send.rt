@@ -3,6 +3,7 @@ ghost use mathlib.Core.Path.{_≡_};
 ghost use Rattle.bits.specs.Refusals.{number};
 ghost use Rattle.rate_control.specs.Answers.{offerAnswer};
 ghost use Rattle.hipokuta.specs.Send.{stateAfter, configOf, createIn, brought, kindFor, intervalFor, offerIn, offerState, offerOut, offerPlace, withdrawIn};
+use bits::plain;
 use layers::PictureKind;
 use layout::ANSWER_BYTES;
 use layout::STATE_BYTES;
@@ -16,7 +17,6 @@ use rate_control::CbrCreation;
 use rate_control::CbrWithdrawal;
 use rate_control::CbrWriter;
 use vbv::RemovalInterval;
-use verify::plain;
 
 // A new writer in the place for its state: 0, or the refusal's number.
 #[no_mangle]

@@ -6,7 +6,7 @@ use mathlib.Core.List.{List, [], _∷_}
 use native.Mathlib.Omega.{arith}
 use lib.ListN.{length}
 use Rattle.bits.specs.Refusals.{refused}
-use Rattle.verify.specs.declared.VbvRefusal.{VbvRefusal}
+use Rattle.bits.specs.declared.VbvRefusal.{VbvRefusal}
 use Rattle.rate_control.specs.Answers.{offerRefusal, offerAnswer}
 use Rattle.rate_control.specs.declared.CbrError.{CbrError}
 use Rattle.rate_control.specs.declared.CbrAnswer.{CbrAnswer}

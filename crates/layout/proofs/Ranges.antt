@@ -14,6 +14,7 @@ use Rattle.rate_control.specs.declared.Pending.{Pending}
 use Rattle.rate_control.specs.declared.Pending.the-variants.{Nothing, Waits}
 use Rattle.rate_control.specs.declared.CbrWriter.{CbrWriter}
 use Rattle.headers.proofs.Answers.{flag-bound}
+use Rattle.vbv.specs.Model.{farthest}
 use Rattle.vbv.proofs.Fitting.{model-fits}
 use Rattle.rate_control.proofs.Fitting.{all-fit-at, quantiser-is, writer-fits}
 use Rattle.rate_control.proofs.States.{pending-some}
@@ -32,8 +33,8 @@ unfolding pendingQuantiser
 quantiser-low Nothing h = omega arith
 quantiser-low (Waits k q) h = quantiser-is (pending-some (Waits k q) k q (quantiserFits q) refl refl ∙ h) .high
 
-targets-small : (vs : List ℕ) → allFit (λ t. leb t (2 ^ 48)) vs ≡ true → AllSmall vs
-targets-small vs h = each-small vs (λ k g. omega (arith, leb-true (getD vs k 0) (2 ^ 48) (all-fit-at _ vs k h g)))
+targets-small : (vs : List ℕ) → allFit (λ t. leb t farthest) vs ≡ true → AllSmall vs
+targets-small vs h = each-small vs (λ k g. omega (arith, leb-true (getD vs k 0) farthest (all-fit-at _ vs k h g)))
 
 quantisers-small : (vs : List ℕ) → allFit quantiserFits vs ≡ true → AllSmall vs
 quantisers-small vs h = each-small vs (λ k g. omega (arith, quantiser-is (all-fit-at quantiserFits vs k h g) .high))

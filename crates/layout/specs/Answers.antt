@@ -3,7 +3,7 @@
 use Prim.Native.Nat.{ℕ}
 use mathlib.Core.List.{List, [], _∷_}
 use Rattle.verify.specs.declared.VbvStreamReport.{VbvStreamReport}
-use Rattle.verify.specs.declared.VbvRefusal.{VbvRefusal}
+use Rattle.bits.specs.declared.VbvRefusal.{VbvRefusal}
 use Rattle.bits.specs.Refusals.{Answer, value, refused}
 use Rattle.rate_control.specs.Answers.{Given, placed, again}
 

@@ -12,9 +12,9 @@ use Rattle.bits.specs.Fields.{readFields, readHeader}
 use Rattle.bits.specs.Answers.{placed, fieldsAnswer}
 use Rattle.bits.specs.declared.Fields.{Fields}
 use Rattle.bits.specs.declared.Outcome.the-variants.{Done, Short, Bad}
+use Rattle.bits.specs.StartCodes.{startCode, extensionStartCode}
 use Rattle.bits.proofs.Flags.{pick-elim}
 use Rattle.bits.proofs.Reading.{Seen, broken, whole, then-seen, fields-seen, header-seen, read-append, header-got, header-append, answer-short, answer-bad, fields-done, header-done}
-use Rattle.headers.specs.SequenceExtension.{extensionStartCode}
 use Rattle.picture_header.specs.CodingExtension.{
   motionCodeFields,
   motionCodesFit,
@@ -59,32 +59,32 @@ module _ (r : Fields) (s h : List ℕ) (e : fieldsAnswer r ≡ placed (readField
       rw (d .parsed) (ap value (coding-same h h (r .values) (d .vs) (λ i. refl) (d .same)))
 
 -- the ways of the whole extension
-module _ (r : Fields) (s : List ℕ) (e : fieldsAnswer r ≡ placed (readHeader extensionStartCode motionCodeFields s)) where
+module _ (r : Fields) (s : List ℕ) (e : fieldsAnswer r ≡ placed (readHeader (startCode extensionStartCode) motionCodeFields s)) where
   pub coding-short : r .outcome ≡ Short → refused 1 0 0 0 ≡ pictureCodingExtension s
   unfolding pictureCodingExtension
-  coding-short o = rw (answer-short r (readHeader extensionStartCode motionCodeFields s) e o)
+  coding-short o = rw (answer-short r (readHeader (startCode extensionStartCode) motionCodeFields s) e o)
 
   pub coding-bad : r .outcome ≡ Bad → refused 2 0 0 0 ≡ pictureCodingExtension s
   unfolding pictureCodingExtension
-  coding-bad o = rw (answer-bad r (readHeader extensionStartCode motionCodeFields s) e o)
+  coding-bad o = rw (answer-bad r (readHeader (startCode extensionStartCode) motionCodeFields s) e o)
 
   pub coding-unfit : r .outcome ≡ Done → motionCodesFit (r .values) ≡ false → refused 2 0 0 0 ≡ pictureCodingExtension s
   unfolding pictureCodingExtension pick
   coding-unfit o f =
-      let d = header-done r extensionStartCode motionCodeFields s e o in
+      let d = header-done r (startCode extensionStartCode) motionCodeFields s e o in
       rw (d .parsed, ← codes-same (r .values) (d .vs) (d .same), f)
 
   pub coding-fit : r .outcome ≡ Done → motionCodesFit (r .values) ≡ true → behindCodes s (r .values) ≡ pictureCodingExtension s
   unfolding pictureCodingExtension pick
   coding-fit o f =
-      let d = header-done r extensionStartCode motionCodeFields s e o in
+      let d = header-done r (startCode extensionStartCode) motionCodeFields s e o in
       rw (d .parsed, ← codes-same (r .values) (d .vs) (d .same), f) (behind-same s (r .values) (d .vs) (d .same))
 
 -- what was read of a parsed one
 pub record CodingParsed (s : List ℕ) (x : PictureCodingExtension) : Type 0 where
   pub h : List ℕ
   pub vs : List ℕ
-  pub codes : readHeader extensionStartCode motionCodeFields s ≡ value h
+  pub codes : readHeader (startCode extensionStartCode) motionCodeFields s ≡ value h
   pub fit : motionCodesFit h ≡ true
   pub rest : readFields codingFields s 52 ≡ value vs
   pub made : x ≡ codingExtensionOf h vs
@@ -92,7 +92,7 @@ pub record CodingParsed (s : List ℕ) (x : PictureCodingExtension) : Type 0 whe
 pub coding-parsed : (s : List ℕ) (x : PictureCodingExtension) → pictureCodingExtension s ≡ value x → CodingParsed s x
 unfolding pictureCodingExtension behindCodes
 coding-parsed s x e =
-    let a = then-value (readHeader extensionStartCode motionCodeFields s) e in
+    let a = then-value (readHeader (startCode extensionStartCode) motionCodeFields s) e in
     let f = past-value 2 (not (motionCodesFit (a .0))) (a .2) in
     let b = then-value (readFields codingFields s 52) (f .1) in
     record { h = a .0; vs = b .0; codes = a .1; fit = not-false _ (f .0); rest = b .1; made = cc }
@@ -101,25 +101,25 @@ coding-parsed s x e =
 pub coding-long : (s : List ℕ) (x : PictureCodingExtension) → pictureCodingExtension s ≡ value x → 4 ≤ length s
 coding-long s x e =
     let p = coding-parsed s x e in
-    header-got extensionStartCode motionCodeFields s (p .h) (p .codes) .long
+    header-got (startCode extensionStartCode) motionCodeFields s (p .h) (p .codes) .long
 
-pub coding-code : (s : List ℕ) (x : PictureCodingExtension) → pictureCodingExtension s ≡ value x → take 4 s ≡ extensionStartCode
+pub coding-code : (s : List ℕ) (x : PictureCodingExtension) → pictureCodingExtension s ≡ value x → take 4 s ≡ startCode extensionStartCode
 coding-code s x e =
     let p = coding-parsed s x e in
-    header-got extensionStartCode motionCodeFields s (p .h) (p .codes) .code-first
+    header-got (startCode extensionStartCode) motionCodeFields s (p .h) (p .codes) .code-first
 
 -- what stands behind the bytes does not matter, unless they are too short
 pub coding-append : CodingStays
 unfolding pictureCodingExtension behindCodes
 coding-append s t =
-    then-stays (readHeader extensionStartCode motionCodeFields s) _ _ _ (header-append extensionStartCode motionCodeFields s t) (λ h.
+    then-stays (readHeader (startCode extensionStartCode) motionCodeFields s) _ _ _ (header-append (startCode extensionStartCode) motionCodeFields s t) (λ h.
     past-stays 2 (not (motionCodesFit h))
     (then-stays (readFields codingFields s 52) _ _ _ (read-append codingFields s t 52) (λ vs n. refl)))
 
 pub coding-seen : (s : List ℕ) → Seen (pictureCodingExtension s)
 unfolding pictureCodingExtension behindCodes
 coding-seen s =
-    then-seen (header-seen extensionStartCode motionCodeFields s) (λ h.
+    then-seen (header-seen (startCode extensionStartCode) motionCodeFields s) (λ h.
     pick-elim Seen (not (motionCodesFit h)) (λ f. broken) (λ f.
     then-seen (fields-seen codingFields s 52) (λ vs. whole _)))
 

@@ -13,11 +13,12 @@ use lib.Seq.{getD-drop, drop-drop}
 use Rattle.bits.specs.Bits.{pick, bitAt, bitsAt, bitList}
 use Rattle.bits.specs.Refusals.{value}
 use Rattle.bits.specs.Fields.{Field, field, any, readFields, readHeader}
+use Rattle.bits.specs.StartCodes.{startCode, pictureStartCode}
 use Rattle.bits.proofs.Laws.{bits-bound, bit-list-at}
 use Rattle.bits.proofs.Reading.{step, there-is, obeys-is, read-none, read-more, header-got, header-of}
 use Rattle.bits.proofs.Same.{bits-one, read-same, bit-list-same}
 use Rattle.headers.specs.StartCode.{zeros}
-use Rattle.picture_header.specs.PictureHeader.{pictureStartCode, pictureFields, forward, backward, vectorFields, motionFields, codingType, codeIf, extra, extraAt, extraBit, pictureOf, behindDelay, pictureHeader, pictureHeaderBits, pictureHeaderBytes}
+use Rattle.picture_header.specs.PictureHeader.{pictureFields, forward, backward, vectorFields, motionFields, codingType, codeIf, extra, extraAt, extraBit, pictureOf, behindDelay, pictureHeader, pictureHeaderBits, pictureHeaderBytes}
 use Rattle.picture_header.specs.Picture.{picture}
 use Rattle.picture_header.specs.Steps.{behindHeader}
 use Rattle.picture_header.specs.declared.PictureCodingType.{PictureCodingType}
@@ -84,12 +85,12 @@ module _ (s t : List ℕ) (o : OtherDelay s t) (h : Mpeg2PictureHeader) where
   header-delayed e =
       let w = from s h e in
       let p = picture-header-parsed s h e in
-      let g = header-got pictureStartCode pictureFields s (w .vs) (w .header-is) in
+      let g = header-got (startCode pictureStartCode) pictureFields s (w .vs) (w .header-is) in
       let f = fields-are s (w .vs) (g .fields-read) in
       let l : 8 ≤ length t = omega (arith, header-least p, header-inside p, o .same-length) in
       let a : bitsAt t 32 10 ≡ getD (w .vs) 0 0 = o .same-before 32 10 (lit≤ tt) ∙ sym (f .0) in
       let b : bitsAt t 42 3 ≡ getD (w .vs) 1 0 = o .same-before 42 3 (lit≤ tt) ∙ sym (f .1) in
-      let r : readHeader pictureStartCode pictureFields t ≡ value (bitsAt t 32 10 ∷ bitsAt t 42 3 ∷ bitsAt t 45 16 ∷ []) =
+      let r : readHeader (startCode pictureStartCode) pictureFields t ≡ value (bitsAt t 32 10 ∷ bitsAt t 42 3 ∷ bitsAt t 45 16 ∷ []) =
       header-of (record {
         long = omega arith;
         code-first = o .same-code ∙ g .code-first;

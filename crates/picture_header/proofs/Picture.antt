@@ -10,12 +10,12 @@ use lib.ListN.{length, getD, take, drop, length-drop}
 use lib.Seq.{getD-drop, drop-append-le}
 use Rattle.bits.specs.Bits.{pick}
 use Rattle.bits.specs.Refusals.{Answer, value, refused, andThen}
+use Rattle.bits.specs.StartCodes.{startCode, extensionStartCode}
 use Rattle.bits.proofs.Flags.{pick-elim}
 use Rattle.bits.proofs.Reading.{Seen, broken, whole, then-seen, rest-is}
 use Rattle.headers.specs.StartCode.{nextStartCode}
 use Rattle.picture_header.specs.Answers.{pictureAnswer}
 use Rattle.picture_header.specs.declared.PictureRead.{PictureRead}
-use Rattle.headers.specs.SequenceExtension.{extensionStartCode}
 use Rattle.picture_header.specs.PictureHeader.{pictureHeader, pictureHeaderBytes}
 use Rattle.picture_header.specs.CodingExtension.{pictureCodingExtension}
 use Rattle.picture_header.specs.Picture.{isDc, picture}
@@ -103,7 +103,7 @@ picture-parsed s h x e =
 
 -- the extension's start code stands behind the header, with nothing but zero bytes between; its own two zeros may be the header's last
 pub record ExtensionPlaced (s : List ℕ) (h : Mpeg2PictureHeader) (p : ℕ) : Type 0 where
-  pub code : take 4 (drop p s) ≡ extensionStartCode
+  pub code : take 4 (drop p s) ≡ startCode extensionStartCode
   pub room : p + 4 ≤ length s
   pub behind : pictureHeaderBytes h ≤ p + 2
   pub zero-between : (k : ℕ) → pictureHeaderBytes h ≤ k → k < p + 2 → getD s k 0 ≡ 0

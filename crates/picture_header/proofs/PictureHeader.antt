@@ -15,9 +15,10 @@ use Rattle.bits.specs.Fields.{field, any, readFields, readHeader}
 use Rattle.bits.specs.Answers.{placed, fieldsAnswer}
 use Rattle.bits.specs.declared.Fields.{Fields}
 use Rattle.bits.specs.declared.Outcome.the-variants.{Done, Short, Bad}
+use Rattle.bits.specs.StartCodes.{startCode, pictureStartCode}
 use Rattle.bits.proofs.Laws.{bits-bound}
 use Rattle.bits.proofs.Reading.{Seen, whole, then-seen, Read, fields-seen, header-seen, step, obeys-true, read-append, answer-short, answer-bad, fields-done, header-done, header-got, header-append}
-use Rattle.picture_header.specs.PictureHeader.{pictureStartCode, pictureFields, forward, backward, vectorFields, motionFields, codingType, extraAt, extraBit, pictureOf, behindDelay, pictureHeader, pictureHeaderBytes, headerLength}
+use Rattle.picture_header.specs.PictureHeader.{pictureFields, forward, backward, vectorFields, motionFields, codingType, extraAt, extraBit, pictureOf, behindDelay, pictureHeader, pictureHeaderBytes, headerLength}
 use Rattle.picture_header.specs.Answers.{pictureHeaderAnswer}
 use Rattle.picture_header.specs.Stability.{HeaderStays, HeaderCut}
 use Rattle.picture_header.proofs.ExtraInformation.{extra-inside, extra-seen, extra-append}
@@ -81,19 +82,19 @@ unfolding pictureOf
 motion-same h m k n e = rw (e 0, e 1, e 2, e 3)
 
 -- the ways of the whole header, from what the code's reads answer
-module _ (r : Fields) (s : List ℕ) (e : fieldsAnswer r ≡ placed (readHeader pictureStartCode pictureFields s)) where
+module _ (r : Fields) (s : List ℕ) (e : fieldsAnswer r ≡ placed (readHeader (startCode pictureStartCode) pictureFields s)) where
   pub header-short : r .outcome ≡ Short → refused 1 0 0 0 ≡ pictureHeader s
   unfolding pictureHeader
-  header-short o = rw (answer-short r (readHeader pictureStartCode pictureFields s) e o)
+  header-short o = rw (answer-short r (readHeader (startCode pictureStartCode) pictureFields s) e o)
 
   pub header-bad : r .outcome ≡ Bad → refused 2 0 0 0 ≡ pictureHeader s
   unfolding pictureHeader
-  header-bad o = rw (answer-bad r (readHeader pictureStartCode pictureFields s) e o)
+  header-bad o = rw (answer-bad r (readHeader (startCode pictureStartCode) pictureFields s) e o)
 
   pub header-behind : r .outcome ≡ Done → behindDelay s (r .values) ≡ pictureHeader s
   unfolding pictureHeader
   header-behind o =
-      let d = header-done r pictureStartCode pictureFields s e o in
+      let d = header-done r (startCode pictureStartCode) pictureFields s e o in
       rw (d .parsed) (behind-same s (r .values) (d .vs) (d .same))
 
 -- the ways behind the delay
@@ -139,7 +140,7 @@ pub record From (s : List ℕ) (h : Mpeg2PictureHeader) : Type 0 where
   pub vs : List ℕ
   pub m : List ℕ
   pub n : ℕ
-  pub header-is : readHeader pictureStartCode pictureFields s ≡ value vs
+  pub header-is : readHeader (startCode pictureStartCode) pictureFields s ≡ value vs
   pub motion-is : readFields (motionFields (getD vs 1 0)) s 61 ≡ value m
   pub extra-is : extraAt s (extraBit (getD vs 1 0)) ≡ value n
   pub made : h ≡ pictureOf vs m n
@@ -147,7 +148,7 @@ pub record From (s : List ℕ) (h : Mpeg2PictureHeader) : Type 0 where
 pub from : (s : List ℕ) (h : Mpeg2PictureHeader) → pictureHeader s ≡ value h → From s h
 unfolding pictureHeader behindDelay
 from s h e =
-    let a = then-value (readHeader pictureStartCode pictureFields s) e in
+    let a = then-value (readHeader (startCode pictureStartCode) pictureFields s) e in
     let b = then-value (readFields (motionFields (getD (a .0) 1 0)) s 61) (a .2) in
     let d = then-value (extraAt s (extraBit (getD (a .0) 1 0))) (b .2) in
     record { vs = a .0; m = b .0; n = d .0; header-is = a .1; motion-is = b .1; extra-is = d .1; made = cc }
@@ -164,7 +165,7 @@ fields-are s vs e =
 
 -- what a parsed header says of the bytes, and that it lies in them
 pub record PictureHeaderParsed (s : List ℕ) (h : Mpeg2PictureHeader) : Type 0 where
-  pub code-first : take 4 s ≡ pictureStartCode
+  pub code-first : take 4 s ≡ startCode pictureStartCode
   pub reference : h .«temporal_reference» ≡ bitsAt s 32 10
   pub type : h .«picture_coding_type» ≡ codingType (bitsAt s 42 3)
   pub type-low : 1 ≤ bitsAt s 42 3
@@ -177,7 +178,7 @@ pub picture-header-parsed : (s : List ℕ) (h : Mpeg2PictureHeader) → pictureH
 unfolding pictureOf
 picture-header-parsed s h e =
     let w = from s h e in
-    let g = header-got pictureStartCode pictureFields s (w .vs) (w .header-is) in
+    let g = header-got (startCode pictureStartCode) pictureFields s (w .vs) (w .header-is) in
     let f = fields-are s (w .vs) (g .fields-read) in
     record {
       code-first = g .code-first;
@@ -210,14 +211,14 @@ module _ {s : List ℕ} {h : Mpeg2PictureHeader} (p : PictureHeaderParsed s h) w
 pub picture-header-append : HeaderStays
 unfolding pictureHeader behindDelay
 picture-header-append s t =
-    then-stays (readHeader pictureStartCode pictureFields s) _ _ _ (header-append pictureStartCode pictureFields s t) (λ h.
+    then-stays (readHeader (startCode pictureStartCode) pictureFields s) _ _ _ (header-append (startCode pictureStartCode) pictureFields s t) (λ h.
     then-stays (readFields (motionFields (getD h 1 0)) s 61) _ _ _ (read-append (motionFields (getD h 1 0)) s t 61) (λ m.
     then-stays (extraAt s (extraBit (getD h 1 0))) _ _ _ (extra-append s t (extraBit (getD h 1 0))) (λ n g. refl)))
 
 pub picture-header-seen : (s : List ℕ) → Seen (pictureHeader s)
 unfolding pictureHeader behindDelay
 picture-header-seen s =
-    then-seen (header-seen pictureStartCode pictureFields s) (λ h.
+    then-seen (header-seen (startCode pictureStartCode) pictureFields s) (λ h.
     then-seen (fields-seen (motionFields (getD h 1 0)) s 61) (λ m.
     then-seen (extra-seen s (extraBit (getD h 1 0))) (λ n. whole _)))
 

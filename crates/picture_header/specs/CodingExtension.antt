@@ -8,7 +8,7 @@ use lib.ListN.{getD}
 use Rattle.bits.specs.Bits.{pick}
 use Rattle.bits.specs.Refusals.{Answer, value, refuse, andThen}
 use Rattle.bits.specs.Fields.{Field, any, nonzero, exactly, readFields, readHeader}
-use Rattle.headers.specs.SequenceExtension.{extensionStartCode}
+use Rattle.bits.specs.StartCodes.{startCode, extensionStartCode}
 use Rattle.picture_header.specs.declared.PictureStructure.{PictureStructure}
 use Rattle.picture_header.specs.declared.PictureStructure.the-variants.{TopField, BottomField, Frame}
 use Rattle.picture_header.specs.declared.PictureCodingExtension.{PictureCodingExtension}
@@ -71,6 +71,6 @@ behindCodes s h = andThen (readFields codingFields s 52) (λ vs. value (codingEx
 
 unfoldable pub pictureCodingExtension : List ℕ → Answer PictureCodingExtension
 pictureCodingExtension s =
-    andThen (readHeader extensionStartCode motionCodeFields s) (λ h.
+    andThen (readHeader (startCode extensionStartCode) motionCodeFields s) (λ h.
     refuse 2 (not (motionCodesFit h))
     (behindCodes s h))

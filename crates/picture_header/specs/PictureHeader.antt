@@ -8,6 +8,7 @@ use lib.ListN.{getD, drop}
 use Rattle.bits.specs.Bits.{pick, bitList}
 use Rattle.bits.specs.Refusals.{Answer, value, refused, andThen}
 use Rattle.bits.specs.Fields.{Field, field, any, readFields, readHeader}
+use Rattle.bits.specs.StartCodes.{startCode, pictureStartCode}
 use Rattle.headers.specs.Answers.{flagOf}
 use Rattle.picture_header.specs.declared.PictureCodingType.{PictureCodingType}
 use Rattle.picture_header.specs.declared.PictureCodingType.the-variants.{Intra, Predictive, Bidirectional, DcIntra}
@@ -16,10 +17,6 @@ use Rattle.picture_header.specs.declared.OptionFlag.the-variants.{Some a
 use Rattle.picture_header.specs.declared.OptionCode.{OptionCode}
 use Rattle.picture_header.specs.declared.OptionCode.the-variants.{Some as SomeCode, None as NoCode}
 use Rattle.picture_header.specs.declared.Mpeg2PictureHeader.{Mpeg2PictureHeader}
-
--- picture_start_code (Table 6-1)
-abbrev pub pictureStartCode : List ℕ
-pictureStartCode = 0x00 ∷ 0x00 ∷ 0x01 ∷ 0x00 ∷ []
 
 abbrev pub pictureFields : List Field
 pictureFields =
@@ -91,7 +88,7 @@ behindDelay s h =
     value (pictureOf h m n)))
 
 unfoldable pub pictureHeader : List ℕ → Answer Mpeg2PictureHeader
-pictureHeader s = andThen (readHeader pictureStartCode pictureFields s) (behindDelay s)
+pictureHeader s = andThen (readHeader (startCode pictureStartCode) pictureFields s) (behindDelay s)
 
 -- its bits: up to the first flag, nine for each extra byte and one for the last flag
 unfoldable pub pictureHeaderBits : Mpeg2PictureHeader → ℕ

@@ -13,12 +13,11 @@ ghost use Rattle.picture_header.specs.Answers.{extraAnswer, pictureHeade
 use bits::Bits;
 use bits::Fields;
 use bits::Outcome;
+use bits::start_codes::EXTENSION_START;
+use bits::start_codes::PICTURE_START;
 use headers::Error;
 use headers::NextStartCode;
 use headers::next_start_code;
-use headers::sequence_extension::EXTENSION_START_CODE;
-
-pub const PICTURE_START_CODE: [u8; 4] = *b"\x00\x00\x01\x00";
 
 // temporal_reference, picture_coding_type, vbv_delay
 const PICTURE_TABLE: [u8; 9] = *b"\x0A\x00\x00\x03\x01\x04\x10\x00\x00";
@@ -236,7 +235,7 @@ impl Mpeg2PictureHeader {
     pub fn parse(buf: &[u8]) -> PictureHeaderRead
         ensures { λ r. ⌜ pictureHeaderAnswer r ≡ pictureHeader (now (buf .entry)) ⌝ }
     {
-        let read = bits::read_header(buf, PICTURE_START_CODE, &PICTURE_TABLE);
+        let read = bits::read_header(buf, PICTURE_START, &PICTURE_TABLE);
         let outcome = read.outcome;
         match outcome {
             Outcome::Short => PictureHeaderRead::Refused(Error::ShortHeader),
@@ -349,7 +348,7 @@ impl PictureCodingExtension {
     pub fn parse(buf: &[u8]) -> PictureCodingExtensionRead
         ensures { λ r. ⌜ codingAnswer r ≡ pictureCodingExtension (now (buf .entry)) ⌝ }
     {
-        let read = bits::read_header(buf, EXTENSION_START_CODE, &MOTION_CODE_TABLE);
+        let read = bits::read_header(buf, EXTENSION_START, &MOTION_CODE_TABLE);
         let outcome = read.outcome;
         match outcome {
             Outcome::Short => PictureCodingExtensionRead::Refused(Error::ShortHeader),

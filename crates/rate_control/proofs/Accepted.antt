@@ -3,10 +3,10 @@
 use mathlib.Core.Path.{_≡_, refl, sym, ap, _∙_}
 use mathlib.Core.Bool.{true, false}
 use mathlib.Core.List.{List, [], _∷_}
-use Prim.Native.Nat.{ℕ, suc, _+_, _-_, _*_, _^_, _≤_}
+use Prim.Native.Nat.{ℕ, suc, _+_, _-_, _*_, _≤_}
 use native.Mathlib.Omega.{arith}
 use lib.ListN.{length}
-use Rattle.vbv.specs.Model.{paramsFit}
+use Rattle.vbv.specs.Model.{farthest, paramsFit}
 use Rattle.vbv.specs.declared.VbvParams.{VbvParams}
 use Rattle.vbv.proofs.Laws.{units-over, units-beyond}
 use Rattle.verify.specs.Run.{run}
@@ -54,7 +54,7 @@ coded-length (x ∷ xs) = ap suc (coded-length xs)
 first-told : {p : VbvParams} {d previous : ℕ} {x : Sent} {xs : List Sent} → RemovalsDone p d previous (x ∷ xs) → x .delay ≤ 65534
 first-told (removal-then r c) = r .as-placed .delay-told
 
-passes-by : (p : VbvParams) (x : Sent) (xs : List Sent) → paramsFit p ≡ true → 8 * length (endToEnd (x ∷ xs)) ≤ 2 ^ 48 → EachDone p (x ∷ xs)
+passes-by : (p : VbvParams) (x : Sent) (xs : List Sent) → paramsFit p ≡ true → 8 * length (endToEnd (x ∷ xs)) ≤ farthest → EachDone p (x ∷ xs)
     → declared Mpeg2 (endToEnd (x ∷ xs)) ≡ value p → codedPictures Mpeg2 (endToEnd (x ∷ xs)) ≡ value (codedBy (x ∷ xs)) → PassesCheck p (x ∷ xs)
 unfolding codedBy codedSent sentRecords
 passes-by p x xs f l c d h places m = accepted Mpeg2 (endToEnd (x ∷ xs)) places l d h (first-told c) f (rw (coded-length xs) m) (course-ran 0 c)
@@ -67,7 +67,7 @@ sending-declared {p} {x} {xs} a = ap (declared Mpeg2) (a .laid-is) ∙ go (a .pa
     go [] f e = let z = sym (coded-none 0 (length (a .follows))) ∙ e in cc
     go (y ∷ ys) (part f fs) e = stream-declared f ys (a .follows)
 
-pub passes : (p : VbvParams) (xs : List Sent) → paramsFit p ≡ true → 8 * length (endToEnd xs) ≤ 2 ^ 48 → EachDone p xs → Sending p false 0 xs → PassesCheck p xs
+pub passes : (p : VbvParams) (xs : List Sent) → paramsFit p ≡ true → 8 * length (endToEnd xs) ≤ farthest → EachDone p xs → Sending p false 0 xs → PassesCheck p xs
 passes p [] f l c a = tt
 passes p (x ∷ xs) f l c a =
     passes-by p x xs f l c (sending-declared a) (ap (codedPictures Mpeg2) (a .laid-is) ∙ stream-coded (a .fit) (a .ends) ∙ ap value (a .coded-is))

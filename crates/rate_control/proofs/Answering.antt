@@ -3,7 +3,7 @@
 use mathlib.Core.Path.{_≡_, refl, sym, ap, subst, _∙_}
 use mathlib.Core.Bool.{Bool, true, false, _||_, true≢false}
 use mathlib.Core.List.{List}
-use Prim.Native.Nat.{ℕ, zero, suc, _+_, _*_, _^_, _≤_, _<_}
+use Prim.Native.Nat.{ℕ, zero, suc, _+_, _*_, _≤_, _<_}
 use native.Mathlib.Omega.{arith}
 use lib.Dec.{ltb}
 use borrow.Author.Tests.{ltb-false, ltb-true, eqb-true, eqb-false, not-true, not-false}
@@ -11,6 +11,7 @@ use Rattle.bits.specs.Bits.{pick}
 use Rattle.bits.specs.Refusals.{Answer, refused}
 use Rattle.bits.proofs.Flags.{or-left, or-right, pick-elim}
 use Rattle.bits.proofs.Over.{over-take, over-drop}
+use Rattle.vbv.specs.Model.{farthest}
 use Rattle.vbv.specs.Annex.{unit, overflows, beyond}
 use Rattle.vbv.specs.declared.VbvParams.{VbvParams}
 use Rattle.vbv.proofs.Laws.{over-units, over-full, beyond-units, beyond-there, first-in-time, fits-params}
@@ -138,8 +139,8 @@ module _ (p : VbvParams) (t : List ℕ) (x : Known) (o : Offer) {n : ℕ} (h : I
       record {
         fitting = g;
         stuffs = stuffs;
-        position-near = rw (← at-position) (ltb-false (2 ^ 48) (position held o) (or-left _ _ h14));
-        end-near = rw (← at-end) (ltb-false (2 ^ 48) (end held o) (or-right (ltb (2 ^ 48) (position held o)) _ h14));
+        position-near = rw (← at-position) (ltb-false farthest (position held o) (or-left _ _ h14));
+        end-near = rw (← at-end) (ltb-false farthest (end held o) (or-right (ltb farthest (position held o)) _ h14));
       } in
       pick-elim D _ (λ e. early-position near (rw (← delivered-known p t x o, ← at-position) (beyond-there p _ _ e)) (late e)) λ h7.
       let in-time : positionOf (x .bytes) o * unit p ≤ deliveredFor p x o = rw (← delivered-known p t x o, ← at-position) (beyond-units p _ _ h7) in
@@ -158,8 +159,8 @@ module _ (p : VbvParams) (t : List ℕ) (x : Known) (o : Offer) {n : ℕ} (h : I
         same-kind = or-right (held .finished) _ h17;
         headers-fit = not-false _ h18;
         layer-fits = not-false _ h20;
-        position-far = ltb-false (2 ^ 48) (position held o) (or-left _ _ h14);
-        end-far = ltb-false (2 ^ 48) (end held o) (or-right (ltb (2 ^ 48) (position held o)) _ h14);
+        position-far = ltb-false farthest (position held o) (or-left _ _ h14);
+        end-far = ltb-false farthest (end held o) (or-right (ltb farthest (position held o)) _ h14);
         in-time = h7;
         no-overflow = h9;
         no-underflow = h22;
@@ -167,9 +168,9 @@ module _ (p : VbvParams) (t : List ℕ) (x : Known) (o : Offer) {n : ℕ} (h : I
       } in
       rw (delay-known k, placed-size held o) (room whole (rw (← placed-size held o) (ltb-false _ _ h19)))
     where
-      far : Fitting p x o → (b : Bool) → ltb (2 ^ 48) (position held o) ≡ b → (ltb (2 ^ 48) (position held o) || ltb (2 ^ 48) (end held o)) ≡ true → D (refused 14 0 0 0)
+      far : Fitting p x o → (b : Bool) → ltb farthest (position held o) ≡ b → (ltb farthest (position held o) || ltb farthest (end held o)) ≡ true → D (refused 14 0 0 0)
       far g true e f = far-position g (rw (← at-position) (ltb-true _ _ e))
-      far g false e f = far-end g stuffs (rw (← at-end) (ltb-true (2 ^ 48) (end held o) (or-other (ltb (2 ^ 48) (position held o)) _ f e)))
+      far g false e f = far-end g stuffs (rw (← at-end) (ltb-true farthest (end held o) (or-other (ltb farthest (position held o)) _ f e)))
 
       overflow-due : Near p x o (stuffing held o) → positionOf (x .bytes) o * unit p ≤ deliveredFor p x o → x .finished ≡ false
           → overflows p (8 * x .bytes) (deliveredAt held o) ≡ true → D (refused 9 (x .pictures) 0 0)

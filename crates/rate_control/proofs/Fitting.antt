@@ -3,13 +3,13 @@
 use mathlib.Core.Path.{_≡_, refl}
 use mathlib.Core.Bool.{Bool, true}
 use mathlib.Core.List.{List, [], _∷_}
-use Prim.Native.Nat.{ℕ, zero, suc, _*_, _%_, _^_, _≤_, _<_}
+use Prim.Native.Nat.{ℕ, zero, suc, _*_, _%_, _≤_, _<_}
 use native.Mathlib.Omega.{arith}
 use lib.Dec.{leb, eqb}
 use lib.ListN.{length, getD, set}
 use borrow.Author.Tests.{leb-true, eqb-true, le-leb, eq-eqb}
 use Rattle.bits.proofs.Reading.{both-true}
-use Rattle.vbv.specs.Model.{modelFits}
+use Rattle.vbv.specs.Model.{farthest, modelFits}
 use Rattle.rate_control.specs.Create.{within}
 use Rattle.rate_control.specs.Writer.{quantiserFits, allFit, pendingFits, writerFits}
 use Rattle.rate_control.specs.declared.Pending.the-variants.{Nothing, Waits}
@@ -77,7 +77,7 @@ pub record WriterFits (w : CbrWriter) : Type 0 where
   pub whole-bytes : w .model .«prev_end_bits» % 8 ≡ 0
   pub few : 8 * w .model .removed ≤ w .model .«prev_end_bits»
   pub stuffed : 8 * w .«stuffing_bytes» ≤ w .model .«prev_end_bits»
-  pub targets : allFit (λ t. leb t (2 ^ 48)) (w .«target_bits») ≡ true
+  pub targets : allFit (λ t. leb t farthest) (w .«target_bits») ≡ true
   pub quantisers : allFit quantiserFits (w .q) ≡ true
   pub pending : pendingFits (w .pending) ≡ true
 
@@ -88,7 +88,7 @@ writer-fits {w} h =
     let b = both-true (eqb (w .model .«prev_end_bits» % 8) 0) _ (a .1) in
     let c = both-true (leb (8 * w .model .removed) (w .model .«prev_end_bits»)) _ (b .1) in
     let d = both-true (leb (8 * w .«stuffing_bytes») (w .model .«prev_end_bits»)) _ (c .1) in
-    let e = both-true (allFit (λ t. leb t (2 ^ 48)) (w .«target_bits»)) _ (d .1) in
+    let e = both-true (allFit (λ t. leb t farthest) (w .«target_bits»)) _ (d .1) in
     let f = both-true (allFit quantiserFits (w .q)) _ (e .1) in
     record {
       model-fits = a .0;

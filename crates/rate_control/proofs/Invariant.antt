@@ -2,13 +2,13 @@
 -- Assumes nothing.
 use mathlib.Core.Path.{_≡_, refl, sym, ap, _∙_}
 use mathlib.Core.Bool.{true, false, true≢false}
-use Prim.Native.Nat.{ℕ, _+_, _^_, _≤_, _<_}
+use Prim.Native.Nat.{ℕ, _+_, _≤_, _<_}
 use native.Mathlib.Omega.{arith}
 use lib.ListN.{length, length-set}
 use Rattle.bits.specs.Bits.{pick}
 use Rattle.bits.specs.Refusals.{Answer, orElse}
 use Rattle.vbv.specs.Annex.{overflows}
-use Rattle.vbv.specs.Model.{delivered}
+use Rattle.vbv.specs.Model.{farthest, delivered}
 use Rattle.vbv.proofs.Fitting.{model-fits}
 use Rattle.vbv.proofs.After.{after as model-after, after-fits}
 use Rattle.layers.specs.declared.PictureKind.{PictureKind}
@@ -83,7 +83,7 @@ place-fits {w = w} {o = o} h g =
     let e = end-is w o in
     let s = placed-size w o in
     let l = layer-long (o .kind) (o .interval) (o .layer) (g .layer-fits) in
-    let c : m .removed < 2 ^ 48 = omega (arith, f .few, v .end-high) in
+    let c : m .removed < farthest = omega (arith, f .few, v .end-high) in
     let a = model-after m (end w o) (deliveredNext w o) in
     record {
       model-fits =

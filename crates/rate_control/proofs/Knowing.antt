@@ -17,10 +17,10 @@ use Rattle.vbv.specs.Model.{periods}
 use Rattle.vbv.specs.declared.VbvParams.{VbvParams}
 use Rattle.rate_control.specs.Answers.{Given}
 use Rattle.rate_control.specs.Writer.{writerFits, asked}
-use Rattle.rate_control.specs.Create.{configParams, freshWriter, create}
+use Rattle.rate_control.specs.Create.{writerParams, freshWriter, create}
 use Rattle.rate_control.specs.Offer.{Offer, end, deliveredAt, deliveredNext, placedBytes, withPending, withPlaced, offer, leftBy, left, withdraw}
 use Rattle.rate_control.specs.Calls.{Call, offering, withdrawing, stepOf, leftByCall, stepsOf, final}
-use Rattle.rate_control.specs.Due.{Known, atFirst, deliveredFor, pendingNow, knownAfterOffer, knownAfter, holding, paramsOf, targetsOf}
+use Rattle.rate_control.specs.Due.{Known, atFirst, deliveredFor, pendingNow, knownAfterOffer, knownAfter, holding, targetsOf}
 use Rattle.rate_control.specs.declared.Pending.the-variants.{Nothing}
 use Rattle.rate_control.specs.declared.CbrConfig.{CbrConfig}
 use Rattle.rate_control.specs.declared.CbrWriter.{CbrWriter}
@@ -80,16 +80,16 @@ module _ (p : VbvParams) (t : List ℕ) where
 -- ---- a writer that was created
 
 pub fresh-known : (c : CbrConfig) (f : ℕ × ℕ)
-    → freshWriter c (modelAt (paramsOf c f) 0 0 0 false)
-    ≡ holding (paramsOf c f) (targetsOf c f) (atFirst c)
+    → freshWriter c (modelAt (writerParams c f) 0 0 0 false)
+    ≡ holding (writerParams c f) (targetsOf c f) (atFirst c)
 unfolding freshWriter
 fresh-known c f = refl
 
 pub created-known : (c : CbrConfig) (f : ℕ × ℕ) (w : CbrWriter) → frameRate (c .«frame_rate_code») ≡ value f → create c ≡ value w
-    → w ≡ holding (paramsOf c f) (targetsOf c f) (atFirst c)
+    → w ≡ holding (writerParams c f) (targetsOf c f) (atFirst c)
 created-known c f w e h =
     let x = creation-found c w h in
     let same : value (x .frames) ≡ value f = sym (x .frames-are) ∙ e in
     let g : x .frames ≡ f = cc in
-    let m : x .model ≡ modelAt (configParams c (x .frames)) 0 0 0 false = made-is _ _ (x .model-is) in
+    let m : x .model ≡ modelAt (writerParams c (x .frames)) 0 0 0 false = made-is _ _ (x .model-is) in
     sym (x .writer-is) ∙ rw (m, g) (fresh-known c f)

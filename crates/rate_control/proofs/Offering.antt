@@ -3,7 +3,7 @@
 use mathlib.Core.Path.{_≡_, refl, sym, ap, _∙_}
 use mathlib.Core.Bool.{Bool, true, false, not, _||_, true≢false}
 use mathlib.Core.List.{List, [], _++_}
-use Prim.Native.Nat.{ℕ, _+_, _^_, _≤_, _<_}
+use Prim.Native.Nat.{ℕ, _+_, _≤_, _<_}
 use native.Mathlib.Omega.{arith}
 use lib.Dec.{leb, ltb, eqb}
 use lib.ListN.{length, replicate}
@@ -12,6 +12,7 @@ use Rattle.bits.proofs.Flags.{or-right, pick-elim}
 use Rattle.bits.specs.Bits.{pick}
 use Rattle.bits.specs.Answers.{over}
 use Rattle.bits.specs.Refusals.{Answer}
+use Rattle.vbv.specs.Model.{farthest}
 use Rattle.vbv.specs.Steps.{ModelFits}
 use Rattle.vbv.specs.Patch.{patched}
 use Rattle.vbv.specs.declared.RemovalInterval.{RemovalInterval}
@@ -127,7 +128,7 @@ large-ready h = true≢false cc
 
 record Readied (w : CbrWriter) (o : Offer) (p : Placement) : Type 0 where
   fitted : writerFits w ≡ true
-  end-far : end w o ≤ 2 ^ 48
+  end-far : end w o ≤ farthest
   is : p ≡ placement w o
 
 readied : (w : CbrWriter) (o : Offer) (p : Placement) → testedFor w o ≡ Ready p → Readied w o p
@@ -145,7 +146,7 @@ readied w o p h =
     let e22 = was-no _ _ _ not-ready (size .1) in
     record {
       fitted = f;
-      end-far = ltb-false (2 ^ 48) (end w o) (or-right (ltb (2 ^ 48) (position w o)) _ (e14 .0));
+      end-far = ltb-false farthest (end w o) (or-right (ltb farthest (position w o)) _ (e14 .0));
       is = ready-same _ _ (sym (e22 .1));
     }
   where
@@ -169,7 +170,7 @@ module _ (w : CbrWriter) (o : Offer) (j : Tested) (e : j ≡ testedFor w o) (p :
       let s : p .«stuffing_bytes» ≡ stuffing w o = ap (λ (x : Placement). x .«stuffing_bytes») (r .is) in
       record {
         layer-far = omega (arith, r .end-far);
-        target-far = leb-true _ _ (all-fit-get (λ t. leb t (2 ^ 48)) (w .«target_bits») (index (o .kind)) refl (v .targets));
+        target-far = leb-true _ _ (all-fit-get (λ t. leb t farthest) (w .«target_bits») (index (o .kind)) refl (v .targets));
         total-far = omega (arith, r .end-far, v .stuffed, m .end-high);
       }
 

@@ -3,7 +3,7 @@
 use mathlib.Core.Path.{_≡_, refl, sym, _∙_}
 use mathlib.Core.Bool.{Bool, true, false, not, _||_}
 use mathlib.Core.List.{List}
-use Prim.Native.Nat.{ℕ, _+_, _*_, _^_, _≤_, _<_}
+use Prim.Native.Nat.{ℕ, _+_, _*_, _≤_, _<_}
 use native.Mathlib.Omega.{arith}
 use lib.Dec.{ltb}
 use lib.ListN.{length}
@@ -11,6 +11,7 @@ use borrow.Author.Tests.{ltb-false, lt-ltb, le-ltb, eq-eqb, ne-eqb}
 use Rattle.bits.specs.Bits.{pick}
 use Rattle.bits.specs.Refusals.{Answer, refuse, violate}
 use Rattle.bits.proofs.Flags.{or-left, or-right, is-true, is-false}
+use Rattle.vbv.specs.Model.{farthest}
 use Rattle.vbv.specs.Annex.{unit, overflows, beyond}
 use Rattle.vbv.specs.declared.VbvParams.{VbvParams}
 use Rattle.vbv.proofs.Laws.{over-units, units-over, beyond-units, units-beyond}
@@ -54,7 +55,7 @@ module _ (p : VbvParams) (t : List ℕ) (x : Known) (o : Offer) {n : ℕ} (i : I
       (refuse 20 (not (layerFits (o .kind) (o .interval) (o .layer))) r)))
 
   abbrev upTo14 : Answer Given → Answer Given
-  upTo14 r = upTo20 (refuse 14 (ltb (2 ^ 48) (position w o) || ltb (2 ^ 48) (end w o)) r)
+  upTo14 r = upTo20 (refuse 14 (ltb farthest (position w o) || ltb farthest (end w o)) r)
 
   abbrev upTo9 : Answer Given → Answer Given
   upTo9 r =
@@ -94,9 +95,9 @@ module _ (p : VbvParams) (t : List ℕ) (x : Known) (o : Offer) {n : ℕ} (i : I
 
   past-14 : {k : ℕ} {z r : Answer Given} → Near p x o k → z ≡ r → z ≡ upTo14 r
   past-14 g e =
-      let a : position w o ≤ 2 ^ 48 = rw (at-position p t x o i) (g .position-near) in
-      let b : end w o ≤ 2 ^ 48 = rw (end-is (g .stuffs)) (g .end-near) in
-      past-20 (g .fitting) (no _ _ _ (or-no _ _ (le-ltb (2 ^ 48) (position w o) a) (le-ltb (2 ^ 48) (end w o) b)) e)
+      let a : position w o ≤ farthest = rw (at-position p t x o i) (g .position-near) in
+      let b : end w o ≤ farthest = rw (end-is (g .stuffs)) (g .end-near) in
+      past-20 (g .fitting) (no _ _ _ (or-no _ _ (le-ltb farthest (position w o) a) (le-ltb farthest (end w o) b)) e)
 
   past-9 : {k : ℕ} {z r : Answer Given} → OnTime p x o k → z ≡ r → z ≡ upTo9 r
   past-9 g e =
@@ -147,9 +148,9 @@ module _ (p : VbvParams) (t : List ℕ) (x : Known) (o : Offer) {n : ℕ} (i : I
       (no _ _ _ (turn-no f)
       (held (headersFit p (anyPlaced x) (o .headers)) _ _ g
       (failed (layerFits (o .kind) (o .interval) (o .layer)) _ _ k refl)))
-  only (far-position g l) = past-20 g (yes _ _ _ (is-true _ (λ z. omega (arith, l, at-position p t x o i, ltb-false (2 ^ 48) (position w o) (or-left _ _ z)))) refl)
+  only (far-position g l) = past-20 g (yes _ _ _ (is-true _ (λ z. omega (arith, l, at-position p t x o i, ltb-false farthest (position w o) (or-left _ _ z)))) refl)
   only (far-end g s l) =
-      past-20 g (yes _ _ _ (is-true _ (λ z. omega (arith, l, end-is s, ltb-false (2 ^ 48) (end w o) (or-right (ltb (2 ^ 48) (position w o)) _ z)))) refl)
+      past-20 g (yes _ _ _ (is-true _ (λ z. omega (arith, l, end-is s, ltb-false farthest (end w o) (or-right (ltb farthest (position w o)) _ z)))) refl)
   only (early-position g l k) = past-14 g (yes _ _ _ (not-there _ _ _ _ (at-position p t x o i) (delivered-known p t x o) l) refl)
   only (overflowing g a l k) =
       let b : position w o * unit p ≤ deliveredAt w o = rw (delivered-known p t x o, at-position p t x o i) a in

@@ -12,7 +12,7 @@ use Rattle.bits.proofs.Over.{over-take}
 use Rattle.headers.specs.RoundTrips.{Bytes}
 use Rattle.vbv.specs.declared.VbvParams.{VbvParams}
 use Rattle.vbv.proofs.After.{after as model-after}
-use Rattle.scan.specs.Codes.{sequenceEndCode}
+use Rattle.scan.specs.Codes.{sequenceEnd}
 use Rattle.scan.proofs.Laid.{Tail, tail-none, tail-end}
 use Rattle.verify.specs.declared.CodedPicture.{CodedPicture}
 use Rattle.layers.proofs.Stream.{Part, bytesOf, PartFits, PartsFit, no-parts, part, stream, pictureOf, coded, part-then, stream-none, stream-more, coded-none, coded-last, coded-more}
@@ -75,10 +75,10 @@ module _ {p : VbvParams} {placed : Bool} (n : ℕ) (w : CbrWriter) (o : Offer) {
   unfolding codedBy codedSent sentOf endToEnd positionOf
   last-sending e =
       let t = end-code-last (o .last) e in
-      let c : n + (length (bytesOf (partOf w o)) + length sequenceEndCode) ≡ n + length (placedBytes w o) = omega (arith, placed-length w o, ap length t) in
+      let c : n + (length (bytesOf (partOf w o)) + length sequenceEnd) ≡ n + length (placedBytes w o) = omega (arith, placed-length w o, ap length t) in
       record {
         parts = partOf w o ∷ [];
-        follows = sequenceEndCode;
+        follows = sequenceEnd;
         laid-is = rw (z e, append-nil, placed-part w o, t, stream-more, stream-none);
         coded-is = rw (z e, coded-last, c);
         fit = part f no-parts;

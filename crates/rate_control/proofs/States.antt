@@ -4,14 +4,14 @@ use mathlib.Core.Path.{_≡_, refl, sym, _∙_}
 use mathlib.Core.Bool.{Bool, true, false, _&&_}
 use mathlib.Core.List.{List, [], _∷_}
 use mathlib.Core.Logic.{⊎-elim}
-use Prim.Native.Nat.{ℕ, _*_, _/_, _%_, _^_, _≤_, _<_}
+use Prim.Native.Nat.{ℕ, _*_, _/_, _%_, _≤_, _<_}
 use native.Mathlib.Omega.{arith}
 use lib.Dec.{leb, eqb}
 use lib.ListN.{length, getD}
 use borrow.Author.Tests.{le-leb, lt-leb}
 use Rattle.bits.specs.Bits.{pick}
 use Rattle.bits.proofs.Appending.{lt-or-le}
-use Rattle.vbv.specs.Model.{modelFits}
+use Rattle.vbv.specs.Model.{farthest, modelFits}
 use Rattle.layers.specs.declared.PictureKind.{PictureKind}
 use Rattle.rate_control.specs.Writer.{allFit, quantiserFits, pendingFits, writerFits}
 use Rattle.bits.specs.Refusals.{value, refused, orElse}
@@ -55,7 +55,7 @@ bytes-bits n b =
     (λ (h : n ≤ b / 8). le-leb n (b / 8) h ∙ sym (le-leb (8 * n) b (omega arith)))
     (lt-or-le (b / 8) n)
 
-pub writer-tested : (w : CbrWriter) (f t q p : Bool) → f ≡ modelFits (w .model) → t ≡ allFit (λ x. leb x (2 ^ 48)) (w .«target_bits»)
+pub writer-tested : (w : CbrWriter) (f t q p : Bool) → f ≡ modelFits (w .model) → t ≡ allFit (λ x. leb x farthest) (w .«target_bits»)
     → q ≡ allFit quantiserFits (w .q) → p ≡ pendingFits (w .pending)
     → (f && (eqb (w .model .«prev_end_bits» % 8) 0
     && (leb (w .model .removed) (w .model .«prev_end_bits» / 8)

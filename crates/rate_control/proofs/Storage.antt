@@ -12,7 +12,7 @@ use Rattle.bits.specs.Answers.{over}
 use Rattle.bits.proofs.Over.{over-sets, sets-append}
 use Rattle.vbv.specs.Patch.{patched}
 use Rattle.vbv.proofs.After.{patched-size}
-use Rattle.scan.specs.Codes.{sequenceEndCode}
+use Rattle.scan.specs.Codes.{sequenceEnd}
 use Rattle.rate_control.specs.Offer.{endCode}
 
 -- one byte more
@@ -34,7 +34,7 @@ zeros-end out k zero h = refl
 zeros-end out k (suc left) h = absurd (omega arith)
 
 -- the sequence's end, after the last picture
-pub end-code-last : (last : Bool) → last ≡ true → endCode last ≡ sequenceEndCode
+pub end-code-last : (last : Bool) → last ≡ true → endCode last ≡ sequenceEnd
 unfolding endCode
 end-code-last last h = rw h
 
@@ -42,7 +42,7 @@ pub end-code-none : (last : Bool) → last ≡ false → endCode last ≡ []
 unfolding endCode
 end-code-none last h = rw h
 
-pub end-put : (o out : List ℕ) (at : ℕ) (last : Bool) → last ≡ true → o ≡ sets out at (0 ∷ 0 ∷ 1 ∷ 0xB7 ∷ []) → o ≡ sets out at (endCode last)
+pub end-put : (o out : List ℕ) (at : ℕ) (last : Bool) → last ≡ true → o ≡ sets out at sequenceEnd → o ≡ sets out at (endCode last)
 end-put o out at last h e = rw (end-code-last last h) e
 
 pub end-none : (out : List ℕ) (at : ℕ) (last : Bool) → last ≡ false → out ≡ sets out at (endCode last)

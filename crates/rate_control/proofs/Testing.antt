@@ -2,7 +2,7 @@
 -- Assumes nothing.
 use mathlib.Core.Path.{_≡_, refl, sym, ap, _∙_}
 use mathlib.Core.Bool.{Bool, true, false, _||_}
-use Prim.Native.Nat.{ℕ, _+_, _*_, _^_, _≤_, _<_, max}
+use Prim.Native.Nat.{ℕ, _+_, _*_, _≤_, _<_, max, _/_}
 use native.Mathlib.Omega.{arith}
 use lib.Dec.{ltb}
 use lib.ListN.{length}
@@ -11,7 +11,7 @@ use Rattle.bits.proofs.Flags.{pick-elim}
 use Rattle.bits.specs.Bits.{pick}
 use Rattle.vbv.specs.Annex.{firstDelivered, overflows, beyond, expectedDelay, greatestEnd, leastEnd}
 use Rattle.vbv.specs.Steps.{EndFits, delayOf, bitsOf, removalOf}
-use Rattle.vbv.specs.Model.{paramsFit, delivered, modelFits, atDelivered, afterRemoval, nextDelivered, delayForPicture, removePicture, maxEndBits, minEndBits}
+use Rattle.vbv.specs.Model.{farthest, paramsFit, delivered, modelFits, atDelivered, afterRemoval, nextDelivered, delayForPicture, removePicture, maxEndBits, minEndBits}
 use Rattle.vbv.specs.declared.RemovalInterval.{RemovalInterval}
 use Rattle.vbv.specs.declared.VbvParams.{VbvParams}
 use Rattle.vbv.specs.declared.VbvCbrModel.{VbvCbrModel}
@@ -51,15 +51,15 @@ alike R true e h = e
 alike R false e h = h refl
 
 -- one of two numbers passes 2^48
-either : (a b : ℕ) → 281474976710656 < max a b → (ltb (2 ^ 48) a || ltb (2 ^ 48) b) ≡ true
-either a b h = go (ltb (2 ^ 48) a) refl
+either : (a b : ℕ) → farthest < max a b → (ltb farthest a || ltb farthest b) ≡ true
+either a b h = go (ltb farthest a) refl
   where
-    go : (t : Bool) → ltb (2 ^ 48) a ≡ t → (ltb (2 ^ 48) a || ltb (2 ^ 48) b) ≡ true
+    go : (t : Bool) → ltb farthest a ≡ t → (ltb farthest a || ltb farthest b) ≡ true
     go true e = rw e
-    go false e = let l = ltb-false (2 ^ 48) a e in rw (e, lt-ltb (2 ^ 48) b (omega arith))
+    go false e = let l = ltb-false farthest a e in rw (e, lt-ltb farthest b (omega arith))
 
-neither : (a b : ℕ) → a ≤ 281474976710656 → b ≤ 281474976710656 → (ltb (2 ^ 48) a || ltb (2 ^ 48) b) ≡ false
-neither a b h g = rw (le-ltb (2 ^ 48) a h, le-ltb (2 ^ 48) b g)
+neither : (a b : ℕ) → a ≤ farthest → b ≤ farthest → (ltb farthest a || ltb farthest b) ≡ false
+neither a b h g = rw (le-ltb farthest a h, le-ltb farthest b g)
 
 -- ---- the answer of the tests, in the offer's own quantities
 
@@ -73,7 +73,7 @@ placement w o = record {
 
 unfoldable pub measuredFor : CbrWriter → Offer → Tested
 measuredFor w o =
-    pick (ltb (2 ^ 48) (position w o) || ltb (2 ^ 48) (end w o)) (Refused (Model Range))
+    pick (ltb farthest (position w o) || ltb farthest (end w o)) (Refused (Model Range))
     (pick (beyond (w .model .params) (position w o) (deliveredAt w o)) (Refused (Model Early))
     (pick (overflows (w .model .params) (w .model .«prev_end_bits») (deliveredAt w o)) (Refused (Violation (Overflow (w .model .removed) 0 0)))
     (pick (beyond (w .model .params) (content w o) (deliveredAt w o)) TooLarge
@@ -95,7 +95,7 @@ pub record StartedModel (w : CbrWriter) (o : Offer) : Type 0 where
   pub started-is : startedAt (w .model) (position w o) ≡ md.Model model
   pub begun : StartedFor w o model
 
-start-model : (w : CbrWriter) (o : Offer) → writerFits w ≡ true → position w o ≤ 2 ^ 48 → StartedModel w o
+start-model : (w : CbrWriter) (o : Offer) → writerFits w ≡ true → position w o ≤ farthest → StartedModel w o
 unfolding startedAt
 start-model w o f h = go (w .model .started) refl
   where
@@ -192,13 +192,13 @@ module _ (w : CbrWriter) (o : Offer) (f : writerFits w ≡ true) (n : VbvCbrMode
   most-told : bitsOf (maxEndBits n) ≡ bt.Bits (greatestEnd p (deliveredAt w o))
   most-told = max-named n (b .fits) (b .is-started) ∙ rw (b .delivered-is, b .same-params)
 
-  ends : (e : ℕ) → w .model .«prev_end_bits» ≤ e → e ≤ 2 ^ 48 → EndFits n e
+  ends : (e : ℕ) → w .model .«prev_end_bits» ≤ e → e ≤ farthest → EndFits n e
   ends e l h =
       let v = writer-fits f in
       let g = model-fits (v .model-fits) in
       record { end-far = h; end-low = omega (arith, b .same-end); count = omega (arith, b .same-count, v .few, g .end-high) }
 
-  removal : (e : ℕ) → w .model .«prev_end_bits» ≤ e → e ≤ 2 ^ 48
+  removal : (e : ℕ) → w .model .«prev_end_bits» ≤ e → e ≤ farthest
       → removalOf (removePicture n e (o .interval))
       ≡ pick (overflows p (w .model .«prev_end_bits») (deliveredAt w o)) (rm.Violation (Overflow (w .model .removed) 0 0))
       (pick (beyond p e (deliveredAt w o)) (rm.Violation (Underflow (w .model .removed) 0 0))
@@ -219,7 +219,7 @@ module _ (w : CbrWriter) (o : Offer) (f : writerFits w ≡ true) (n : VbvCbrMode
   inside = omega arith
 
   -- in time and no overflow: the delay can be told
-  ready-told : position w o ≤ 2 ^ 48 → beyond p (position w o) (deliveredAt w o) ≡ false
+  ready-told : position w o ≤ farthest → beyond p (position w o) (deliveredAt w o) ≡ false
       → overflows p (w .model .«prev_end_bits») (deliveredAt w o) ≡ false
       → readyBy (afterRemoval (w .model) (end w o) (deliveredNext w o)) x (stuffing w o) (delayOf (delayForPicture n (position w o))) ≡ Ready (placement w o)
   unfolding placement delay
@@ -230,7 +230,7 @@ module _ (w : CbrWriter) (o : Offer) (f : writerFits w ≡ true) (n : VbvCbrMode
       rw (delays-named n (position w o) (b .fits) (b .is-started) h e k, b .delivered-is, b .same-params)
       (delay-case n x (stuffing w o) (o .interval) _ _ ∙ rw sizes)
 
-  module _ (near : position w o ≤ 2 ^ 48) (far : end w o ≤ 2 ^ 48) where
+  module _ (near : position w o ≤ farthest) (far : end w o ≤ farthest) where
     end-told : beyond p (position w o) (deliveredAt w o) ≡ false → overflows p (w .model .«prev_end_bits») (deliveredAt w o) ≡ false
         → byEnd n x (stuffing w o) (removalOf (removePicture n (end w o) (o .interval)))
         ≡ pick (beyond p (end w o) (deliveredAt w o)) (Refused Stuffing) (Ready (placement w o))
@@ -267,26 +267,26 @@ module _ (w : CbrWriter) (o : Offer) where
   abbrev Same : Tested → Type 0
   Same j = j ≡ measuredFor w o
 
-  far-told : 281474976710656 < max (position w o) (end w o) → Refused (Model Range) ≡ measuredFor w o
+  far-told : farthest < max (position w o) (end w o) → Refused (Model Range) ≡ measuredFor w o
   unfolding measuredFor
   far-told h = yes _ _ _ (either (position w o) (end w o) h) refl
 
   module _ (f : writerFits w ≡ true) where
-    stuffed-told : (n : VbvCbrModel) → StartedFor w o n → position w o ≤ 2 ^ 48 → withStuffing n (extent w o) (o .interval) (stuffing w o) ≡ measuredFor w o
+    stuffed-told : (n : VbvCbrModel) → StartedFor w o n → position w o ≤ farthest → withStuffing n (extent w o) (o .interval) (stuffing w o) ≡ measuredFor w o
     unfolding withStuffing
     stuffed-told n b near =
-        pick-elim Same _ (λ e. far-told (omega (arith, ltb-true (2 ^ 45) (stuffing w o) e, end-same w o))) λ z.
-        pick-elim Same _ (λ e. far-told (omega (arith, ltb-true (2 ^ 48) (content w o + 8 * stuffing w o) e, end-same w o))) λ e.
-        position-told w o f n b near (omega (arith, ltb-false (2 ^ 48) (content w o + 8 * stuffing w o) e, end-same w o))
+        pick-elim Same _ (λ e. far-told (omega (arith, ltb-true (farthest / 8) (stuffing w o) e, end-same w o))) λ z.
+        pick-elim Same _ (λ e. far-told (omega (arith, ltb-true farthest (content w o + 8 * stuffing w o) e, end-same w o))) λ e.
+        position-told w o f n b near (omega (arith, ltb-false farthest (content w o + 8 * stuffing w o) e, end-same w o))
 
-    start-told : position w o ≤ 2 ^ 48
+    start-told : position w o ≤ farthest
         → byStart (extent w o) (o .interval) (o .last) (startedAt (w .model) (position w o)) ≡ measuredFor w o
     unfolding byStart byLeast stuffingUpTo stuffing
     start-told near =
         let g = start-model w o f near in
         rw (g .started-is, least-told w o f (g .model) (g .begun)) (stuffed-told (g .model) (g .begun) near)
 
-    bytes-far : 35184372088832 < max (length (o .headers)) (length (o .layer)) → 281474976710656 < max (position w o) (end w o)
+    bytes-far : farthest / 8 < max (length (o .headers)) (length (o .layer)) → farthest < max (position w o) (end w o)
     unfolding position content
     bytes-far h = omega (arith, end-same w o)
 
@@ -295,5 +295,5 @@ module _ (w : CbrWriter) (o : Offer) where
     measured-is =
         rw (extent-is w o)
         (pick-elim Same _ (λ e. far-told (bytes-far (ltb-true _ _ e))) λ b.
-        pick-elim Same _ (λ e. far-told (omega (arith, ltb-true (2 ^ 48) (max (position w o) (content w o)) e, end-same w o))) λ e.
-        start-told (omega (arith, ltb-false (2 ^ 48) (max (position w o) (content w o)) e)))
+        pick-elim Same _ (λ e. far-told (omega (arith, ltb-true farthest (max (position w o) (content w o)) e, end-same w o))) λ e.
+        start-told (omega (arith, ltb-false farthest (max (position w o) (content w o)) e)))

@@ -3,12 +3,13 @@
 use mathlib.Core.Path.{_≡_, _∙_}
 use mathlib.Core.Bool.{true}
 use mathlib.Core.List.{List, [], _∷_}
-use Prim.Native.Nat.{ℕ, _+_, _*_, _^_, _≤_}
+use Prim.Native.Nat.{ℕ, _+_, _*_, _≤_}
 use native.Mathlib.Omega.{arith}
 use lib.ListN.{length, length-append, take}
 use Rattle.bits.specs.Bits.{pick}
 use Rattle.bits.specs.Refusals.{Answer}
 use Rattle.bits.proofs.Over.{over-take}
+use Rattle.vbv.specs.Model.{farthest}
 use Rattle.vbv.proofs.After.{after as model-after}
 use Rattle.vbv.proofs.Fitting.{model-fits}
 use Rattle.rate_control.specs.Answers.{Given}
@@ -71,7 +72,7 @@ final-fits w [] h = h .fits
 final-fits w (c ∷ l) h = final-fits _ l (call-inv c h)
 
 -- never more than 2^48 bits
-pub laid-low : {m : ℕ} (n : ℕ) (w : CbrWriter) (l : List Call) → Inv m w → 8 * length (endToEnd (sent n (stepsOf w l))) ≤ 2 ^ 48
+pub laid-low : {m : ℕ} (n : ℕ) (w : CbrWriter) (l : List Call) → Inv m w → 8 * length (endToEnd (sent n (stepsOf w l))) ≤ farthest
 laid-low n w l h =
     let f = model-fits (writer-fits (final-fits w l h) .model-fits) in
     omega (arith, f .end-high, laid-bits n w l h)

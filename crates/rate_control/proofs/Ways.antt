@@ -2,7 +2,7 @@
 -- Assumes nothing.
 use mathlib.Core.Path.{_≡_, refl, sym, _∙_}
 use mathlib.Core.Bool.{Bool, true, false}
-use Prim.Native.Nat.{ℕ, _+_, _-_, _*_, _/_, _^_, _≤_, _<_, max}
+use Prim.Native.Nat.{ℕ, _+_, _-_, _*_, _/_, _≤_, _<_, max}
 use native.Mathlib.Omega.{arith}
 use native.Mathlib.Nat.{div-lt-iff-lt-mul}
 use lib.ListN.{length}
@@ -12,7 +12,7 @@ use Rattle.bits.specs.Refusals.{Answer}
 use Rattle.vbv.specs.Answers.{modelAnswer, removalAnswer, delayAnswer, bitsAnswer}
 use Rattle.vbv.proofs.Numbers.{model-case, delay-case, bits-case, removal-case}
 use Rattle.vbv.specs.Steps.{ParamsFit, delayOf, bitsOf, removalOf}
-use Rattle.vbv.specs.Model.{startModel, delayForPicture, removePicture, maxEndBits, minEndBits}
+use Rattle.vbv.specs.Model.{farthest, startModel, delayForPicture, removePicture, maxEndBits, minEndBits}
 use Rattle.vbv.specs.declared.RemovalInterval.{RemovalInterval}
 use Rattle.vbv.specs.declared.VbvParams.{VbvParams}
 use Rattle.vbv.specs.declared.VbvCbrModel.{VbvCbrModel}
@@ -136,18 +136,18 @@ module _ (m : VbvCbrModel) (x : Extent) (i : RemovalInterval) (last : Bool) (r :
   least-no error h = rw (bits-case h e)
 
   module _ (least z : ℕ) (h : r ≡ bt.Bits least) (k : z ≡ stuffingUpTo least (x .content) last) where
-    pub far-stuffing : 35184372088832 < z → Refused (Model Range) ≡ byLeast m x i last (bitsOf v)
+    pub far-stuffing : farthest / 8 < z → Refused (Model Range) ≡ byLeast m x i last (bitsOf v)
     unfolding byLeast withStuffing pick
-    far-stuffing g = rw (bits-case h e, ← k, lt-ltb (2 ^ 45) z g)
+    far-stuffing g = rw (bits-case h e, ← k, lt-ltb (farthest / 8) z g)
 
-    module _ (g : z ≤ 35184372088832) where
-      pub far-end : 281474976710656 < x .content + 8 * z → Refused (Model Range) ≡ byLeast m x i last (bitsOf v)
+    module _ (g : z ≤ farthest / 8) where
+      pub far-end : farthest < x .content + 8 * z → Refused (Model Range) ≡ byLeast m x i last (bitsOf v)
       unfolding byLeast withStuffing pick
-      far-end l = rw (bits-case h e, ← k, le-ltb (2 ^ 45) z g, lt-ltb (2 ^ 48) (x .content + 8 * z) l)
+      far-end l = rw (bits-case h e, ← k, le-ltb (farthest / 8) z g, lt-ltb farthest (x .content + 8 * z) l)
 
-      pub near-end : (j : Tested) → x .content + 8 * z ≤ 281474976710656 → j ≡ byMost m x z i (bitsOf (maxEndBits m)) → j ≡ byLeast m x i last (bitsOf v)
+      pub near-end : (j : Tested) → x .content + 8 * z ≤ farthest → j ≡ byMost m x z i (bitsOf (maxEndBits m)) → j ≡ byLeast m x i last (bitsOf v)
       unfolding byLeast withStuffing pick
-      near-end j l q = q ∙ rw (bits-case h e, ← k, le-ltb (2 ^ 45) z g, le-ltb (2 ^ 48) (x .content + 8 * z) l)
+      near-end j l q = q ∙ rw (bits-case h e, ← k, le-ltb (farthest / 8) z g, le-ltb farthest (x .content + 8 * z) l)
 
 -- ---- all
 
@@ -158,23 +158,23 @@ pub end-code-empty : (last : Bool) → last ≡ false → (0 ≡ length (endCode
 end-code-empty last h = (rw (end-code-none last h), omega arith)
 
 module _ (m : VbvCbrModel) (headers layer : ℕ) (i : RemovalInterval) (last : Bool) (a : ℕ) (e : a ≡ max headers layer) where
-  pub far-bytes : 35184372088832 < a → Refused (Model Range) ≡ measured m headers layer i last
+  pub far-bytes : farthest / 8 < a → Refused (Model Range) ≡ measured m headers layer i last
   unfolding measured pick
-  far-bytes h = rw (← e, lt-ltb (2 ^ 45) a h)
+  far-bytes h = rw (← e, lt-ltb (farthest / 8) a h)
 
-  module _ (h : a ≤ 35184372088832) (t b : ℕ) (k : t ≡ length (endCode last))
+  module _ (h : a ≤ farthest / 8) (t b : ℕ) (k : t ≡ length (endCode last))
       (f : b ≡ max (m .«prev_end_bits» + 8 * (headers + 4)) (m .«prev_end_bits» + 8 * (headers + layer + t))) where
-    pub far-position : 281474976710656 < b → Refused (Model Range) ≡ measured m headers layer i last
+    pub far-position : farthest < b → Refused (Model Range) ≡ measured m headers layer i last
     unfolding measured within14 extentOf pick
-    far-position g = rw (← e, le-ltb (2 ^ 45) a h, ← k, ← f, lt-ltb (2 ^ 48) b g)
+    far-position g = rw (← e, le-ltb (farthest / 8) a h, ← k, ← f, lt-ltb farthest b g)
 
-    module _ (g : b ≤ 281474976710656) (s : VbvModel) (q : s ≡ startedAt m (m .«prev_end_bits» + 8 * (headers + 4))) where
+    module _ (g : b ≤ farthest) (s : VbvModel) (q : s ≡ startedAt m (m .«prev_end_bits» + 8 * (headers + 4))) where
       pub not-started : (error : VbvError) → s ≡ md.Refused error → Refused (Model error) ≡ measured m headers layer i last
       unfolding measured within14 extentOf byStart pick
-      not-started error l = rw (← e, le-ltb (2 ^ 45) a h, ← k, ← f, le-ltb (2 ^ 48) b g, ← q, l)
+      not-started error l = rw (← e, le-ltb (farthest / 8) a h, ← k, ← f, le-ltb farthest b g, ← q, l)
 
       pub is-started : (n : VbvCbrModel) (j : Tested) → s ≡ md.Model n
           → j ≡ byLeast n (record { position = m .«prev_end_bits» + 8 * (headers + 4); content = m .«prev_end_bits» + 8 * (headers + layer + t); bytes = headers + layer + t }) i last (bitsOf (minEndBits n i))
           → j ≡ measured m headers layer i last
       unfolding measured within14 extentOf byStart pick
-      is-started n j l w = w ∙ rw (← e, le-ltb (2 ^ 45) a h, ← k, ← f, le-ltb (2 ^ 48) b g, ← q, l)
+      is-started n j l w = w ∙ rw (← e, le-ltb (farthest / 8) a h, ← k, ← f, le-ltb farthest b g, ← q, l)

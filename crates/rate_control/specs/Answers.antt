@@ -3,8 +3,8 @@
 use Prim.Native.Nat.{ℕ}
 use Rattle.bits.specs.Refusals.{Answer, value, refused}
 use Rattle.vbv.specs.Answers.{errorNumber as modelNumber, violationNumber, violationPicture, violationCoded, violationExpected, refusal}
-use Rattle.verify.specs.Answers.{plain}
-use Rattle.verify.specs.declared.VbvRefusal.{VbvRefusal}
+use Rattle.bits.specs.Refusals.{plain}
+use Rattle.bits.specs.declared.VbvRefusal.{VbvRefusal}
 use Rattle.rate_control.specs.declared.CbrWriter.{CbrWriter}
 use Rattle.rate_control.specs.declared.CbrCreation.{CbrCreation}
 use Rattle.rate_control.specs.declared.CbrCreation.the-variants.{Created, Refused as NotCreated}

@@ -11,10 +11,10 @@ use Rattle.headers.specs.RoundTrips.{Bytes}
 use Rattle.vbv.specs.Answers.{frameRate}
 use Rattle.vbv.specs.declared.VbvParams.{VbvParams}
 use Rattle.rate_control.specs.Answers.{Given, placed, again}
-use Rattle.rate_control.specs.Create.{create}
+use Rattle.rate_control.specs.Create.{writerParams, create}
 use Rattle.rate_control.specs.Calls.{Call, offering, withdrawing, Step, offered, withdrawn, stepsOf, final}
 use Rattle.rate_control.specs.Sent.{sent, stuffingOf, EachRemoval, InBuffer, WellPlaced, LeastStuffing, PassesCheck}
-use Rattle.rate_control.specs.Due.{Known, atFirst, askedFor, knownAfterStep, knownAfter, holding, Answered, paramsOf, targetsOf, CreationDue}
+use Rattle.rate_control.specs.Due.{Known, atFirst, askedFor, knownAfterStep, knownAfter, holding, Answered, targetsOf, CreationDue}
 use Rattle.rate_control.specs.declared.CbrConfig.{CbrConfig}
 use Rattle.rate_control.specs.declared.CbrWriter.{CbrWriter}
 
@@ -64,7 +64,7 @@ pub record Demand (c : CbrConfig) (p : VbvParams) (t : List ℕ) (steps : List S
 
 -- of the calls on the writer w, created with c, the frame rate of its code being f
 abbrev pub DemandOf : CbrConfig → ℕ × ℕ → CbrWriter → List Call → Type 0
-DemandOf c f w calls = Demand c (paramsOf c f) (targetsOf c f) (stepsOf w calls) (final w calls)
+DemandOf c f w calls = Demand c (writerParams c f) (targetsOf c f) (stepsOf w calls) (final w calls)
 
 -- every offered layer is of bytes: in the code it is, by its type. (Only a layer's bits are put together anew, by the patched delay.)
 abbrev pub AllBytes : List Call → Type 0

@@ -1,7 +1,7 @@
 -- Which answer is due to creation and to each offer (paper 01, 'A placed picture'), by conditions in ≤ and <, from creation, the calls and their answers: not from the writer's state,
--- nor from the tests, positions, stuffing or bytes of `offer`. The fit tests, `firstDelay`, `endCode`, `patched`, `coarser`, `steered`, `pendingOr`, `of`, `index`, `frameRate`, `targets`, `periods` and
+-- nor from the tests, positions, stuffing or bytes of `offer`. The fit tests, `firstDelay`, `endCode`, `patched`, `coarser`, `steered`, `pendingOr`, `of`, `index`, `frameRate`, `writerParams`, `targets`, `periods` and
 -- Annex C are the ones that `create` and `offer` compute with: they are to be read against the papers themselves. Assumes nothing.
-use Prim.Native.Nat.{ℕ, suc, _+_, _*_, _/_, _%_, _^_, _≤_, _<_}
+use Prim.Native.Nat.{ℕ, suc, _+_, _*_, _/_, _%_, _≤_, _<_}
 use mathlib.Core.Path.{_≡_}
 use mathlib.Core.List.{List, [], _∷_, _++_}
 use mathlib.Core.Bool.{Bool, true, false}
@@ -9,9 +9,10 @@ use lib.Dec.{eqb, ltb}
 use lib.ListN.{length, take, drop, replicate, set}
 use Rattle.bits.specs.Bits.{pick}
 use Rattle.bits.specs.Refusals.{Answer, value, refused}
+use Rattle.rate_control.specs.Create.{writerParams}
 use Rattle.vbv.specs.Annex.{unit, firstDelivered, gain, expectedDelay}
 use Rattle.vbv.specs.Answers.{frameRate}
-use Rattle.vbv.specs.Model.{periods}
+use Rattle.vbv.specs.Model.{farthest, periods}
 use Rattle.vbv.specs.Patch.{patched}
 use Rattle.vbv.specs.declared.VbvParams.{VbvParams}
 use Rattle.layers.specs.Headers.{headersFit}
@@ -134,8 +135,8 @@ pub record Fitting (p : VbvParams) (x : Known) (o : Offer) : Type 0 where
 pub record Near (p : VbvParams) (x : Known) (o : Offer) (z : ℕ) : Type 0 where
   pub fitting : Fitting p x o
   pub stuffs : Stuffs p (x .bytes) (deliveredFor p x o) o z
-  pub position-near : positionOf (x .bytes) o ≤ 2 ^ 48
-  pub end-near : contentOf (x .bytes) o + 8 * z ≤ 2 ^ 48
+  pub position-near : positionOf (x .bytes) o ≤ farthest
+  pub end-near : contentOf (x .bytes) o + 8 * z ≤ farthest
 
 -- passed: 17, 18, 20, 14, 7, 9
 pub record OnTime (p : VbvParams) (x : Known) (o : Offer) (z : ℕ) : Type 0 where
@@ -162,8 +163,8 @@ pub data Due (p : VbvParams) (x : Known) (o : Offer) : Answer Given → Type 0 w
   bad-headers : (OutOfTurn x o → ⊥) → headersFit p (anyPlaced x) (o .headers) ≡ false → Due p x o (refused 18 0 0 0)
   bad-layer : (OutOfTurn x o → ⊥) → headersFit p (anyPlaced x) (o .headers) ≡ true
       → layerFits (o .kind) (o .interval) (o .layer) ≡ false → Due p x o (refused 20 0 0 0)
-  far-position : Fitting p x o → 2 ^ 48 < positionOf (x .bytes) o → Due p x o (refused 14 0 0 0)
-  far-end : {z : ℕ} → Fitting p x o → Stuffs p (x .bytes) (deliveredFor p x o) o z → 2 ^ 48 < contentOf (x .bytes) o + 8 * z
+  far-position : Fitting p x o → farthest < positionOf (x .bytes) o → Due p x o (refused 14 0 0 0)
+  far-end : {z : ℕ} → Fitting p x o → Stuffs p (x .bytes) (deliveredFor p x o) o z → farthest < contentOf (x .bytes) o + 8 * z
       → Due p x o (refused 14 0 0 0)
   -- the last condition of these two is added: it always holds where they arise, for before a placing the position is always delivered, and after one the stuffing keeps overflow away.
   -- So a 9 names picture 0, and no delay, since none was coded (docs/DECISIONS.md 40)
@@ -204,27 +205,19 @@ pub record Ranges (c : CbrConfig) : Type 0 where
   pub anchors-low : 1 ≤ c .«anchors_per_gop»
   pub anchors-high : c .«anchors_per_gop» ≤ 255
 
--- R and B of a configuration, in bits a second and bits
-abbrev pub rateOf : CbrConfig → ℕ
-rateOf c = 400 * c .«bit_rate_value»
-
-abbrev pub bufferOf : CbrConfig → ℕ
-bufferOf c = 16384 * c .«vbv_buffer_size_value»
-
--- with the frame rate f of its code, and the targets of a group
-abbrev pub paramsOf : CbrConfig → ℕ × ℕ → VbvParams
-paramsOf c f = record { «bit_rate» = rateOf c; «buffer_size_bits» = bufferOf c; frn = f .0; frd = f .1 }
-
+-- the targets of a group, the frame rate of its code being f
 abbrev pub targetsOf : CbrConfig → ℕ × ℕ → List ℕ
-targetsOf c f = targets (paramsOf c f) (c .«b_between») (c .«anchors_per_gop»)
+targetsOf c f = targets (writerParams c f) (c .«b_between») (c .«anchors_per_gop»)
 
 -- 12 for a range, 6 for the rate code, 12 for the ratio; else a writer that holds what is known at first
 pub data CreationDue (c : CbrConfig) : Answer CbrWriter → Type 0 where
   bad-range : (Ranges c → ⊥) → CreationDue c (refused 12 0 0 0)
   bad-code : Ranges c → (1 ≤ c .«frame_rate_code» → c .«frame_rate_code» ≤ 8 → ⊥) → CreationDue c (refused 6 0 0 0)
-  bad-ratio : Ranges c → 1 ≤ c .«frame_rate_code» → c .«frame_rate_code» ≤ 8 → 65534 * rateOf c < 90000 * bufferOf c → CreationDue c (refused 12 0 0 0)
-  created : {f : ℕ × ℕ} → Ranges c → 1 ≤ c .«frame_rate_code» → c .«frame_rate_code» ≤ 8 → frameRate (c .«frame_rate_code») ≡ value f → 90000 * bufferOf c ≤ 65534 * rateOf c
-      → CreationDue c (value (holding (paramsOf c f) (targetsOf c f) (atFirst c)))
+  bad-ratio : {f : ℕ × ℕ} → Ranges c → 1 ≤ c .«frame_rate_code» → c .«frame_rate_code» ≤ 8 → frameRate (c .«frame_rate_code») ≡ value f
+      → 65534 * writerParams c f .«bit_rate» < 90000 * writerParams c f .«buffer_size_bits» → CreationDue c (refused 12 0 0 0)
+  created : {f : ℕ × ℕ} → Ranges c → 1 ≤ c .«frame_rate_code» → c .«frame_rate_code» ≤ 8 → frameRate (c .«frame_rate_code») ≡ value f
+      → 90000 * writerParams c f .«buffer_size_bits» ≤ 65534 * writerParams c f .«bit_rate»
+      → CreationDue c (value (holding (writerParams c f) (targetsOf c f) (atFirst c)))
 
 -- ---- of a list
 

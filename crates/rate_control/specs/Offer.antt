@@ -1,6 +1,6 @@
 -- An offer and a withdrawal (paper 01, 'A placed picture'): in this order 12 for the state, then 17, 18, 20, 14, 7, 9, size, 22, 19; else the picture is placed.
 -- Assumes nothing.
-use Prim.Native.Nat.{ℕ, _+_, _-_, _*_, _/_, _^_}
+use Prim.Native.Nat.{ℕ, _+_, _-_, _*_, _/_}
 use mathlib.Core.List.{List, [], _++_}
 use mathlib.Core.Bool.{Bool, true, false, not, _||_}
 use lib.Dec.{ltb, eqb}
@@ -9,11 +9,11 @@ use Rattle.bits.specs.Bits.{pick}
 use Rattle.bits.specs.Answers.{over}
 use Rattle.bits.specs.Refusals.{Answer, value, refused, refuse, violate}
 use Rattle.vbv.specs.Annex.{firstDelivered, gain, overflows, beyond, expectedDelay, leastEnd}
-use Rattle.vbv.specs.Model.{delivered, periods, afterRemoval}
+use Rattle.vbv.specs.Model.{farthest, delivered, periods, afterRemoval}
 use Rattle.vbv.specs.Patch.{patched}
 use Rattle.vbv.specs.declared.RemovalInterval.{RemovalInterval}
 use Rattle.vbv.specs.declared.VbvParams.{VbvParams}
-use Rattle.scan.specs.Codes.{sequenceEndCode}
+use Rattle.scan.specs.Codes.{sequenceEnd}
 use Rattle.layers.specs.declared.PictureKind.{PictureKind}
 use Rattle.layers.specs.Headers.{headersFit}
 use Rattle.layers.specs.Layer.{layerFits}
@@ -40,7 +40,7 @@ position w o = w .model .«prev_end_bits» + 8 * (length (o .headers) + 4)
 
 -- the sequence's end follows the last picture
 unfoldable pub endCode : Bool → List ℕ
-endCode true = sequenceEndCode
+endCode true = sequenceEnd
 endCode false = []
 
 -- where headers, layer and the sequence's end come to
@@ -92,7 +92,7 @@ offer w o =
     (refuse 17 (w .finished || clashes (w .pending) (o .kind))
     (refuse 18 (not (headersFit (w .model .params) (w .model .started) (o .headers)))
     (refuse 20 (not (layerFits (o .kind) (o .interval) (o .layer)))
-    (refuse 14 (ltb (2 ^ 48) (position w o) || ltb (2 ^ 48) (end w o))
+    (refuse 14 (ltb farthest (position w o) || ltb farthest (end w o))
     (refuse 7 (beyond (w .model .params) (position w o) (deliveredAt w o))
     (violate 9 (w .model .removed) 0 0 (overflows (w .model .params) (w .model .«prev_end_bits») (deliveredAt w o))
     (pick (beyond (w .model .params) (content w o) (deliveredAt w o)) (tooLarge (asked w (o .kind)))

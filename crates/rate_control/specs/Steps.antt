@@ -1,6 +1,6 @@
 -- The writer as the code goes: the promises of the private functions. proofs/Testing and proofs/Offering say that they come to specs/Offer.
 -- Assumes nothing.
-use Prim.Native.Nat.{ℕ, _+_, _-_, _*_, _/_, _^_, _≤_, max}
+use Prim.Native.Nat.{ℕ, _+_, _-_, _*_, _/_, _≤_, max}
 use mathlib.Core.Path.{_≡_}
 use mathlib.Core.Bool.{Bool, not, _||_}
 use mathlib.Core.List.{List}
@@ -9,7 +9,7 @@ use lib.ListN.{length, set}
 use Rattle.bits.specs.Bits.{pick}
 use Rattle.bits.specs.Refusals.{Answer, value, andThen, orElse}
 use Rattle.vbv.specs.Annex.{overflows, beyond}
-use Rattle.vbv.specs.Model.{newModel, startModel, delayForPicture, removePicture, maxEndBits, minEndBits}
+use Rattle.vbv.specs.Model.{farthest, newModel, startModel, delayForPicture, removePicture, maxEndBits, minEndBits}
 use Rattle.vbv.specs.Steps.{modelOf, delayOf, bitsOf, removalOf}
 use Rattle.vbv.specs.declared.VbvError.{VbvError}
 use Rattle.vbv.specs.declared.RemovalInterval.{RemovalInterval}
@@ -30,7 +30,7 @@ use Rattle.layers.specs.declared.PictureKind.{PictureKind}
 use Rattle.layers.specs.Headers.{headersFit}
 use Rattle.layers.specs.Layer.{layerFits}
 use Rattle.rate_control.specs.Answers.{createdAnswer}
-use Rattle.rate_control.specs.Create.{configParams, freshWriter, noWriter}
+use Rattle.rate_control.specs.Create.{writerParams, freshWriter, noWriter}
 use Rattle.rate_control.specs.Writer.{writerFits, index, of, clashes, asked, coarser, steered}
 use Rattle.rate_control.specs.Offer.{Offer, position, content, end, deliveredAt, stuffing, delay, placedBytes, firstDelay, endCode, withPending, withPlaced}
 use Rattle.rate_control.specs.declared.CbrConfig.{CbrConfig}
@@ -67,14 +67,14 @@ Creates r a = (createdAnswer r ≡ a) × (r .writer ≡ orElse noWriter a)
 
 -- once the frame rate is known
 abbrev pub withRate : CbrConfig → ℕ × ℕ → Answer CbrWriter
-withRate c f = andThen (newModel (configParams c f)) (λ m. value (freshWriter c m))
+withRate c f = andThen (newModel (writerParams c f)) (λ m. value (freshWriter c m))
 
 -- ---- the tests of an offer, by what the model answers
 
 -- a picture that ends within the ranges
 pub record ExtentFits (x : Extent) (z : ℕ) : Type 0 where
-  pub end-far : x .content + 8 * z ≤ 2 ^ 48
-  pub bytes-far : x .bytes ≤ 2 ^ 48
+  pub end-far : x .content + 8 * z ≤ farthest
+  pub bytes-far : x .bytes ≤ farthest
 
 -- the model as it is, or, before the first placing, started with the first delay
 unfoldable pub startedAt : VbvCbrModel → ℕ → VbvModel
@@ -113,8 +113,8 @@ byMost m x z i (bt.Refused e) = Refused (Model e)
 -- 14 of the end; more than 2^45 zero bytes pass it
 unfoldable pub withStuffing : VbvCbrModel → Extent → RemovalInterval → ℕ → Tested
 withStuffing m x i z =
-    pick (ltb (2 ^ 45) z) (Refused (Model Range))
-    (pick (ltb (2 ^ 48) (x .content + 8 * z)) (Refused (Model Range)) (byMost m x z i (bitsOf (maxEndBits m))))
+    pick (ltb (farthest / 8) z) (Refused (Model Range))
+    (pick (ltb farthest (x .content + 8 * z)) (Refused (Model Range)) (byMost m x z i (bitsOf (maxEndBits m))))
 
 unfoldable pub byLeast : VbvCbrModel → Extent → RemovalInterval → Bool → VbvBits → Tested
 byLeast m x i last (bt.Bits least) = withStuffing m x i (stuffingUpTo least (x .content) last)
@@ -134,12 +134,12 @@ extentOf m headers layer last = record {
 -- 14 of the position and of the end without stuffing
 unfoldable pub within14 : Extent → RemovalInterval → Bool → VbvModel → Tested
 within14 x i last m =
-    pick (ltb (2 ^ 48) (max (x .position) (x .content))) (Refused (Model Range)) (byStart x i last m)
+    pick (ltb farthest (max (x .position) (x .content))) (Refused (Model Range)) (byStart x i last m)
 
 -- more than 2^45 bytes of headers or layer pass these
 unfoldable pub measured : VbvCbrModel → ℕ → ℕ → RemovalInterval → Bool → Tested
 measured m headers layer i last =
-    pick (ltb (2 ^ 45) (max headers layer)) (Refused (Model Range))
+    pick (ltb (farthest / 8) (max headers layer)) (Refused (Model Range))
     (within14 (extentOf m headers layer last) i last (startedAt m (extentOf m headers layer last .position)))
 
 -- 12 for the state, 17, 18 and 20 before these
@@ -155,9 +155,9 @@ tested w headers k i last layer =
 
 -- the sums of a placing are counted in 64 bits
 pub record Placeable (w : CbrWriter) (k : PictureKind) (layer : ℕ) (p : Placement) : Type 0 where
-  pub layer-far : 8 * layer ≤ 2 ^ 48
-  pub target-far : of k (w .«target_bits») ≤ 2 ^ 48
-  pub total-far : w .«stuffing_bytes» + p .«stuffing_bytes» ≤ 2 ^ 48
+  pub layer-far : 8 * layer ≤ farthest
+  pub target-far : of k (w .«target_bits») ≤ farthest
+  pub total-far : w .«stuffing_bytes» + p .«stuffing_bytes» ≤ farthest
 
 unfoldable pub placedBy : CbrWriter → PictureKind → ℕ → Bool → Placement → CbrOffered
 placedBy w k layer last p = record {
@@ -197,7 +197,7 @@ offerInCode w o =
     (pick (w .finished || clashes (w .pending) (o .kind)) (refusedInCode w Kind)
     (pick (not (headersFit (w .model .params) (w .model .started) (o .headers))) (refusedInCode w Headers)
     (pick (not (layerFits (o .kind) (o .interval) (o .layer))) (refusedInCode w Layer)
-    (pick (ltb (2 ^ 48) (position w o) || ltb (2 ^ 48) (end w o)) (refusedInCode w (Model Range))
+    (pick (ltb farthest (position w o) || ltb farthest (end w o)) (refusedInCode w (Model Range))
     (pick (beyond (w .model .params) (position w o) (deliveredAt w o)) (refusedInCode w (Model Early))
     (pick (overflows (w .model .params) (w .model .«prev_end_bits») (deliveredAt w o)) (refusedInCode w (Violation (Overflow (w .model .removed) 0 0)))
     (pick (beyond (w .model .params) (content w o) (deliveredAt w o)) (tooLargeInCode w (o .kind) (asked w (o .kind)))

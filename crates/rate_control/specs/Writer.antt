@@ -1,12 +1,12 @@
 -- A writer's state: its ranges, and what it keeps for each kind of picture (paper 01, 'A placed picture').
 -- Assumes nothing.
-use Prim.Native.Nat.{ℕ, _+_, _-_, _*_, _/_, _%_, _^_, min, max}
+use Prim.Native.Nat.{ℕ, _+_, _-_, _*_, _/_, _%_, min, max}
 use mathlib.Core.List.{List, [], _∷_}
 use mathlib.Core.Bool.{Bool, true, false, not, _&&_}
 use lib.Dec.{leb, ltb, eqb}
 use lib.ListN.{getD}
 use Rattle.bits.specs.Bits.{pick}
-use Rattle.vbv.specs.Model.{modelFits}
+use Rattle.vbv.specs.Model.{farthest, modelFits}
 use Rattle.layers.specs.declared.PictureKind.{PictureKind}
 use Rattle.layers.specs.declared.PictureKind.the-variants.{I, P, B}
 use Rattle.rate_control.specs.Create.{within}
@@ -36,7 +36,7 @@ writerFits w =
     && (eqb (w .model .«prev_end_bits» % 8) 0
     && (leb (8 * w .model .removed) (w .model .«prev_end_bits»)
     && (leb (8 * w .«stuffing_bytes») (w .model .«prev_end_bits»)
-    && (allFit (λ t. leb t (2 ^ 48)) (w .«target_bits»)
+    && (allFit (λ t. leb t farthest) (w .«target_bits»)
     && (allFit quantiserFits (w .q) && pendingFits (w .pending))))))
 
 -- ---- by kind

@@ -112,14 +112,8 @@ impl CbrConfig {
         requires { ⌜ Ranges self ⌝ }
         ensures { λ r. ⌜ Creates r (withRate self (frn, frd)) ⌝ }
     {
-        let rate = self.bit_rate_value as u64;
-        let size = self.vbv_buffer_size_value as u64;
-        let params = VbvParams {
-            bit_rate: 400 * rate,
-            buffer_size_bits: 16384 * size,
-            frn,
-            frd,
-        };
+        let buffer = self.vbv_buffer_size_value as u32;
+        let params = vbv::params_of(self.bit_rate_value, buffer, frn, frd);
         match VbvCbrModel::new(params) {
             VbvModel::Model(model) => CbrCreated {
                 answer: CbrCreation::Created,

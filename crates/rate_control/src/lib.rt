@@ -11,13 +11,13 @@ mod output; // the bytes placed
 mod offer; // an offer: its tests and its answer
 
 pub use crate::create::no_writer;
+use bits::VbvRefusal;
+use bits::plain;
 use layers::PictureKind;
 use vbv::VbvCbrModel;
 use vbv::VbvError;
 use vbv::VbvViolation;
-use verify::VbvRefusal;
 use verify::VbvVerifyError;
-use verify::plain;
 
 // What a writer is created with: the sequence header's fields, the quantiser that every kind starts from, B pictures between
 // anchors and anchors in a group.

@@ -1,16 +1,16 @@
 // Where an offered picture lies in the stream, and what the model says to it: 14, 7, 9, the size and 22, in this order.
 ghost use mathlib.Core.Path.{_≡_};
-ghost use Prim.Native.Nat.{_+_, _*_, _^_, _≤_, max};
+ghost use Prim.Native.Nat.{_+_, _*_, _≤_, max};
 ghost use lib.ListN.{length};
-ghost use Rattle.vbv.specs.Steps.{ParamsFit, ModelFits};
-ghost use Rattle.vbv.specs.Model.{delayForPicture, removePicture, maxEndBits, minEndBits};
-ghost use Rattle.vbv.specs.Steps.{delayOf, bitsOf, removalOf};
+ghost use Rattle.vbv.specs.Model.{farthest, delayForPicture, removePicture, maxEndBits, minEndBits};
+ghost use Rattle.vbv.specs.Steps.{ParamsFit, ModelFits, delayOf, bitsOf, removalOf};
 ghost use Rattle.rate_control.specs.Offer.{firstDelay, endCode};
 ghost use Rattle.rate_control.specs.Steps.{ExtentFits, startedAt, stuffingUpTo, violated, readyBy, byEnd, byMost, byLeast, measured};
 use crate::CbrError;
 use crate::Extent;
 use crate::Placement;
 use crate::Tested;
+use vbv::FARTHEST;
 use vbv::RemovalInterval;
 use vbv::VbvBits;
 use vbv::VbvCbrModel;
@@ -20,12 +20,6 @@ use vbv::VbvModel;
 use vbv::VbvParams;
 use vbv::VbvRemoval;
 use vbv::VbvViolation;
-
-// Positions and ends go up to 2^48 bits.
-const FAR: u64 = 281474976710656;
-
-// More bytes than these pass it.
-const FAR_BYTES: u64 = 35184372088832;
 
 // Three quarters of the buffer.
 fn first_delay(params: VbvParams) -> u16
@@ -135,18 +129,18 @@ fn removed(model: VbvCbrModel, extent: Extent, zeros: u64, interval: RemovalInte
 
 // 14 of the stuffed end, and what follows.
 fn ended(model: VbvCbrModel, extent: Extent, interval: RemovalInterval, last: bool) -> Tested
-    requires { ⌜ extent .content ≤ 2 ^ 48 ⌝ }
-    requires { ⌜ extent .bytes ≤ 2 ^ 48 ⌝ }
+    requires { ⌜ extent .content ≤ farthest ⌝ }
+    requires { ⌜ extent .bytes ≤ farthest ⌝ }
     ensures { λ r. ⌜ r ≡ byLeast model extent interval last (bitsOf (minEndBits model interval)) ⌝ }
 {
     match model.min_end_bits(interval) {
         VbvBits::Refused(error) => Tested::Refused(CbrError::Model(error)),
         VbvBits::Bits(least) => {
             let zeros = stuffing(least, extent.content, last);
-            if FAR_BYTES < zeros {
+            if FARTHEST / 8 < zeros {
                 return Tested::Refused(CbrError::Model(VbvError::Range));
             }
-            if FAR < extent.content + 8 * zeros {
+            if FARTHEST < extent.content + 8 * zeros {
                 return Tested::Refused(CbrError::Model(VbvError::Range));
             }
             removed(model, extent, zeros, interval)
@@ -177,14 +171,14 @@ pub(crate) fn measured(
     requires { ⌜ ModelFits model ⌝ }
     ensures { λ r. ⌜ r ≡ measured model headers layer interval last ⌝ }
 {
-    if FAR_BYTES < greater(headers, layer) {
+    if FARTHEST / 8 < greater(headers, layer) {
         return Tested::Refused(CbrError::Model(VbvError::Range));
     }
     let previous = model.prev_end_bits;
     let bytes = headers + layer + end_code_bytes(last);
     let position = previous + 8 * (headers + 4);
     let content = previous + 8 * bytes;
-    if FAR < greater(position, content) {
+    if FARTHEST < greater(position, content) {
         return Tested::Refused(CbrError::Model(VbvError::Range));
     }
     let extent = Extent {

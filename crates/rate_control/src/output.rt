@@ -7,8 +7,7 @@ ghost use lib.Seq.{sets};
 ghost use Rattle.bits.specs.Answers.{over};
 ghost use Rattle.vbv.specs.Patch.{patched};
 ghost use Rattle.rate_control.specs.Offer.{endCode};
-
-const SEQUENCE_END_CODE: [u8; 4] = *b"\x00\x00\x01\xB7";
+use bits::start_codes::SEQUENCE_END;
 
 // Bytes from place `at` on.
 fn put(out: &mut [u8], at: usize, bytes: &[u8])
@@ -42,7 +41,7 @@ fn put_end(out: &mut [u8], at: usize, last: bool)
     ensures { λ r. ⌜ now (out .exit) ≡ sets (now (out .entry)) at (endCode last) ⌝ }
 {
     if last {
-        put(out, at, &SEQUENCE_END_CODE);
+        put(out, at, &SEQUENCE_END);
     }
 }
 

@@ -1,14 +1,13 @@
 // The ranges of a writer's state, and what it keeps for each kind of picture.
 ghost use mathlib.Core.Path.{_≡_};
-ghost use Prim.Native.Nat.{_+_, _-_, _^_, _≤_, _<_, min, max};
+ghost use Prim.Native.Nat.{_+_, _-_, _≤_, _<_, min, max};
 ghost use lib.Dec.{leb};
 ghost use Rattle.rate_control.specs.Writer.{quantiserFits, allFit, pendingFits, writerFits, index, clashes, asked, coarser, steered};
+ghost use Rattle.vbv.specs.Model.{farthest};
 use crate::CbrWriter;
 use crate::Pending;
 use layers::PictureKind;
-
-// A target is at most 2^48 bits.
-const FAR: u64 = 281474976710656;
+use vbv::FARTHEST;
 
 fn quantiser(q: u8) -> bool
     ensures { λ r. ⌜ r ≡ quantiserFits q ⌝ }
@@ -23,9 +22,9 @@ fn all_quantisers(q: [u8; 3]) -> bool
 }
 
 fn all_targets(target_bits: [u64; 3]) -> bool
-    ensures { λ r. ⌜ r ≡ allFit (λ t. leb t (2 ^ 48)) «target_bits» ⌝ }
+    ensures { λ r. ⌜ r ≡ allFit (λ t. leb t farthest) «target_bits» ⌝ }
 {
-    (target_bits[0] <= FAR) & ((target_bits[1] <= FAR) & (target_bits[2] <= FAR))
+    (target_bits[0] <= FARTHEST) & ((target_bits[1] <= FARTHEST) & (target_bits[2] <= FARTHEST))
 }
 
 fn pending_fits(pending: Pending) -> bool
@@ -86,8 +85,8 @@ fn at_least_one(target: u64) -> u64
 
 // The kind's next quantiser, from the one just placed and the layer's bits; a target of 0 counts as 1.
 pub(crate) fn steered(q: u8, target: u64, bits: u64) -> u8
-    requires { ⌜ target ≤ 2 ^ 48 ⌝ }
-    requires { ⌜ bits ≤ 2 ^ 48 ⌝ }
+    requires { ⌜ target ≤ farthest ⌝ }
+    requires { ⌜ bits ≤ farthest ⌝ }
     ensures { λ r. ⌜ r ≡ steered q target bits ⌝ }
 {
     let aim = at_least_one(target);

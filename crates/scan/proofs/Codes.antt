@@ -10,7 +10,8 @@ use lib.ListN.{length, getD, replicate}
 use lib.Dec.{eqb}
 use borrow.Author.Tests.{not-true}
 use Rattle.bits.specs.Bits.{pick}
-use Rattle.bits.specs.Fields.{sameBytes, startCodePrefix}
+use Rattle.bits.specs.Fields.{sameBytes}
+use Rattle.bits.specs.StartCodes.{startCodePrefix}
 use Rattle.bits.proofs.Flags.{and-left, and-right}
 use Rattle.bits.proofs.Reading.{same-self, same-more, same-not}
 use Rattle.scan.specs.Codes.{Code, starts, codesFrom, codes, endsPrefix}

@@ -5,7 +5,7 @@ use Prim.Native.Nat.{ℕ}
 use mathlib.Core.List.{List, [], _∷_, _++_}
 use mathlib.Core.Bool.{true}
 use lib.ListN.{length, replicate}
-use Rattle.scan.specs.Codes.{codes, every, endsPrefix, sequenceEndCode}
+use Rattle.scan.specs.Codes.{codes, every, endsPrefix, sequenceEnd}
 use Rattle.scan.specs.Pictures.{pictures, isSlice, notSlice, notPicture}
 use Rattle.bits.proofs.Reading.{same-more, same-none}
 use Rattle.scan.proofs.Laying.{Opened, Piece, none, more, laid, laidPics}
@@ -67,9 +67,9 @@ layer-piece =
     }
 
 -- a header, a picture and three zeros; a picture; the sequence's end
-two : pictures (((header ++ layer) ++ replicate 3 0) ++ (layer ++ sequenceEndCode)) ≡ record { start = 5; end = 28 } ∷ record { start = 28; end = 52 } ∷ []
+two : pictures (((header ++ layer) ++ replicate 3 0) ++ (layer ++ sequenceEnd)) ≡ record { start = 5; end = 28 } ∷ record { start = 28; end = 52 } ∷ []
 unfolding laid laidPics header layer
 two =
     laid-pictures
     (more _ 5 (piece-zeros (header ++ layer) 5 3 (piece-behind header layer 0 header-opened no-picture layer-piece)) (more layer 0 layer-piece none))
-    sequenceEndCode tail-end
+    sequenceEnd tail-end

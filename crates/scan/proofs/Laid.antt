@@ -9,8 +9,9 @@ use native.Mathlib.Nat.{add-assoc, add-zero, zero-add}
 use lib.ListN.{length, length-append, length-map}
 use lib.Dec.{eqb}
 use Rattle.bits.specs.Bits.{pick}
+use Rattle.bits.specs.StartCodes.{sequenceEndCode}
 use Rattle.bits.proofs.Reading.{both-true}
-use Rattle.scan.specs.Codes.{Code, codes, codesFrom, every, sequenceEndCode}
+use Rattle.scan.specs.Codes.{Code, codes, codesFrom, every, sequenceEnd}
 use Rattle.scan.specs.Pictures.{Pic, skip, isSlice, notSlice, notPicture, afterSlices, endAt, picturesF, picturesOf, pictures}
 use Rattle.scan.proofs.Codes.{fresh, fresh-code, moved, codes-append}
 use Rattle.scan.proofs.PictureCodes.{codes-opened}
@@ -88,7 +89,7 @@ after-moved d cs = rw (skip-moved notSlice d cs, skip-moved isSlice d (skip notS
 endAt-moved : (d e : ℕ) (cs : List Code) → endAt (d + e) (map (moved d) cs) ≡ d + endAt e cs
 unfolding endAt pick moved
 endAt-moved d e [] = refl
-endAt-moved d e (c ∷ cs) = go (eqb (c .code) 0xB7)
+endAt-moved d e (c ∷ cs) = go (eqb (c .code) sequenceEndCode)
   where
     go : (t : Bool) → pick t (d + c .offset + 4) (d + c .offset) ≡ d + pick t (c .offset + 4) (c .offset)
     go true = omega arith
@@ -131,7 +132,7 @@ pub record Tail (t : List ℕ) : Type 0 where
   pub follows : Follows t (length t)
   pub none-left : pictures t ≡ []
 
-opens-follows : (first : ℕ) (rest : List ℕ) → isSlice first ≡ false → eqb first 0xB7 ≡ false → Follows (0 ∷ 0 ∷ 1 ∷ first ∷ rest) 0
+opens-follows : (first : ℕ) (rest : List ℕ) → isSlice first ≡ false → eqb first sequenceEndCode ≡ false → Follows (0 ∷ 0 ∷ 1 ∷ first ∷ rest) 0
 unfolding pick skip endAt
 opens-follows first rest s e =
     record { fresh-y = fresh-code (first ∷ rest); no-slice-first = rw (codes-opened first rest, s); ends = rw (codes-opened first rest, e) }
@@ -161,9 +162,9 @@ pub tail-none : Tail []
 unfolding codes codesFrom fresh skip endAt pictures picturesOf picturesF
 tail-none = record { follows = record { fresh-y = refl; no-slice-first = refl; ends = refl }; none-left = refl }
 
-pub tail-end : Tail sequenceEndCode
+pub tail-end : Tail sequenceEnd
 unfolding codesFrom pick skip isSlice endAt picturesOf picturesF pictures
 tail-end = record {
-  follows = record { fresh-y = fresh-code (0xB7 ∷ []); no-slice-first = rw (codes-opened 0xB7 []); ends = rw (codes-opened 0xB7 []) };
-  none-left = rw (codes-opened 0xB7 []);
+  follows = record { fresh-y = fresh-code (sequenceEndCode ∷ []); no-slice-first = rw (codes-opened sequenceEndCode []); ends = rw (codes-opened sequenceEndCode []) };
+  none-left = rw (codes-opened sequenceEndCode []);
 }

@@ -8,6 +8,7 @@ use lib.ListN.{length}
 use lib.Dec.{eqb}
 use Rattle.scan.specs.Codes.{Code, codes, every, endsPrefix}
 use Rattle.scan.specs.Pictures.{Pic, isSlice, notSlice, notPicture}
+use Rattle.bits.specs.StartCodes.{sequenceEndCode}
 
 -- the codes of a piece: headers, the picture's code at `at`, its extensions, its slices
 pub record OnePicture (cs : List Code) (at : ℕ) : Type 0 where
@@ -27,7 +28,7 @@ pub record Opened (x : List ℕ) : Type 0 where
   pub rest : List ℕ
   pub opens : x ≡ 0 ∷ 0 ∷ 1 ∷ first ∷ rest
   pub opens-slice : isSlice first ≡ false
-  pub opens-end : eqb first 0xB7 ≡ false
+  pub opens-end : eqb first sequenceEndCode ≡ false
   pub closed : endsPrefix x ≡ false
 
 -- a piece: such a part with one picture, at `at`

@@ -8,6 +8,7 @@ use mathlib.Core.Logic.{_⊎_, ⊎-elim}
 use native.Mathlib.Omega.{arith}
 use lib.ListN.{length, getD, take, drop}
 use Rattle.bits.specs.Bits.{pick}
+use Rattle.bits.specs.StartCodes.{startCode, pictureStartCode}
 use Rattle.scan.specs.Codes.{starts, codesFrom, codes}
 use Rattle.scan.proofs.Prefix.{starts-four, starts-first, starts-second, starts-before}
 
@@ -40,7 +41,7 @@ codes-eight a b c d s n k =
 -- a picture's code at byte 0, no zero in byte 5, and byte 7 not zero or two zeros behind it
 pub record PictureHead (s : List ℕ) : Type 0 where
   pub long : 10 ≤ length s
-  pub code : take 4 s ≡ 0x00 ∷ 0x00 ∷ 0x01 ∷ 0x00 ∷ []
+  pub code : take 4 s ≡ startCode pictureStartCode
   pub fifth : getD s 5 0 ≡ 0 → ⊥
   pub clear : (getD s 7 0 ≡ 0 → ⊥) ⊎ ((getD s 8 0 ≡ 0) × (getD s 9 0 ≡ 0))
 
@@ -56,7 +57,7 @@ codes-picture (a ∷ b ∷ c ∷ d ∷ e ∷ f ∷ g ∷ []) h = absurd (omega (
 codes-picture (a ∷ b ∷ c ∷ d ∷ e ∷ f ∷ g ∷ i ∷ []) h = absurd (omega (arith, h .long))
 codes-picture (a ∷ b ∷ c ∷ d ∷ e ∷ f ∷ g ∷ i ∷ j ∷ []) h = absurd (omega (arith, h .long))
 codes-picture (a ∷ b ∷ c ∷ d ∷ e ∷ f ∷ g ∷ i ∷ j ∷ k ∷ s) h =
-    let q : a ∷ b ∷ c ∷ d ∷ [] ≡ 0x00 ∷ 0x00 ∷ 0x01 ∷ 0x00 ∷ [] = h .code in
+    let q : a ∷ b ∷ c ∷ d ∷ [] ≡ startCode pictureStartCode = h .code in
     let qa : a ≡ 0 = cc in
     let qb : b ≡ 0 = cc in
     let qc : c ≡ 1 = cc in

@@ -10,6 +10,7 @@ use lib.Seq.{drop-length}
 use lib.Dec.{eqb}
 use borrow.Author.Tests.{not-true, not-false, eqb-true, ne-eqb}
 use Rattle.bits.specs.Bits.{pick}
+use Rattle.bits.specs.StartCodes.{sequenceEndCode}
 use Rattle.scan.specs.declared.Found.{Found}
 use Rattle.scan.specs.declared.Found.the-variants.{At, Nothing}
 use Rattle.scan.specs.declared.Next.{Next}
@@ -127,13 +128,13 @@ module _ (s : List ℕ) (i a d : ℕ) (f : found (skip (passed AtPicture) (codes
   next-last e = rw (unsought (afterSlices (codesAt s (a + 4))) e) at next-some
 
   module _ (g c : ℕ) (h : found (afterSlices (codesAt s (a + 4))) ≡ At g c) where
-    pub next-ended : c ≡ 0xB7 → Picture a (g + 4) g ≡ nextPicture s i
+    pub next-ended : c ≡ sequenceEndCode → Picture a (g + 4) g ≡ nextPicture s i
     unfolding endAt goOn pick
     next-ended e = rw (behind s (a + 4) g c h .list, e) at next-some
 
-    pub next-followed : (c ≡ 0xB7 → ⊥) → Picture a g g ≡ nextPicture s i
+    pub next-followed : (c ≡ sequenceEndCode → ⊥) → Picture a g g ≡ nextPicture s i
     unfolding endAt goOn pick
-    next-followed n = rw (behind s (a + 4) g c h .list, ne-eqb c 0xB7 n) at next-some
+    next-followed n = rw (behind s (a + 4) g c h .list, ne-eqb c sequenceEndCode n) at next-some
 
 -- ---- what a step of the walk says
 
@@ -174,10 +175,10 @@ unfolding codesAt codesFrom
 at-end s = rw drop-length
 
 -- a sequence end code is no picture's
-end-passed : (s : List ℕ) (g c : ℕ) → codesAt s g ≡ record { offset = g; code = c } ∷ codesAt s (g + 4) → eqb c 0xB7 ≡ true
+end-passed : (s : List ℕ) (g c : ℕ) → codesAt s g ≡ record { offset = g; code = c } ∷ codesAt s (g + 4) → eqb c sequenceEndCode ≡ true
     → nextPicture s g ≡ nextPicture s (g + 4)
 unfolding nextPicture skip pick notPicture
-end-passed s g c e q = rw (e, eqb-true c 0xB7 q)
+end-passed s g c e q = rw (e, eqb-true c sequenceEndCode q)
 
 after : (s : List ℕ) (k : ℕ) → k ≤ length s
     → After s k (endAt (length s) (afterSlices (codesAt s k))) (goOn (length s) (afterSlices (codesAt s k)))
@@ -189,9 +190,9 @@ after s k h = go (found (afterSlices (codesAt s k))) refl
     go Nothing e =
         let u : afterSlices (codesAt s k) ≡ [] = unsought (afterSlices (codesAt s k)) e in
         rw u (record { same = u ∙ sym (at-end s); low = h; on = omega arith; high = omega arith; clear = next-low s (length s) })
-    go (At g c) e = let m : Behind s k g c = behind s k g c e in rw (m .list) (turn m (eqb c 0xB7) refl)
+    go (At g c) e = let m : Behind s k g c = behind s k g c e in rw (m .list) (turn m (eqb c sequenceEndCode) refl)
       where
-        turn : Behind s k g c → (t : Bool) → eqb c 0xB7 ≡ t → After s k (pick t (g + 4) g) g
+        turn : Behind s k g c → (t : Bool) → eqb c sequenceEndCode ≡ t → After s k (pick t (g + 4) g) g
         turn m true q = record {
           same = m .list ∙ sym (m .again);
           low = m .from;

@@ -9,7 +9,8 @@ use lib.Dec.{eqb, leb}
 use lib.ListN.{length, getD, take, drop, length-drop}
 use lib.Seq.{take-all, drop-drop}
 use borrow.Author.Tests.{leb-true, le-leb, ne-eqb}
-use Rattle.bits.specs.Fields.{sameBytes, startCodePrefix}
+use Rattle.bits.specs.Fields.{sameBytes}
+use Rattle.bits.specs.StartCodes.{startCodePrefix}
 use Rattle.bits.proofs.Flags.{and-left, or-left, or-right}
 use Rattle.bits.proofs.Reading.{same-none, same-more, same-self, same-not}
 use Rattle.scan.specs.Codes.{starts, endsPrefix}

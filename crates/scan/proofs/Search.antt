@@ -6,15 +6,16 @@ use mathlib.Core.List.{List, [], _∷_}
 use mathlib.Core.Bool.{Bool, true, false, not, _&&_}
 use lib.Dec.{eqb, leb}
 use Rattle.bits.specs.Bits.{pick}
+use Rattle.bits.specs.StartCodes.{firstSliceCode, lastSliceCode, sequenceHeaderCode}
 use Rattle.scan.specs.declared.Found.the-variants.{At, Nothing}
 use Rattle.scan.specs.Codes.{Code, codes, codesAt, every, found}
 use Rattle.scan.specs.Pictures.{isSlice, notSequence, skip}
 
-pub slice-test : (c : ℕ) → (leb 1 c && leb c 0xAF) ≡ isSlice c
+pub slice-test : (c : ℕ) → (leb firstSliceCode c && leb c lastSliceCode) ≡ isSlice c
 unfolding isSlice
 slice-test c = refl
 
-pub sequence-test : (c : ℕ) → not (eqb c 0xB3) ≡ notSequence c
+pub sequence-test : (c : ℕ) → not (eqb c sequenceHeaderCode) ≡ notSequence c
 unfolding notSequence
 sequence-test c = refl
 

@@ -6,6 +6,7 @@ use mathlib.Core.List.{List, [], _∷_, _++_}
 use mathlib.Core.Bool.{Bool, true, false, and-false}
 use borrow.Author.Tests.{lt-leb, ne-eqb}
 use Rattle.bits.specs.Bits.{pick}
+use Rattle.bits.specs.StartCodes.{lastSliceCode, sequenceHeaderCode}
 use Rattle.bits.proofs.Reading.{both-true}
 use Rattle.scan.specs.Codes.{Code, every, found}
 use Rattle.scan.specs.Pictures.{isSlice, notSlice, notPicture, notSequence, skip}
@@ -16,11 +17,11 @@ pub slice-zero : isSlice 0 ≡ false
 unfolding isSlice
 slice-zero = refl
 
-pub slice-above : (c : ℕ) → 0xAF < c → isSlice c ≡ false
+pub slice-above : (c : ℕ) → lastSliceCode < c → isSlice c ≡ false
 unfolding isSlice
-slice-above c h = rw (lt-leb c 0xAF h, and-false)
+slice-above c h = rw (lt-leb c lastSliceCode h, and-false)
 
-pub not-slice-above : (c : ℕ) → 0xAF < c → notSlice c ≡ true
+pub not-slice-above : (c : ℕ) → lastSliceCode < c → notSlice c ≡ true
 unfolding notSlice
 not-slice-above c h = rw (slice-above c h)
 
@@ -28,7 +29,7 @@ pub not-picture : (c : ℕ) → (c ≡ 0 → ⊥) → notPicture c ≡ true
 unfolding notPicture
 not-picture c n = rw (ne-eqb c 0 n)
 
-pub sequence-code : notSequence 0xB3 ≡ false
+pub sequence-code : notSequence sequenceHeaderCode ≡ false
 unfolding notSequence
 sequence-code = refl
 

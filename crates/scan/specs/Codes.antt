@@ -6,7 +6,8 @@ use mathlib.Core.Bool.{Bool, true, _&&_}
 use lib.Dec.{leb}
 use lib.ListN.{length, getD, take, drop}
 use Rattle.bits.specs.Bits.{pick}
-use Rattle.bits.specs.Fields.{sameBytes, startCodePrefix}
+use Rattle.bits.specs.Fields.{sameBytes}
+use Rattle.bits.specs.StartCodes.{startCodePrefix, startCode, sequenceEndCode}
 use Rattle.scan.specs.declared.Found.{Found}
 use Rattle.scan.specs.declared.Found.the-variants.{At, Nothing}
 
@@ -57,6 +58,6 @@ nextCode s from = found (codesAt s from)
 unfoldable pub endsPrefix : List ℕ → Bool
 endsPrefix s = sameBytes (drop (length s - 3) s) startCodePrefix
 
--- sequence_end_code (Table 6-1)
-abbrev pub sequenceEndCode : List ℕ
-sequenceEndCode = 0x00 ∷ 0x00 ∷ 0x01 ∷ 0xB7 ∷ []
+-- sequence_end(): a sequence end code (6.2.2)
+abbrev pub sequenceEnd : List ℕ
+sequenceEnd = startCode sequenceEndCode

@@ -6,20 +6,21 @@ use mathlib.Core.Bool.{Bool, not, _&&_}
 use lib.ListN.{length}
 use lib.Dec.{eqb, leb}
 use Rattle.bits.specs.Bits.{pick}
+use Rattle.bits.specs.StartCodes.{pictureStartCode, firstSliceCode, lastSliceCode, sequenceHeaderCode, sequenceEndCode}
 use Rattle.scan.specs.Codes.{Code, codes}
 
 unfoldable pub isSlice : ℕ → Bool
-isSlice b = leb 1 b && leb b 0xAF
+isSlice b = leb firstSliceCode b && leb b lastSliceCode
 
 unfoldable pub notSlice : ℕ → Bool
 unfolding isSlice
 notSlice b = not (isSlice b)
 
 unfoldable pub notPicture : ℕ → Bool
-notPicture b = not (eqb b 0)
+notPicture b = not (eqb b pictureStartCode)
 
 unfoldable pub notSequence : ℕ → Bool
-notSequence b = not (eqb b 0xB3)
+notSequence b = not (eqb b sequenceHeaderCode)
 
 -- the codes from the first on whose fourth byte is not among those passed over
 unfoldable pub skip : (ℕ → Bool) → List Code → List Code
@@ -36,7 +37,7 @@ afterSlices cs = skip isSlice (skip notSlice cs)
 unfoldable pub endAt : ℕ → List Code → ℕ
 unfolding pick
 endAt e [] = e
-endAt e (c ∷ cs) = pick (eqb (c .code) 0xB7) (c .offset + 4) (c .offset)
+endAt e (c ∷ cs) = pick (eqb (c .code) sequenceEndCode) (c .offset + 4) (c .offset)
 
 pub record Pic : Type 0 where
   pub start : ℕ
@@ -48,7 +49,7 @@ unfolding pick afterSlices endAt
 picturesF e zero cs = []
 picturesF e (suc n) [] = []
 picturesF e (suc n) (c ∷ cs) =
-    pick (eqb (c .code) 0)
+    pick (eqb (c .code) pictureStartCode)
     (record { start = c .offset; end = endAt e (afterSlices cs) } ∷ picturesF e n (afterSlices cs))
     (picturesF e n cs)
 

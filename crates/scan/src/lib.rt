@@ -6,6 +6,11 @@ ghost use Rattle.scan.specs.Codes.{found, nextCode, codes, codesAt};
 ghost use Rattle.scan.specs.Pictures.{skip, notSequence, afterSlices};
 ghost use Rattle.scan.specs.Walk.{nextPicture};
 ghost use Rattle.scan.specs.Steps.{zeroOne, before, passed};
+use bits::start_codes::FIRST_SLICE_CODE;
+use bits::start_codes::LAST_SLICE_CODE;
+use bits::start_codes::PICTURE_START_CODE;
+use bits::start_codes::SEQUENCE_END_CODE;
+use bits::start_codes::SEQUENCE_HEADER_CODE;
 
 // Where a start code is, and its fourth byte.
 pub enum Found {
@@ -103,10 +108,10 @@ fn passes(stop: Stop, code: u8) -> bool
     ensures { λ r. ⌜ r ≡ passed stop code ⌝ }
 {
     match stop {
-        Stop::AtSequence => code != 0xB3,
-        Stop::AtPicture => code != 0,
-        Stop::AtSlice => !((1 <= code) & (code <= 0xAF)),
-        Stop::AfterSlices => (1 <= code) & (code <= 0xAF),
+        Stop::AtSequence => code != SEQUENCE_HEADER_CODE,
+        Stop::AtPicture => code != PICTURE_START_CODE,
+        Stop::AtSlice => !((FIRST_SLICE_CODE <= code) & (code <= LAST_SLICE_CODE)),
+        Stop::AfterSlices => (FIRST_SLICE_CODE <= code) & (code <= LAST_SLICE_CODE),
     }
 }
 
@@ -157,7 +162,11 @@ pub fn next_picture(s: &[u8], from: usize) -> Next
             code: _,
         } => match after_slices(s, at + 4) {
             Found::At { offset, code } => {
-                let end = if code == 0xB7 { offset + 4 } else { offset };
+                let end = if code == SEQUENCE_END_CODE {
+                    offset + 4
+                } else {
+                    offset
+                };
                 Next::Picture {
                     at,
                     end,

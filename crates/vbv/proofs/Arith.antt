@@ -10,6 +10,7 @@ use lib.Dec.{ltb}
 use lib.Arith.{digits-div, digits-mod}
 use borrow.Author.Tests.{ltb-true, lt-ltb}
 use Rattle.bits.proofs.Appending.{lt-or-le}
+use Rattle.vbv.specs.Model.{farthest, mostDelivered}
 
 -- two tests that say the same are the same
 same-test : (x y : Bool) → (x ≡ true → y ≡ true) → (y ≡ true → x ≡ true) → x ≡ y
@@ -121,7 +122,7 @@ ticks-most d r h g = omega (arith, mul-le-mul {n₁ = d} {m₁ = r} {n₂ = 6553
 pub ticks-fit : (d r : ℕ) → d < 65536 → r ≤ 429496729200 → d * r < 2 ^ 64
 ticks-fit d r h g = omega (arith, ticks-most d r h g)
 
-pub start-fit : (p d r : ℕ) → p ≤ 2 ^ 48 → d < 65536 → r ≤ 429496729200 → p + d * r / 90000 < 2 ^ 64
+pub start-fit : (p d r : ℕ) → p ≤ farthest → d < 65536 → r ≤ 429496729200 → p + d * r / 90000 < 2 ^ 64
 start-fit p d r k h g = omega (arith, ticks-most d r h g)
 
 pub rest-fit : (t f : ℕ) → 1 ≤ f → f ≤ 240000 → t % 90000 * 2 * f < 2 ^ 64
@@ -145,10 +146,10 @@ left-fit x f h g = omega (arith, mod-lt x {m = 2 * f} (omega arith))
 pub sum-fit : (r x f : ℕ) → r < 180000 * f → 1 ≤ f → f ≤ 240000 → r + x % (2 * f) * 90000 < 2 ^ 64
 sum-fit r x f l h g = omega (arith, mod-lt x {m = 2 * f} (omega arith))
 
-pub whole-fit : (w r d n f : ℕ) → w ≤ 2 ^ 55 → r ≤ 429496729200 → d ≤ 32032 → n ≤ 2 → w + r * d * n / (2 * f) < 2 ^ 64
+pub whole-fit : (w r d n f : ℕ) → w ≤ mostDelivered → r ≤ 429496729200 → d ≤ 32032 → n ≤ 2 → w + r * d * n / (2 * f) < 2 ^ 64
 whole-fit w r d n f l h g k = omega (arith, gain-most r d n h g k, div-le-self (r * d * n) (2 * f))
 
-pub next-most : (w s r d n f : ℕ) → w ≤ 2 ^ 55 → s < 180000 * f → 1 ≤ f → f ≤ 240000 → r ≤ 429496729200 → d ≤ 32032 → n ≤ 2
+pub next-most : (w s r d n f : ℕ) → w ≤ mostDelivered → s < 180000 * f → 1 ≤ f → f ≤ 240000 → r ≤ 429496729200 → d ≤ 32032 → n ≤ 2
     → w + r * d * n / (2 * f) + (s + r * d * n % (2 * f) * 90000) / (180000 * f) ≤ w + 27515364859468800
 next-most w s r d n f l t a b h g k =
     omega (
@@ -159,7 +160,7 @@ next-most w s r d n f l t a b h g k =
       div-le-self (s + r * d * n % (2 * f) * 90000) (180000 * f),
     )
 
-pub next-fit : (w s r d n f : ℕ) → w ≤ 2 ^ 55 → s < 180000 * f → 1 ≤ f → f ≤ 240000 → r ≤ 429496729200 → d ≤ 32032 → n ≤ 2
+pub next-fit : (w s r d n f : ℕ) → w ≤ mostDelivered → s < 180000 * f → 1 ≤ f → f ≤ 240000 → r ≤ 429496729200 → d ≤ 32032 → n ≤ 2
     → w + r * d * n / (2 * f) + (s + r * d * n % (2 * f) * 90000) / (180000 * f) < 2 ^ 64
 next-fit w s r d n f l t a b h g k = omega (arith, next-most w s r d n f l t a b h g k)
 

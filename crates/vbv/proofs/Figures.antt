@@ -6,9 +6,10 @@ use Prim.Native.Nat.{ℕ, zero, suc, _<_}
 use lib.Dec.{lit<, lit≤}
 use lib.ListN.{getD}
 use Rattle.bits.specs.Bits.{pick}
+use Rattle.bits.specs.StartCodes.{startCode, pictureStartCode}
 use Rattle.bits.proofs.Reading.{same-self}
 use Rattle.vbv.specs.Annex.{unit, firstDelivered, gain, overflows, beyond, expectedDelay}
-use Rattle.vbv.specs.Model.{paramsFit, delivered, modelFits, atDelivered, afterRemoval, nextDelivered, newModel, startModel, delayForPicture, endFits, removePicture}
+use Rattle.vbv.specs.Model.{paramsInRange, ratioFits, paramsFit, delivered, modelFits, atDelivered, afterRemoval, nextDelivered, newModel, startModel, delayForPicture, endFits, removePicture}
 use Rattle.vbv.specs.Patch.{startsPicture}
 use Rattle.vbv.specs.Figures.{Figures}
 use Rattle.vbv.proofs.Patching.{starts-is, patched-bytes}
@@ -29,10 +30,10 @@ header-bytes (suc (suc (suc (suc (suc (suc (suc zero))))))) = lit< tt
 header-bytes (suc (suc (suc (suc (suc (suc (suc (suc k)))))))) = lit< tt
 
 header-starts : startsPicture header ≡ true
-header-starts = sym (starts-is header (lit≤ tt)) ∙ same-self (0x00 ∷ 0x00 ∷ 0x01 ∷ 0x00 ∷ [])
+header-starts = sym (starts-is header (lit≤ tt)) ∙ same-self (startCode pictureStartCode)
 
 pub figures : Figures
-unfolding pick unit firstDelivered gain overflows beyond expectedDelay paramsFit delivered modelFits atDelivered afterRemoval nextDelivered newModel startModel delayForPicture endFits removePicture
+unfolding pick unit firstDelivered gain overflows beyond expectedDelay paramsInRange ratioFits paramsFit delivered modelFits atDelivered afterRemoval nextDelivered newModel startModel delayForPicture endFits removePicture
 figures = record {
   end-246755 = refl;
   end-246756 = refl;

@@ -14,29 +14,19 @@ use Rattle.vbv.specs.declared.VbvParams.{VbvParams}
 use Rattle.vbv.specs.declared.VbvCbrModel.{VbvCbrModel}
 use Rattle.vbv.specs.Annex.{unit}
 use Rattle.vbv.specs.Steps.{ParamsFit, ModelFits, EndFits}
-use Rattle.vbv.specs.Model.{paramsFit, delivered, modelFits, periods, endFits}
+use Rattle.vbv.specs.Model.{farthest, mostDelivered, paramsInRange, ratioFits, paramsFit, delivered, modelFits, periods, endFits}
 
 -- a flag that a callee returned and a branch tested
 pub told-by : (r v t : Bool) → r ≡ v → r ≡ t → v ≡ t
 told-by r v t p q = sym p ∙ q
 
--- the ranges of the parameters, which keep the test of the ratio in 64 bits
-abbrev ranges : VbvParams → Bool
-ranges p =
-    leb 1 (p .«bit_rate»)
-    && leb (p .«bit_rate») 429496729200
-    && leb 1 (p .«buffer_size_bits»)
-    && leb (p .«buffer_size_bits») 4294950912
-    && leb 1 (p .frn)
-    && leb (p .frn) 240000
-    && leb 1 (p .frd)
-    && leb (p .frd) 32032
-
-pub in-range : (p : VbvParams) → ranges p ≡ true → (p .«bit_rate» ≤ 429496729200) × (p .«buffer_size_bits» ≤ 4294950912)
+-- the ranges keep the test of the ratio in 64 bits
+pub in-range : (p : VbvParams) → paramsInRange p ≡ true → (p .«bit_rate» ≤ 429496729200) × (p .«buffer_size_bits» ≤ 4294950912)
+unfolding paramsInRange
 in-range p h = (leb-true _ _ (search (and-left, and-right) depth 14), leb-true _ _ (search (and-left, and-right) depth 14))
 
 pub params-fit : {p : VbvParams} → paramsFit p ≡ true → ParamsFit p
-unfolding paramsFit
+unfolding paramsInRange ratioFits paramsFit
 params-fit h =
     record {
       rate-low = leb-true _ _ (search (and-left, and-right) depth 14);
@@ -72,7 +62,7 @@ end-fits h =
 
 -- the test of a state by that of its parameters
 pub by-params : (m : VbvCbrModel) → paramsFit (m .params) ≡ true
-    → (leb (m .whole) (2 ^ 55) && ltb (m .rest) (180000 * m .params .frn) && leb (m .«prev_end_bits») (2 ^ 48) && leb (m .removed) (2 ^ 48))
+    → (leb (m .whole) mostDelivered && ltb (m .rest) (180000 * m .params .frn) && leb (m .«prev_end_bits») farthest && leb (m .removed) farthest)
     ≡ modelFits m
 unfolding modelFits unit
 by-params m h = rw h
@@ -83,7 +73,7 @@ no-params m h = rw h
 
 -- and back
 pub fitting-params : (p : VbvParams) → ParamsFit p → paramsFit p ≡ true
-unfolding paramsFit
+unfolding paramsInRange ratioFits paramsFit
 fitting-params p f =
     simp (
       le-leb _ _ (f .rate-low),

@@ -15,7 +15,7 @@ use Rattle.vbv.specs.declared.RemovalInterval.{RemovalInterval}
 use Rattle.vbv.specs.declared.VbvParams.{VbvParams}
 use Rattle.vbv.specs.declared.VbvCbrModel.{VbvCbrModel}
 use Rattle.vbv.specs.Annex.{unit, firstDelivered, gain, overflows, beyond, expectedDelay, occupancy, greatestEnd, leastEnd}
-use Rattle.vbv.specs.Model.{paramsFit, delivered, modelFits, atDelivered, afterRemoval, periods, nextDelivered, newModel, startModel, delayForPicture, endFits, removePicture, ofStarted, maxEndBits, minEndBits, occupancyBeforeRemoval}
+use Rattle.vbv.specs.Model.{farthest, mostDelivered, paramsFit, delivered, modelFits, atDelivered, afterRemoval, periods, nextDelivered, newModel, startModel, delayForPicture, endFits, removePicture, ofStarted, maxEndBits, minEndBits, occupancyBeforeRemoval}
 use Rattle.vbv.specs.Steps.{ModelFits, EndFits}
 use Rattle.vbv.proofs.Arith.{same-lt, below-floor, above-ceiling, ceiling-beyond, start-div, next-div, ticks-most, next-most}
 use Rattle.vbv.proofs.Picks.{no, held, was-no, was-held}
@@ -156,8 +156,8 @@ unfolding nextDelivered
 next-is m i = refl
 
 -- whole bits after a start and after an advance
-start-whole : (m : VbvCbrModel) (delay position : ℕ) → ModelFits m → delay < 65536 → position ≤ 2 ^ 48
-    → firstDelivered (m .params) position delay / unit (m .params) ≤ 2 ^ 55
+start-whole : (m : VbvCbrModel) (delay position : ℕ) → ModelFits m → delay < 65536 → position ≤ farthest
+    → firstDelivered (m .params) position delay / unit (m .params) ≤ mostDelivered
 unfolding firstDelivered unit
 start-whole m delay position f l h =
     let b = ticks-most delay (m .params .«bit_rate») l (omega arith) in
@@ -172,7 +172,7 @@ next-whole m i f =
     (omega arith) (omega arith) (omega arith) (omega arith) (omega arith) (omega arith) (periods-most i))
 
 -- validity is kept
-start-stays : (m : VbvCbrModel) (delay position : ℕ) → ModelFits m → delay < 65536 → position ≤ 2 ^ 48
+start-stays : (m : VbvCbrModel) (delay position : ℕ) → ModelFits m → delay < 65536 → position ≤ farthest
     → ModelFits (atDelivered m (firstDelivered (m .params) position delay))
 unfolding atDelivered unit
 start-stays m delay position v l h =
@@ -233,7 +233,7 @@ made p m h =
 pub record Started (m : VbvCbrModel) (delay position : ℕ) (next : VbvCbrModel) : Type 0 where
   pub fitted : modelFits m ≡ true
   pub unstarted : m .started ≡ false
-  pub position-far : position ≤ 2 ^ 48
+  pub position-far : position ≤ farthest
   pub next-is : next ≡ atDelivered m (firstDelivered (m .params) position delay)
   pub delivered-is : delivered next ≡ firstDelivered (m .params) position delay
   pub params-kept : next .params ≡ m .params
@@ -249,7 +249,7 @@ started m delay position next h =
     let a = was-held (modelFits m) _ _ refused-value h in
     let b = was-no _ _ _ refused-value (a .1) in
     let c = was-no _ _ _ refused-value (b .1) in
-    let far : position ≤ 2 ^ 48 = ltb-false _ _ (c .0) in
+    let far : position ≤ farthest = ltb-false _ _ (c .0) in
     let e : next ≡ atDelivered m (firstDelivered (m .params) position delay) = cc (c .1) in
     rw e
     (record {
@@ -265,7 +265,7 @@ started m delay position next h =
       fits = λ l. fitting-model _ (start-stays m delay position (model-fits (a .0)) l far);
     })
 
-pub starts : (m : VbvCbrModel) (delay position : ℕ) → modelFits m ≡ true → m .started ≡ false → position ≤ 2 ^ 48
+pub starts : (m : VbvCbrModel) (delay position : ℕ) → modelFits m ≡ true → m .started ≡ false → position ≤ farthest
     → startModel m delay position ≡ value (atDelivered m (firstDelivered (m .params) position delay))
 unfolding startModel
 starts m delay position f s h = sym (held _ _ _ f (no _ _ _ s (no _ _ _ (le-ltb _ _ h) refl)))
@@ -274,7 +274,7 @@ starts m delay position f s h = sym (held _ _ _ f (no _ _ _ s (no _ _ _ (le-ltb 
 pub record Delayed (m : VbvCbrModel) (position r : ℕ) : Type 0 where
   pub fitted : modelFits m ≡ true
   pub was-started : m .started ≡ true
-  pub position-far : position ≤ 2 ^ 48
+  pub position-far : position ≤ farthest
   pub in-time : beyond (m .params) position (delivered m) ≡ false
   pub delay-is : r ≡ expectedDelay (m .params) position (delivered m)
   pub delay-low : r ≤ 65534
@@ -297,7 +297,7 @@ delayed m position r h =
       delay-low = rw same (ltb-false _ _ (e .0));
     }
 
-pub delays : (m : VbvCbrModel) (position : ℕ) → modelFits m ≡ true → m .started ≡ true → position ≤ 2 ^ 48
+pub delays : (m : VbvCbrModel) (position : ℕ) → modelFits m ≡ true → m .started ≡ true → position ≤ farthest
     → beyond (m .params) position (delivered m) ≡ false → expectedDelay (m .params) position (delivered m) ≤ 65534
     → delayForPicture m position ≡ value (expectedDelay (m .params) position (delivered m))
 unfolding delayForPicture

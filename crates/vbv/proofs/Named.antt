@@ -16,7 +16,7 @@ use Rattle.vbv.specs.declared.VbvRemoval.the-variants as rm
 use Rattle.vbv.specs.declared.VbvDelay.the-variants as dl
 use Rattle.vbv.specs.declared.VbvBits.the-variants as bt
 use Rattle.vbv.specs.Annex.{firstDelivered, overflows, beyond, expectedDelay, occupancy, greatestEnd, leastEnd}
-use Rattle.vbv.specs.Model.{paramsFit, delivered, modelFits, atDelivered, afterRemoval, nextDelivered, newModel, startModel, delayForPicture, removePicture, maxEndBits, minEndBits, occupancyBeforeRemoval}
+use Rattle.vbv.specs.Model.{farthest, paramsFit, delivered, modelFits, atDelivered, afterRemoval, nextDelivered, newModel, startModel, delayForPicture, removePicture, maxEndBits, minEndBits, occupancyBeforeRemoval}
 use Rattle.vbv.specs.Steps.{EndFits, errorOf, modelOf, delayOf, bitsOf, removalOf}
 use Rattle.vbv.proofs.Laws.{starts, delays, occupancy-told, max-end, min-end}
 use Rattle.vbv.proofs.Told.{unmade, makes, delay-told, removal-told}
@@ -36,7 +36,7 @@ pub makes-named : (p : VbvParams) → paramsFit p ≡ true
 unfolding modelOf
 makes-named p h = rw (makes p h)
 
-pub starts-named : (m : VbvCbrModel) (delay position : ℕ) → modelFits m ≡ true → m .started ≡ false → position ≤ 2 ^ 48
+pub starts-named : (m : VbvCbrModel) (delay position : ℕ) → modelFits m ≡ true → m .started ≡ false → position ≤ farthest
     → modelOf (startModel m delay position) ≡ Model (atDelivered m (firstDelivered (m .params) position delay))
 unfolding modelOf
 starts-named m delay position f s h = rw (starts m delay position f s h)
@@ -66,7 +66,7 @@ unfolding removalOf
 removal-value m = refl
 
 module _ (m : VbvCbrModel) (f : modelFits m ≡ true) (s : m .started ≡ true) where
-  pub delay-named : (position : ℕ) → position ≤ 2 ^ 48
+  pub delay-named : (position : ℕ) → position ≤ farthest
       → delayOf (delayForPicture m position)
       ≡ pick (beyond (m .params) position (delivered m)) (dl.Refused Early)
       (pick (ltb 65534 (expectedDelay (m .params) position (delivered m))) (dl.Refused DelayTooLong)
@@ -92,7 +92,7 @@ module _ (m : VbvCbrModel) (f : modelFits m ≡ true) (s : m .started ≡ true) 
   unfolding bitsOf
   min-named i = rw (min-end m f s i)
 
-pub delays-named : (m : VbvCbrModel) (position : ℕ) → modelFits m ≡ true → m .started ≡ true → position ≤ 2 ^ 48
+pub delays-named : (m : VbvCbrModel) (position : ℕ) → modelFits m ≡ true → m .started ≡ true → position ≤ farthest
     → beyond (m .params) position (delivered m) ≡ false → expectedDelay (m .params) position (delivered m) ≤ 65534
     → delayOf (delayForPicture m position) ≡ dl.Delay (expectedDelay (m .params) position (delivered m))
 unfolding delayOf

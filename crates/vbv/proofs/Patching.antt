@@ -16,6 +16,7 @@ use Rattle.bits.proofs.Laws.{bits-bound, bits-split, length-digits}
 use Rattle.bits.proofs.Appending.{Below, below-take, below-drop, digit-bound}
 use Rattle.bits.proofs.Patching.{byte-bits, set-length, set-below, set-before, set-behind, set-digits, set-within}
 use Rattle.bits.specs.Refusals.{value, refused}
+use Rattle.bits.specs.StartCodes.{startCode, pictureStartCode}
 use Rattle.vbv.specs.Patch.{startsPicture, patchPicture, patched}
 use Rattle.vbv.proofs.Picks.{yes, no, held, failed}
 
@@ -24,7 +25,7 @@ pub starts-short : (s : List ℕ) → length s < 8 → false ≡ startsPicture s
 unfolding startsPicture
 starts-short s h = rw (lt-leb _ _ h)
 
-pub starts-is : (s : List ℕ) → 8 ≤ length s → sameBytes (take 4 s) (0x00 ∷ 0x00 ∷ 0x01 ∷ 0x00 ∷ []) ≡ startsPicture s
+pub starts-is : (s : List ℕ) → 8 ≤ length s → sameBytes (take 4 s) (startCode pictureStartCode) ≡ startsPicture s
 unfolding startsPicture
 starts-is s h = rw (le-leb _ _ h)
 

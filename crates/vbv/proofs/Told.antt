@@ -10,7 +10,7 @@ use Rattle.vbv.specs.declared.RemovalInterval.{RemovalInterval}
 use Rattle.vbv.specs.declared.VbvParams.{VbvParams}
 use Rattle.vbv.specs.declared.VbvCbrModel.{VbvCbrModel}
 use Rattle.vbv.specs.Annex.{gain, overflows, beyond, expectedDelay}
-use Rattle.vbv.specs.Model.{paramsFit, delivered, modelFits, afterRemoval, periods, nextDelivered, newModel, delayForPicture, removePicture}
+use Rattle.vbv.specs.Model.{farthest, paramsFit, delivered, modelFits, afterRemoval, periods, nextDelivered, newModel, delayForPicture, removePicture}
 use Rattle.vbv.specs.Steps.{EndFits}
 use Rattle.vbv.proofs.Picks.{no, held, failed}
 use Rattle.vbv.proofs.Fitting.{fitting-end}
@@ -30,7 +30,7 @@ unfolding nextDelivered
 next-told m i = refl
 
 module _ (m : VbvCbrModel) (f : modelFits m ≡ true) (s : m .started ≡ true) where
-  pub delay-told : (position : ℕ) → position ≤ 2 ^ 48
+  pub delay-told : (position : ℕ) → position ≤ farthest
       → delayForPicture m position
       ≡ refuse 7 (beyond (m .params) position (delivered m))
       (refuse 8 (ltb 65534 (expectedDelay (m .params) position (delivered m)))

@@ -12,7 +12,7 @@ use Rattle.vbv.specs.declared.RemovalInterval.{RemovalInterval}
 use Rattle.vbv.specs.declared.VbvCbrModel.{VbvCbrModel}
 use Rattle.vbv.specs.Annex.{unit, firstDelivered, gain, overflows, beyond, expectedDelay, occupancy, greatestEnd, leastEnd}
 use Rattle.vbv.specs.Steps.{ModelFits, EndFits}
-use Rattle.vbv.specs.Model.{delivered, modelFits, atDelivered, afterRemoval, periods, nextDelivered, delayForPicture, endFits, removePicture, ofStarted}
+use Rattle.vbv.specs.Model.{farthest, delivered, modelFits, atDelivered, afterRemoval, periods, nextDelivered, delayForPicture, endFits, removePicture, ofStarted}
 use Rattle.vbv.proofs.Arith.{ceiling-whole, ceiling-more, above, floor-beyond, start-div, start-mod, next-div, next-mod, delay-split, delay-large}
 use Rattle.vbv.proofs.Picks.{yes, no, held, failed}
 use Rattle.vbv.proofs.Fitting.{model-fits, fitting-params, fitting-model, fitting-end, unit-pos, delivered-div}
@@ -86,7 +86,7 @@ module _ (m : VbvCbrModel) (v : ModelFits m) where
   over-test u e = overflow-is (m .params) (fits-params m fits) (m .«prev_end_bits») (delivered m) ∙ rw e
 
   -- the delay
-  module _ (s : m .started ≡ true) (position : ℕ) (h : position ≤ 2 ^ 48) where
+  module _ (s : m .started ≡ true) (position : ℕ) (h : position ≤ farthest) where
     expected-is : position ≤ m .whole
         → expectedDelay (m .params) position (delivered m)
         ≡ (180000 * (m .whole - position) + m .rest / m .params .frn + m .params .«bit_rate») / (2 * m .params .«bit_rate»)
@@ -172,7 +172,7 @@ module _ (m : VbvCbrModel) (f : modelFits m ≡ true) where
   remove-order end i s = held _ _ _ f (failed _ _ _ s refl)
 
   module _ (s : m .started ≡ true) where
-    pub delay-range : (position : ℕ) → 2 ^ 48 < position → refused 14 0 0 0 ≡ delayForPicture m position
+    pub delay-range : (position : ℕ) → farthest < position → refused 14 0 0 0 ≡ delayForPicture m position
     unfolding delayForPicture
     delay-range position h = held _ _ _ f (held _ _ _ s (yes _ _ _ (lt-ltb _ _ h) refl))
 

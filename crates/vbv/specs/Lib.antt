@@ -1,5 +1,6 @@
 pub mod Annex
 pub mod Answers
+pub mod Params
 pub mod Model
 pub mod Steps
 pub mod Patch

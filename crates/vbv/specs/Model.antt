@@ -10,9 +10,17 @@ use Rattle.vbv.specs.declared.RemovalInterval.the-variants.{Frame, Field
 use Rattle.vbv.specs.declared.VbvParams.{VbvParams}
 use Rattle.vbv.specs.declared.VbvCbrModel.{VbvCbrModel}
 
--- paper 01's ranges, each bound included, and a full buffer's delay in 16 bits below 0xFFFF (6.3.9)
-unfoldable pub paramsFit : VbvParams → Bool
-paramsFit p =
+-- no stream, position, end or number of removals is greater
+abbrev pub farthest : ℕ
+farthest = 2 ^ 48
+
+-- more whole bits than a run delivers: the farthest end, a buffer above it, and a frame period's gain
+abbrev pub mostDelivered : ℕ
+mostDelivered = 2 ^ 55
+
+-- paper 01's ranges, each bound included
+unfoldable pub paramsInRange : VbvParams → Bool
+paramsInRange p =
     leb 1 (p .«bit_rate»)
     && leb (p .«bit_rate») 429496729200
     && leb 1 (p .«buffer_size_bits»)
@@ -21,20 +29,26 @@ paramsFit p =
     && leb (p .frn) 240000
     && leb 1 (p .frd)
     && leb (p .frd) 32032
-    && leb (90000 * p .«buffer_size_bits») (65534 * p .«bit_rate»)
+
+-- a full buffer's delay in 16 bits is below 0xFFFF (6.3.9)
+unfoldable pub ratioFits : VbvParams → Bool
+ratioFits p = leb (90000 * p .«buffer_size_bits») (65534 * p .«bit_rate»)
+
+unfoldable pub paramsFit : VbvParams → Bool
+paramsFit p = paramsInRange p && ratioFits p
 
 -- the units delivered at the pending removal
 unfoldable pub delivered : VbvCbrModel → ℕ
 delivered m = m .whole * unit (m .params) + m .rest
 
--- every field in its range; 2^55 whole bits are more than a run delivers: 2^48 removed, a buffer above them, and a frame period's gain
+-- every field in its range
 unfoldable pub modelFits : VbvCbrModel → Bool
 modelFits m =
     paramsFit (m .params)
-    && leb (m .whole) (2 ^ 55)
+    && leb (m .whole) mostDelivered
     && ltb (m .rest) (unit (m .params))
-    && leb (m .«prev_end_bits») (2 ^ 48)
-    && leb (m .removed) (2 ^ 48)
+    && leb (m .«prev_end_bits») farthest
+    && leb (m .removed) farthest
 
 -- the state with d units delivered at the pending removal
 unfoldable pub atDelivered : VbvCbrModel → ℕ → VbvCbrModel
@@ -75,21 +89,21 @@ unfoldable pub startModel : VbvCbrModel → ℕ → ℕ → Answer VbvCbrModel
 startModel m delay position =
     refuse 12 (not (modelFits m))
     (refuse 13 (m .started)
-    (refuse 14 (ltb (2 ^ 48) position)
+    (refuse 14 (ltb farthest position)
     (value (atDelivered m (firstDelivered (m .params) position delay)))))
 
 unfoldable pub delayForPicture : VbvCbrModel → ℕ → Answer ℕ
 delayForPicture m position =
     refuse 12 (not (modelFits m))
     (refuse 13 (not (m .started))
-    (refuse 14 (ltb (2 ^ 48) position)
+    (refuse 14 (ltb farthest position)
     (refuse 7 (beyond (m .params) position (delivered m))
     (refuse 8 (ltb 65534 (expectedDelay (m .params) position (delivered m)))
     (value (expectedDelay (m .params) position (delivered m)))))))
 
--- 14: an end above 2^48 or below the previous one, or 2^48 removals made
+-- 14: an end above the farthest or below the previous one, or as many removals made
 unfoldable pub endFits : VbvCbrModel → ℕ → Bool
-endFits m end = leb end (2 ^ 48) && leb (m .«prev_end_bits») end && ltb (m .removed) (2 ^ 48)
+endFits m end = leb end farthest && leb (m .«prev_end_bits») end && ltb (m .removed) farthest
 
 unfoldable pub removePicture : VbvCbrModel → ℕ → RemovalInterval → Answer VbvCbrModel
 removePicture m end i =

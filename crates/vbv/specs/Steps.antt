@@ -19,6 +19,7 @@ use Rattle.vbv.specs.declared.VbvBits.{VbvBits}
 use Rattle.vbv.specs.declared.VbvBits.the-variants as bt
 use Rattle.vbv.specs.declared.VbvParams.{VbvParams}
 use Rattle.vbv.specs.declared.VbvCbrModel.{VbvCbrModel}
+use Rattle.vbv.specs.Model.{farthest, mostDelivered}
 
 pub record ParamsFit (p : VbvParams) : Type 0 where
   pub rate-low : 1 ≤ p .«bit_rate»
@@ -33,15 +34,15 @@ pub record ParamsFit (p : VbvParams) : Type 0 where
 
 pub record ModelFits (m : VbvCbrModel) : Type 0 where
   pub params-fit : ParamsFit (m .params)
-  pub whole-high : m .whole ≤ 2 ^ 55
+  pub whole-high : m .whole ≤ mostDelivered
   pub rest-low : m .rest < 180000 * m .params .frn
-  pub end-high : m .«prev_end_bits» ≤ 2 ^ 48
-  pub removed-high : m .removed ≤ 2 ^ 48
+  pub end-high : m .«prev_end_bits» ≤ farthest
+  pub removed-high : m .removed ≤ farthest
 
 pub record EndFits (m : VbvCbrModel) (end : ℕ) : Type 0 where
-  pub end-far : end ≤ 2 ^ 48
+  pub end-far : end ≤ farthest
   pub end-low : m .«prev_end_bits» ≤ end
-  pub count : m .removed < 2 ^ 48
+  pub count : m .removed < farthest
 
 -- back from a number: proofs/Numbers.antt says that no two cases tell the same
 unfoldable pub errorOf : ℕ → VbvError

@@ -5,10 +5,13 @@ ghost use Prim.Native.Nat.{_+_, _-_, _/_, _^_, _≤_, _<_};
 ghost use Rattle.vbv.specs.Annex.{unit, firstDelivered};
 ghost use Rattle.vbv.specs.Answers.{errorNumber, modelAnswer, removalAnswer, delayAnswer, bitsAnswer, patchAnswer, rateAnswer, frameRate};
 ghost use Rattle.vbv.specs.Steps.{ModelFits, EndFits};
-ghost use Rattle.vbv.specs.Model.{paramsFit, delivered, modelFits, atDelivered, periods, nextDelivered, newModel, startModel, delayForPicture, removePicture, maxEndBits, minEndBits, occupancyBeforeRemoval};
+ghost use Rattle.vbv.specs.Params.{paramsOf};
+ghost use Rattle.vbv.specs.Model.{farthest, paramsInRange, paramsFit, delivered, modelFits, atDelivered, periods, nextDelivered, newModel, startModel, delayForPicture, removePicture, maxEndBits, minEndBits, occupancyBeforeRemoval};
 ghost use Rattle.vbv.specs.Patch.{startsPicture, patchPicture, patched};
 
 pub mod lent; // the model by reference
+
+use bits::start_codes::PICTURE_START;
 
 // Why a call is refused.
 pub enum VbvError {
@@ -135,17 +138,37 @@ pub fn frame_rate_value(frame_rate_code: u8) -> FrameRate
     }
 }
 
-// Positions, ends and removals go up to 2^48, bits delivered up to 2^55.
-const FAR: u64 = 281474976710656;
+// 2^48: no stream, position, end or number of removals is greater.
+pub const FARTHEST: u64 = 281474976710656;
 
-const FARTHEST: u64 = 36028797018963968;
+// 2^55: more bits than a run delivers.
+pub const MOST_DELIVERED: u64 = 36028797018963968;
+
+// The rate field counts units of 400 bits a second, the buffer field units of 16 * 1024 bits.
+pub const RATE_UNIT: u64 = 400;
+
+pub const BUFFER_UNIT: u64 = 16384;
+
+// R, B and the frame rate by a sequence header's rate and buffer fields and frn / frd.
+pub fn params_of(rate: u32, buffer: u32, frn: u64, frd: u64) -> VbvParams
+    ensures { λ r. ⌜ r ≡ paramsOf rate buffer (frn, frd) ⌝ }
+{
+    let units = rate as u64;
+    let buffer_units = buffer as u64;
+    VbvParams {
+        bit_rate: RATE_UNIT * units,
+        buffer_size_bits: BUFFER_UNIT * buffer_units,
+        frn,
+        frd,
+    }
+}
 
 impl VbvParams {
-    // Each parameter in its range, and a full buffer's delay below 0xFFFF.
-    fn fit(self) -> bool
-        ensures { λ r. ⌜ r ≡ paramsFit self ⌝ }
+    // Each parameter in its range.
+    fn in_range(self) -> bool
+        ensures { λ r. ⌜ r ≡ paramsInRange self ⌝ }
     {
-        if (1 <= self.bit_rate)
+        (1 <= self.bit_rate)
             & (self.bit_rate <= 429496729200)
             & (1 <= self.buffer_size_bits)
             & (self.buffer_size_bits <= 4294950912)
@@ -153,7 +176,13 @@ impl VbvParams {
             & (self.frn <= 240000)
             & (1 <= self.frd)
             & (self.frd <= 32032)
-        {
+    }
+
+    // And a full buffer's delay below 0xFFFF.
+    fn fit(self) -> bool
+        ensures { λ r. ⌜ r ≡ paramsFit self ⌝ }
+    {
+        if self.in_range() {
             90000 * self.buffer_size_bits <= 65534 * self.bit_rate
         } else {
             false
@@ -168,10 +197,10 @@ impl VbvCbrModel {
     {
         let params = self.params;
         if params.fit() {
-            (self.whole <= FARTHEST)
+            (self.whole <= MOST_DELIVERED)
                 & (self.rest < 180000 * params.frn)
-                & (self.prev_end_bits <= FAR)
-                & (self.removed <= FAR)
+                & (self.prev_end_bits <= FARTHEST)
+                & (self.removed <= FARTHEST)
         } else {
             false
         }
@@ -202,7 +231,7 @@ impl VbvCbrModel {
             if self.started {
                 VbvModel::Refused(VbvError::Order)
             } else {
-                if pos0_bits <= FAR {
+                if pos0_bits <= FARTHEST {
                     VbvModel::Model(self.begun(initial_vbv_delay, pos0_bits))
                 } else {
                     VbvModel::Refused(VbvError::Range)
@@ -216,7 +245,7 @@ impl VbvCbrModel {
     // position + delay * R / 90,000 bits delivered.
     fn begun(self, delay: u16, position: u64) -> VbvCbrModel
         requires { ⌜ ModelFits self ⌝ }
-        requires { ⌜ position ≤ 2 ^ 48 ⌝ }
+        requires { ⌜ position ≤ farthest ⌝ }
         ensures { λ r. ⌜ r ≡ atDelivered self (firstDelivered (self .params) position delay) ⌝ }
     {
         let params = self.params;
@@ -237,7 +266,7 @@ impl VbvCbrModel {
     {
         if self.fits() {
             if self.started {
-                if pos_bits <= FAR {
+                if pos_bits <= FARTHEST {
                     self.delay_from(pos_bits)
                 } else {
                     VbvDelay::Refused(VbvError::Range)
@@ -254,7 +283,7 @@ impl VbvCbrModel {
     fn delay_from(self, position: u64) -> VbvDelay
         requires { ⌜ ModelFits self ⌝ }
         requires { ⌜ self .started ≡ true ⌝ }
-        requires { ⌜ position ≤ 2 ^ 48 ⌝ }
+        requires { ⌜ position ≤ farthest ⌝ }
         ensures { λ r. ⌜ delayAnswer r ≡ delayForPicture self position ⌝ }
     {
         if self.whole < position {
@@ -281,7 +310,10 @@ impl VbvCbrModel {
     {
         if self.fits() {
             if self.started {
-                if (end_bits <= FAR) & (self.prev_end_bits <= end_bits) & (self.removed < FAR) {
+                if (end_bits <= FARTHEST)
+                    & (self.prev_end_bits <= end_bits)
+                    & (self.removed < FARTHEST)
+                {
                     self.remove(end_bits, interval)
                 } else {
                     VbvRemoval::Refused(VbvError::Range)
@@ -425,9 +457,6 @@ fn less(a: u64, b: u64) -> u64
     if b < a { a - b } else { 0 }
 }
 
-// picture_start_code (ISO/IEC 13818-2 6.2.3).
-const PICTURE_START_CODE: [u8; 4] = *b"\x00\x00\x01\x00";
-
 // Eight bytes at least, from 00 00 01 00 on.
 fn starts_picture(s: &[u8]) -> bool
     ensures { λ r. ⌜ r ≡ startsPicture (now (s .entry)) ⌝ }
@@ -435,7 +464,7 @@ fn starts_picture(s: &[u8]) -> bool
     if s.len() < 8 {
         return false;
     }
-    bits::starts_with(s, &PICTURE_START_CODE)
+    bits::starts_with(s, &PICTURE_START)
 }
 
 // Bits 45 to 60 become the delay: the low 3 bits of byte 5, byte 6 and the high 5 bits of byte 7.

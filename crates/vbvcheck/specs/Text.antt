@@ -12,7 +12,7 @@ use Rattle.verify.specs.Check.{Accepted, verdict, reportOf}
 use Rattle.verify.specs.declared.VbvStandard.the-variants.{Mpeg2}
 use Rattle.verify.specs.declared.VbvPictureRecord.{VbvPictureRecord}
 use Rattle.verify.specs.declared.VbvStreamReport.{VbvStreamReport}
-use Rattle.verify.specs.declared.VbvRefusal.{VbvRefusal}
+use Rattle.bits.specs.declared.VbvRefusal.{VbvRefusal}
 
 -- a text's bytes
 abbrev pub ascii : String → List ℕ

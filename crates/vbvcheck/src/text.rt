@@ -6,7 +6,7 @@ ghost use lib.ListN.{length, take, drop};
 ghost use Rattle.io.specs.Counts.{Counts};
 ghost use Rattle.vbvcheck.specs.Text.{ascii, decimal, line, reportText, refusalText, printed};
 ghost use Rattle.vbvcheck.specs.Steps.{lineOf, linesOf};
-use verify::VbvRefusal;
+use bits::VbvRefusal;
 use verify::VbvStandard;
 use verify::VbvStreamReport;
 use verify::VbvVerified;

@@ -12,7 +12,7 @@ use Rattle.vbv.specs.declared.VbvError.the-variants as m
 use Rattle.vbv.specs.declared.VbvViolation.{VbvViolation}
 use Rattle.vbv.specs.declared.VbvViolation.the-variants.{Overflow, Underflow, DelayMismatch}
 use Rattle.verify.specs.Answers.{refusalOf}
-use Rattle.verify.specs.declared.VbvRefusal.{VbvRefusal}
+use Rattle.bits.specs.declared.VbvRefusal.{VbvRefusal}
 use Rattle.verify.specs.declared.VbvVerifyError.{VbvVerifyError}
 use Rattle.verify.specs.declared.VbvVerifyError.the-variants.{Parse, Model, NoSequenceHeader, NoPictures, VariableRate, RecordPlaces, Violation}
 

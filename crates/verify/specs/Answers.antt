@@ -1,13 +1,13 @@
 -- The refusals of the check: paper 01's number, and the picture, coded and expected delay that each carries.
 -- Assumes nothing.
 use Prim.Native.Nat.{ℕ}
-use Rattle.bits.specs.Refusals.{Answer, value, refused}
+use Rattle.bits.specs.Refusals.{Answer, value, refused, plain}
 use Rattle.vbv.specs.declared.VbvParams.{VbvParams}
 use Rattle.headers.specs.Answers.{errorNumber}
 use Rattle.vbv.specs.Answers.{errorNumber as modelNumber, violationNumber, violationPicture, violationCoded, violationExpected}
 use Rattle.verify.specs.declared.VbvVerifyError.{VbvVerifyError}
 use Rattle.verify.specs.declared.VbvVerifyError.the-variants.{Parse, Model, NoSequenceHeader, NoPictures, VariableRate, RecordPlaces, Violation}
-use Rattle.verify.specs.declared.VbvRefusal.{VbvRefusal}
+use Rattle.bits.specs.declared.VbvRefusal.{VbvRefusal}
 use Rattle.verify.specs.declared.VbvStreamReport.{VbvStreamReport}
 use Rattle.verify.specs.declared.VbvVerified.{VbvVerified}
 use Rattle.verify.specs.declared.VbvVerified.the-variants.{Report, Refused}
@@ -15,9 +15,6 @@ use Rattle.verify.specs.declared.Declared.{Declared}
 use Rattle.verify.specs.declared.Declared.the-variants.{Params, Refused as NotDeclared}
 
 -- 9 to 11 carry all three, every other refusal zeros
-abbrev pub plain : ℕ → VbvRefusal
-plain n = record { number = n; picture = 0; coded = 0; expected = 0 }
-
 abbrev pub refusalOf : VbvVerifyError → VbvRefusal
 refusalOf (Parse e) = plain (errorNumber e)
 refusalOf (Model e) = plain (modelNumber e)

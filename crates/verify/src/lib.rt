@@ -1,6 +1,6 @@
 // The buffer report of a constant-rate stream: what its headers tell, and the check of Annex C.
 ghost use mathlib.Core.Path.{_≡_};
-ghost use Rattle.verify.specs.Answers.{refusalOf, plain as plainOf};
+ghost use Rattle.verify.specs.Answers.{refusalOf};
 ghost use Rattle.verify.specs.declared.VbvVerifyError.the-variants.{Violation};
 
 mod report; // the check of a stream
@@ -15,6 +15,8 @@ pub use crate::recorder::VbvRecorder;
 pub use crate::recorder::check_stream;
 pub use crate::recorder::record_count;
 pub use crate::report::verify_cbr_stream;
+pub use bits::VbvRefusal;
+pub use bits::plain;
 use headers::Error;
 use vbv::RemovalInterval;
 use vbv::VbvCbrModel;
@@ -57,14 +59,6 @@ pub enum VbvVerifyError {
     RecordPlaces,
     // Overflow, underflow or a delay unlike the expected one.
     Violation(VbvViolation),
-}
-
-// A refusal as paper 01 writes it.
-pub struct VbvRefusal {
-    pub number: u8,
-    pub picture: u64,
-    pub coded: u16,
-    pub expected: u16,
 }
 
 pub enum VbvVerified {
@@ -142,18 +136,6 @@ impl VbvVerifyError {
             VbvVerifyError::RecordPlaces => plain(15),
             VbvVerifyError::Violation(v) => violation(v),
         }
-    }
-}
-
-// A refusal that carries its number alone.
-pub fn plain(number: u8) -> VbvRefusal
-    ensures { λ r. ⌜ r ≡ plainOf number ⌝ }
-{
-    VbvRefusal {
-        number,
-        picture: 0,
-        coded: 0,
-        expected: 0,
     }
 }
 

@@ -11,11 +11,12 @@ use lib.ListN.{getD}
 use Rattle.bits.specs.Bits.{pick}
 use Rattle.bits.specs.Refusals.{Answer, value, refused, andThen}
 use Rattle.bits.specs.Fields.{fitsAll, total}
+use Rattle.bits.specs.StartCodes.{startCode, groupStartCode}
 use Rattle.bits.proofs.Reading.{both-true, total-none, total-more}
 use Rattle.bits.proofs.Checking.{fits-none, fits-more, fits-all}
 use Rattle.bits.proofs.Writing.{header-read-written}
 use Rattle.bits.proofs.Joining.{write-over}
-use Rattle.writers.specs.GopHeader.{groupStartCode, groupFields, groupValues, nominalRates, nominalRate, timeCode, timeCodeAt, nominalAnswer}
+use Rattle.writers.specs.GopHeader.{groupFields, groupValues, nominalRates, nominalRate, timeCode, timeCodeAt, nominalAnswer}
 use Rattle.writers.specs.RoundTrips.{GroupWrittenReads, TimeCodeWrites}
 use Rattle.writers.specs.declared.gop_header.NominalRate.{NominalRate}
 use Rattle.writers.specs.declared.gop_header.TimeCode.{TimeCode}
@@ -76,7 +77,7 @@ rate-bound c p e = case (leb 1 c && leb c 8) refl e
 
 -- a written group header reads as the values given
 pub group-read-back : GroupWrittenReads
-group-read-back g t e = header-read-written groupStartCode groupFields (groupValues g) t refl e
+group-read-back g t e = header-read-written (startCode groupStartCode) groupFields (groupValues g) t refl e
 
 -- the time code of a display index always fits, and is written
 code-fits : (n p : ℕ) (closed broken : Bool) → 0 < p → p ≤ 64
@@ -109,4 +110,4 @@ pub time-code-fits : TimeCodeWrites
 time-code-fits n c code closed broken out e h =
     let d = coded n c code e in
     let b = rate-bound c (d .0) (d .1) in
-    rw (d .2) (sym (write-over groupStartCode groupFields _ out {n = 8} refl (code-fits n (d .0) closed broken (omega arith) (omega arith)) (omega (arith, group-total)) h refl .0))
+    rw (d .2) (sym (write-over (startCode groupStartCode) groupFields _ out {n = 8} refl (code-fits n (d .0) closed broken (omega arith) (omega arith)) (omega (arith, group-total)) h refl .0))

@@ -15,10 +15,6 @@ use Rattle.writers.specs.declared.gop_header.NominalRate.{NominalRate}
 use Rattle.writers.specs.declared.gop_header.NominalRate.the-variants.{PicturesPerSecond, Refused}
 use Rattle.writers.specs.declared.gop_header.Mpeg2Gop.{Mpeg2Gop}
 
--- group_start_code (Table 6-1)
-abbrev pub groupStartCode : List ℕ
-groupStartCode = 0x00 ∷ 0x00 ∷ 0x01 ∷ 0xB8 ∷ []
-
 -- Table 6-11; the writer holds its values to their widths alone (docs/DIFFERENCES.md)
 abbrev pub groupFields : List Field
 groupFields =

@@ -1,13 +1,13 @@
 // group_of_pictures_header() (ISO/IEC 13818-2 6.2.2.6, 11172-2 2.4.2.4): the time code and the writer.
 ghost use mathlib.Core.Path.{_≡_};
 ghost use Rattle.bits.specs.Answers.{writeAnswer, writeResult};
+ghost use Rattle.bits.specs.StartCodes.{startCode, groupStartCode};
 ghost use Rattle.headers.specs.Answers.{writtenAnswer};
-ghost use Rattle.writers.specs.GopHeader.{groupStartCode, groupFields, groupValues, nominalRate, nominalAnswer, timeCodeAt, timeCodeAnswer};
+ghost use Rattle.writers.specs.GopHeader.{groupFields, groupValues, nominalRate, nominalAnswer, timeCodeAt, timeCodeAnswer};
 use crate::answered;
 use crate::flag;
+use bits::start_codes::GROUP_START;
 use headers::Written;
-
-pub const GROUP_START_CODE: [u8; 4] = *b"\x00\x00\x01\xB8";
 
 // drop_frame_flag, time_code_hours, time_code_minutes, marker_bit, time_code_seconds, time_code_pictures, closed_gop,
 // broken_link
@@ -107,9 +107,9 @@ fn group_values(gop: Mpeg2Gop) -> [u32; 8]
 
 // Writes the header into the first bytes of out.
 pub fn write_gop_header(out: &mut [u8], gop: Mpeg2Gop) -> Written
-    ensures { λ r. ⌜ writtenAnswer r ≡ writeAnswer groupStartCode groupFields (groupValues gop) (now (out .entry)) ⌝ }
-    ensures { λ r. ⌜ now (out .exit) ≡ writeResult groupStartCode groupFields (groupValues gop) (now (out .entry)) ⌝ }
+    ensures { λ r. ⌜ writtenAnswer r ≡ writeAnswer (startCode groupStartCode) groupFields (groupValues gop) (now (out .entry)) ⌝ }
+    ensures { λ r. ⌜ now (out .exit) ≡ writeResult (startCode groupStartCode) groupFields (groupValues gop) (now (out .entry)) ⌝ }
 {
     let values = group_values(gop);
-    answered(bits::write_header(out, GROUP_START_CODE, &GROUP_TABLE, &values))
+    answered(bits::write_header(out, GROUP_START, &GROUP_TABLE, &values))
 }

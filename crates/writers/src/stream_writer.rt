@@ -6,22 +6,23 @@ ghost use lib.ListN.{length};
 ghost use Rattle.bits.specs.Bits.{bitList, appendBits};
 ghost use Rattle.bits.specs.Fields.{fieldBits, writeHeader, fitsAll, total};
 ghost use Rattle.bits.specs.Answers.{over, writeAnswer, writeResult};
+ghost use Rattle.bits.specs.StartCodes.{startCode, sequenceHeaderCode, extensionStartCode};
 ghost use Rattle.headers.specs.Answers.{writtenAnswer};
 ghost use Rattle.headers.specs.QuantMatrix.{matrixFields, matrixValues};
-ghost use Rattle.headers.specs.SequenceHeader.{sequenceHeaderCode, sequenceHeaderFields};
-ghost use Rattle.headers.specs.SequenceExtension.{extensionStartCode, sequenceExtensionFields, extensionValues, chromaCode};
+ghost use Rattle.headers.specs.SequenceHeader.{sequenceHeaderFields};
+ghost use Rattle.headers.specs.SequenceExtension.{sequenceExtensionFields, extensionValues, chromaCode};
 ghost use Rattle.headers.specs.StreamWriter.{paramsFields, baseValues, paramsValues, profileAndLevel, plainExtension};
 use crate::answered;
 use crate::flag;
 use crate::matrix_bytes;
 use bits::Checked;
+use bits::start_codes::EXTENSION_START;
+use bits::start_codes::SEQUENCE_HEADER;
 use headers::Error;
 use headers::Written;
 use headers::quant_matrix_extension::QuantiserMatrix;
 use headers::sequence_extension::ChromaFormat;
-use headers::sequence_extension::EXTENSION_START_CODE;
 use headers::sequence_extension::SEQUENCE_EXTENSION_TABLE;
-use headers::sequence_header::SEQUENCE_HEADER_CODE;
 use headers::sequence_header::SEQUENCE_HEADER_TABLE;
 use headers::stream_writer::SequenceHeaderParams;
 
@@ -81,10 +82,10 @@ fn base_values(p: SequenceHeaderParams) -> [u32; 8]
 fn put_header(out: &mut [u8], p: SequenceHeaderParams)
     requires { ⌜ fitsAll sequenceHeaderFields (baseValues p) ≡ true ⌝ }
     requires { ⌜ 32 + total (paramsFields p) ≤ 8 * length (now out) ⌝ }
-    ensures { λ r. ⌜ now (out .exit) ≡ over (writeHeader sequenceHeaderCode (paramsFields p) (paramsValues p)) (now (out .entry)) ⌝ }
+    ensures { λ r. ⌜ now (out .exit) ≡ over (writeHeader (startCode sequenceHeaderCode) (paramsFields p) (paramsValues p)) (now (out .entry)) ⌝ }
 {
     let values = base_values(p);
-    bits::write_header(out, SEQUENCE_HEADER_CODE, &SEQUENCE_HEADER_TABLE, &values);
+    bits::write_header(out, SEQUENCE_HEADER, &SEQUENCE_HEADER_TABLE, &values);
     let intra = p.intra_quantiser_matrix;
     let non_intra = p.non_intra_quantiser_matrix;
     let behind = append_matrix(out, 94, intra);
@@ -93,8 +94,8 @@ fn put_header(out: &mut [u8], p: SequenceHeaderParams)
 
 // Writes the header into the first bytes of out; a matrix stands in it where its flag is set.
 pub fn write_sequence_header(out: &mut [u8], p: SequenceHeaderParams) -> Written
-    ensures { λ r. ⌜ writtenAnswer r ≡ writeAnswer sequenceHeaderCode (paramsFields p) (paramsValues p) (now (out .entry)) ⌝ }
-    ensures { λ r. ⌜ now (out .exit) ≡ writeResult sequenceHeaderCode (paramsFields p) (paramsValues p) (now (out .entry)) ⌝ }
+    ensures { λ r. ⌜ writtenAnswer r ≡ writeAnswer (startCode sequenceHeaderCode) (paramsFields p) (paramsValues p) (now (out .entry)) ⌝ }
+    ensures { λ r. ⌜ now (out .exit) ≡ writeResult (startCode sequenceHeaderCode) (paramsFields p) (paramsValues p) (now (out .entry)) ⌝ }
 {
     let values = base_values(p);
     let checked = bits::check_fields(&SEQUENCE_HEADER_TABLE, &values);
@@ -155,14 +156,9 @@ fn extension_values(chroma: ChromaFormat, progressive: bool) -> [u32; 12]
 
 // Writes the extension, with all size, rate and buffer extensions 0, into the first bytes of out.
 pub fn write_sequence_extension(out: &mut [u8], chroma: ChromaFormat, progressive: bool) -> Written
-    ensures { λ r. ⌜ writtenAnswer r ≡ writeAnswer extensionStartCode sequenceExtensionFields (extensionValues (plainExtension chroma progressive)) (now (out .entry)) ⌝ }
-    ensures { λ r. ⌜ now (out .exit) ≡ writeResult extensionStartCode sequenceExtensionFields (extensionValues (plainExtension chroma progressive)) (now (out .entry)) ⌝ }
+    ensures { λ r. ⌜ writtenAnswer r ≡ writeAnswer (startCode extensionStartCode) sequenceExtensionFields (extensionValues (plainExtension chroma progressive)) (now (out .entry)) ⌝ }
+    ensures { λ r. ⌜ now (out .exit) ≡ writeResult (startCode extensionStartCode) sequenceExtensionFields (extensionValues (plainExtension chroma progressive)) (now (out .entry)) ⌝ }
 {
     let values = extension_values(chroma, progressive);
-    answered(bits::write_header(
-        out,
-        EXTENSION_START_CODE,
-        &SEQUENCE_EXTENSION_TABLE,
-        &values,
-    ))
+    answered(bits::write_header(out, EXTENSION_START, &SEQUENCE_EXTENSION_TABLE, &values))
 }

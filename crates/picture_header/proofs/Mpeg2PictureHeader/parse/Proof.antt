@@ -1,10 +1,11 @@
 use borrow.Author.Needs.{needs}
 use mathlib.Core.Path.{_∙_}
 use Rattle.bits.proofs.Reading.{header-done}
-use Rattle.picture_header.specs.PictureHeader.{pictureStartCode, pictureFields}
+use Rattle.picture_header.specs.PictureHeader.{pictureFields}
 use Rattle.picture_header.proofs.PictureHeader.{header-short, header-bad, header-behind}
 use Rattle.picture_header.proofs.Mpeg2PictureHeader.parse.Statement.{statement}
 use Rattle.picture_header.proofs.Mpeg2PictureHeader.parse.Tie as tie
+use Rattle.bits.specs.StartCodes.{startCode, pictureStartCode}
 
 slice-aggregate-read-header : tie.Need-slice-aggregate-read-header
 slice-aggregate-read-header c = search needs
@@ -23,7 +24,7 @@ enum-told-3 c = search needs
 
 behind-delay-requires : tie.Need-behind-delay-requires
 behind-delay-requires c κs =
-    let d = header-done (c .before .before .before .read-header .result) pictureStartCode pictureFields (c .before .before .before .before .before .before .args .buf .now) (c .before .before .before .read-header .ensures .0) (c .before .enum-told3 .given .1) in
+    let d = header-done (c .before .before .before .read-header .result) (startCode pictureStartCode) pictureFields (c .before .before .before .before .before .before .args .buf .now) (c .before .before .before .read-header .ensures .0) (c .before .enum-told3 .given .1) in
     (d .high 0, d .high 2)
 
 returns : tie.Need-returns

@@ -2,11 +2,11 @@ use borrow.Author.Needs.{needs}
 use mathlib.Core.Path.{_∙_}
 use native.Mathlib.Omega.{arith}
 use Rattle.bits.proofs.Reading.{header-done}
-use Rattle.headers.specs.SequenceExtension.{extensionStartCode}
 use Rattle.picture_header.specs.CodingExtension.{motionCodeFields, motionCodesFit}
 use Rattle.picture_header.proofs.CodingExtension.{coding-short, coding-bad, coding-unfit, coding-fit}
 use Rattle.picture_header.proofs.PictureCodingExtension.parse.Statement.{statement}
 use Rattle.picture_header.proofs.PictureCodingExtension.parse.Tie as tie
+use Rattle.bits.specs.StartCodes.{startCode, extensionStartCode}
 
 slice-aggregate-read-header : tie.Need-slice-aggregate-read-header
 slice-aggregate-read-header c = search needs
@@ -37,7 +37,7 @@ array-read-fit-4 c = search needs
 
 behind-codes-requires : tie.Need-behind-codes-requires
 behind-codes-requires c κs =
-    let d = header-done (c .before .before .before .before .read-header .result) extensionStartCode motionCodeFields (c .before .before .before .before .before .before .before .args .buf .now) (c .before .before .before .before .read-header .ensures .0) (c .before .before .enum-told3 .given .1) in
+    let d = header-done (c .before .before .before .before .read-header .result) (startCode extensionStartCode) motionCodeFields (c .before .before .before .before .before .before .before .args .buf .now) (c .before .before .before .before .read-header .ensures .0) (c .before .before .enum-told3 .given .1) in
     omega (arith, d .high 1, d .high 2, d .high 3, d .high 4)
 
 returns : tie.Need-returns

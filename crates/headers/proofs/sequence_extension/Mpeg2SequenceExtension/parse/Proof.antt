@@ -6,8 +6,9 @@ use mathlib.Core.List.{List}
 use Rattle.bits.specs.Refusals.{Answer, value}
 use Rattle.bits.specs.Fields.{readHeader}
 use Rattle.bits.specs.Answers.{placed, fieldsAnswer}
+use Rattle.bits.specs.StartCodes.{startCode, extensionStartCode}
 use Rattle.bits.proofs.Reading.{answer-short, answer-bad, header-done, Read}
-use Rattle.headers.specs.SequenceExtension.{extensionStartCode, sequenceExtensionFields, sequenceExtension, extensionOf}
+use Rattle.headers.specs.SequenceExtension.{sequenceExtensionFields, sequenceExtension, extensionOf}
 use Rattle.headers.proofs.SequenceExtension.{extension-places}
 use Rattle.headers.proofs.sequence_extension.Mpeg2SequenceExtension.parse.Statement.{statement}
 use Rattle.headers.proofs.sequence_extension.Mpeg2SequenceExtension.parse.Tie as tie
@@ -15,7 +16,7 @@ use Rattle.headers.proofs.sequence_extension.Mpeg2SequenceExtension.par
 -- the code's table is the definition's
 module _ (c : tie.After-read-header) where
   abbrev header : Answer (List ℕ)
-  header = readHeader extensionStartCode sequenceExtensionFields (c .before .before .before .args .buf .now)
+  header = readHeader (startCode extensionStartCode) sequenceExtensionFields (c .before .before .before .args .buf .now)
 
   answered : fieldsAnswer (c .read-header .result) ≡ placed header
   answered = c .read-header .ensures .0

@@ -3,8 +3,9 @@ use mathlib.Core.Path.{_≡_}
 use native.Mathlib.Omega.{arith}
 use Rattle.bits.specs.Answers.{placed, fieldsAnswer}
 use Rattle.bits.specs.declared.Outcome.the-variants.{Done}
+use Rattle.bits.specs.StartCodes.{startCode, sequenceHeaderCode}
 use Rattle.bits.proofs.Reading.{Read, answer-short, answer-bad, header-done}
-use Rattle.headers.specs.SequenceHeader.{sequenceHeaderCode, sequenceHeaderFields}
+use Rattle.headers.specs.SequenceHeader.{sequenceHeaderFields}
 use Rattle.headers.specs.declared.Error.the-variants.{ShortHeader, InvalidBitstream}
 use Rattle.headers.proofs.SequenceHeader.{fixedFields, told-refused, fields-refused, matrices-cut, matrices-there}
 use Rattle.headers.proofs.sequence_header.Mpeg2SequenceHeader.parse.Statement.{statement}
@@ -16,7 +17,7 @@ module _ (c : tie.After-read-header) where
   answer = c .read-header .ensures .0
 
   done : c .read-header .result .outcome ≡ Done → Read sequenceHeaderFields (fixedFields (c .before .before .before .args .buf .now)) (c .read-header .result)
-  done o = header-done _ sequenceHeaderCode sequenceHeaderFields _ answer o
+  done o = header-done _ (startCode sequenceHeaderCode) sequenceHeaderFields _ answer o
 
 -- past the match, the values that were read
 abbrev read-at : (c : tie.After-enum-told3)
