@@ -23,7 +23,7 @@ use Rattle.verify.specs.declared.VbvVerifyError.{VbvVerifyError}
 use Rattle.verify.specs.declared.VbvStreamReport.{VbvStreamReport}
 use Rattle.bits.specs.declared.VbvRefusal.{VbvRefusal}
 use Rattle.words.specs.Words.{wordsBytes, laid}
-use Rattle.layout.specs.Answers.{reportWords, refusalWords}
+use Rattle.layout.specs.Answers.{reportSize, refusalSize, reportWords, refusalWords}
 use Rattle.hipokuta.specs.Check.{checked, reportAfter, recordsAfter, refusalAfter}
 
 -- ---- an answer of the check, without its records
@@ -51,34 +51,34 @@ module _ (s : List ℕ) (standard : ℕ) (p q f : List ℕ) where
   leaves-refused k e m w = (m ∙ ap (λ x. x .number) e, (refl, (refl, w ∙ ap (λ x. laid (wordsBytes (refusalWords x)) f) e)))
 
   -- the check's answer with its records
-  abbrev Answered : Answer VbvStreamReport → ℕ → List ℕ → List ℕ → Type 0
-  Answered a n p' f' = (n ≡ number a) × ((p' ≡ reportAfter a p) × (f' ≡ refusalAfter a f))
+  abbrev Reported : Answer VbvStreamReport → ℕ → List ℕ → List ℕ → Type 0
+  Reported a n p' f' = (n ≡ number a) × ((p' ≡ reportAfter a p) × (f' ≡ refusalAfter a f))
 
-  leaves-judged : (v : Answer Accepted) {n : ℕ} {p' q' f' : List ℕ} → q' ≡ over (recordsBytes (records v)) q → Answered (reported v) n p' f' → Leaves v n p' q' f'
+  leaves-verdict : (v : Answer Accepted) {n : ℕ} {p' q' f' : List ℕ} → q' ≡ over (recordsBytes (records v)) q → Reported (reported v) n p' f' → Leaves v n p' q' f'
   unfolding reportAfter recordsAfter refusalAfter
-  leaves-judged (value a) w t = (t .0, (t .1 .0, (w, t .1 .1)))
-  leaves-judged (refused i k c x) w t = (t .0, (t .1 .0, (w ∙ rw no-records (over-none q), t .1 .1)))
+  leaves-verdict (value a) w t = (t .0, (t .1 .0, (w, t .1 .1)))
+  leaves-verdict (refused i k c x) w t = (t .0, (t .1 .0, (w ∙ rw no-records (over-none q), t .1 .1)))
 
   -- ---- the ways of the chain
 
-  pub no-place : {r : VbvRefusal} {n : ℕ} {f' : List ℕ} → (ltb (length f) 32 || ltb (length p) 40) ≡ true
+  pub no-place : {r : VbvRefusal} {n : ℕ} {f' : List ℕ} → (ltb (length f) refusalSize || ltb (length p) reportSize) ≡ true
       → r ≡ plain 19 → n ≡ r .number → f' ≡ laid (wordsBytes (refusalWords r)) f → Leaves (checked s standard p q f) n p q f'
   unfolding checked pick
   no-place h e n w = rw h (leaves-refused 19 e n w)
 
-  module _ (h : (ltb (length f) 32 || ltb (length p) 40) ≡ false) where
+  module _ (h : (ltb (length f) refusalSize || ltb (length p) reportSize) ≡ false) where
     pub no-standard : {r : VbvRefusal} {n : ℕ} {f' : List ℕ} → (standard ≡ 1 → ⊥) → (standard ≡ 2 → ⊥)
         → r ≡ plain 12 → n ≡ r .number → f' ≡ laid (wordsBytes (refusalWords r)) f → Leaves (checked s standard p q f) n p q f'
     unfolding checked pick
     no-standard a b e n w = rw (h, ne-eqb standard 1 a, ne-eqb standard 2 b) (leaves-refused 12 e n w)
 
-    module _ (a : Answer VbvStreamReport) {n : ℕ} {p' q' f' : List ℕ} (t : Answered a n p' f') where
+    module _ (a : Answer VbvStreamReport) {n : ℕ} {p' q' f' : List ℕ} (t : Reported a n p' f') where
       pub mpeg1 : standard ≡ 1 → a ≡ reported (verdict Mpeg1 s (length q / 32)) → q' ≡ over (recordsBytes (records (verdict Mpeg1 s (length q / 32)))) q
           → Leaves (checked s standard p q f) n p' q' f'
       unfolding checked pick
-      mpeg1 e b w = rw (h, e) (leaves-judged (verdict Mpeg1 s (length q / 32)) w (subst (λ x. Answered x n p' f') b t))
+      mpeg1 e b w = rw (h, e) (leaves-verdict (verdict Mpeg1 s (length q / 32)) w (subst (λ x. Reported x n p' f') b t))
 
       pub mpeg2 : standard ≡ 2 → a ≡ reported (verdict Mpeg2 s (length q / 32)) → q' ≡ over (recordsBytes (records (verdict Mpeg2 s (length q / 32)))) q
           → Leaves (checked s standard p q f) n p' q' f'
       unfolding checked pick
-      mpeg2 e b w = rw (h, e) (leaves-judged (verdict Mpeg2 s (length q / 32)) w (subst (λ x. Answered x n p' f') b t))
+      mpeg2 e b w = rw (h, e) (leaves-verdict (verdict Mpeg2 s (length q / 32)) w (subst (λ x. Reported x n p' f') b t))

@@ -14,8 +14,8 @@ use Rattle.verify.proofs.Numbering.{check-numbers}
 use Rattle.rate_control.specs.declared.CbrConfig.{CbrConfig}
 use Rattle.rate_control.proofs.Refusing.{writer-numbers}
 use Rattle.hipokuta.specs.Check.{checked}
-use Rattle.hipokuta.specs.Send.{creation, COffer, reach, answered, withdrawal}
-use Rattle.hipokuta.specs.Numbers.{Numbers}
+use Rattle.hipokuta.specs.Send.{createIn, COffer, reach, offerIn, withdrawIn}
+use Rattle.hipokuta.specs.Numbers.{EntryNumbers}
 
 abbrev Checks : Answer Accepted → Type 0
 Checks a = Numbered (19 ∷ 12 ∷ 14 ∷ 3 ∷ 1 ∷ 2 ∷ 6 ∷ 4 ∷ 5 ∷ 15 ∷ 7 ∷ 8 ∷ []) [] (11 ∷ 9 ∷ 10 ∷ []) a
@@ -28,18 +28,18 @@ checked-numbered s standard report recs refusal =
     pick-elim Checks _ (λ e. wider refl refl refl (check-numbers Mpeg2 s _)) λ e.
     by-number refl
 
-creation-numbered : (c : CbrConfig) (place : List ℕ) → Numbered (19 ∷ 12 ∷ 6 ∷ []) [] [] (creation c place)
-unfolding creation
-creation-numbered c place =
+create-numbered : (c : CbrConfig) (place : List ℕ) → Numbered (19 ∷ 12 ∷ 6 ∷ []) [] [] (createIn c place)
+unfolding createIn
+create-numbered c place =
     pick-elim (Numbered (19 ∷ 12 ∷ 6 ∷ []) [] []) _ (λ e. by-number refl) λ e.
     wider refl refl refl (writer-numbers .creation c)
 
 abbrev Offers : {X : Type 0} → Answer X → Type 0
 Offers a = Numbered (12 ∷ 19 ∷ 17 ∷ 18 ∷ 20 ∷ 14 ∷ 7 ∷ 21 ∷ 22 ∷ []) (9 ∷ []) [] a
 
-answered-numbered : (s : List ℕ) (o : COffer) → Offers (answered s o)
-unfolding answered reach
-answered-numbered s o =
+offer-numbered : (s : List ℕ) (o : COffer) → Offers (offerIn s o)
+unfolding offerIn reach
+offer-numbered s o =
     and-then _
     (pick-elim Offers _ (λ e. by-number refl) λ e.
     pick-elim Offers _ (λ e. by-number refl) λ e.
@@ -47,15 +47,15 @@ answered-numbered s o =
     a-value)
     λ x. wider refl refl refl (writer-numbers .offers (x .0) (x .1))
 
-withdrawal-numbered : (s : List ℕ) → Numbered (12 ∷ []) [] [] (withdrawal s)
-unfolding withdrawal
-withdrawal-numbered s = pick-elim (Numbered (12 ∷ []) [] []) _ (λ e. by-number refl) λ e. wider refl refl refl (writer-numbers .withdrawals _)
+withdraw-numbered : (s : List ℕ) → Numbered (12 ∷ []) [] [] (withdrawIn s)
+unfolding withdrawIn
+withdraw-numbered s = pick-elim (Numbered (12 ∷ []) [] []) _ (λ e. by-number refl) λ e. wider refl refl refl (writer-numbers .withdrawals _)
 
-pub numbers : Numbers
+pub numbers : EntryNumbers
 numbers = record {
   vbv-check = checked-numbered;
   vbv-patch-delay = model-numbers .patch;
-  cbr-create = creation-numbered;
-  cbr-offer = answered-numbered;
-  cbr-withdraw = withdrawal-numbered;
+  cbr-create = create-numbered;
+  cbr-offer = offer-numbered;
+  cbr-withdraw = withdraw-numbered;
 }

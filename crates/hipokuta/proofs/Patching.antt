@@ -6,8 +6,8 @@ use Rattle.bits.specs.Refusals.{Answer, number}
 use Rattle.vbv.specs.declared.VbvPatch.{VbvPatch}
 use Rattle.vbv.specs.declared.VbvPatch.the-variants.{Done, NotAPicture}
 
-pub done : {a : VbvPatch} {p : Answer (Unit {0})} → patchAnswer a ≡ p → a ≡ Done → 0 ≡ number p
-done h d = ap number (ap patchAnswer (sym d) ∙ h)
+pub patched-number : {a : VbvPatch} {p : Answer (Unit {0})} → patchAnswer a ≡ p → a ≡ Done → 0 ≡ number p
+patched-number h d = ap number (ap patchAnswer (sym d) ∙ h)
 
-pub none : {a : VbvPatch} {p : Answer (Unit {0})} → patchAnswer a ≡ p → a ≡ NotAPicture → 20 ≡ number p
-none h d = ap number (ap patchAnswer (sym d) ∙ h)
+pub unpatched-number : {a : VbvPatch} {p : Answer (Unit {0})} → patchAnswer a ≡ p → a ≡ NotAPicture → 20 ≡ number p
+unpatched-number h d = ap number (ap patchAnswer (sym d) ∙ h)

@@ -26,52 +26,52 @@ use Rattle.rate_control.specs.declared.CbrOffered.{CbrOffered}
 use Rattle.rate_control.specs.declared.CbrWithdrawal.the-variants.{Withdrawn, Refused as NotWithdrawn}
 use Rattle.rate_control.specs.declared.CbrWithdrawn.{CbrWithdrawn}
 use Rattle.rate_control.proofs.Creation.{within-is}
-use Rattle.rate_control.proofs.Refusing.{withdraws}
-use Rattle.layout.specs.Answers.{answerWords}
-use Rattle.layout.specs.State.{stateBytes, writerAt, held}
+use Rattle.rate_control.proofs.States.{withdraw-answer}
+use Rattle.layout.specs.Answers.{answerSize, answerWords}
+use Rattle.layout.specs.State.{stateSize, stateBytes, writerAt, stateAt}
 use Rattle.words.specs.Words.{wordsBytes, laid}
 use Rattle.layout.specs.declared.CbrState.{CbrState}
-use Rattle.layout.proofs.Answering.{length-refused}
+use Rattle.layout.proofs.Answering.{length-refused-answer}
 use Rattle.layout.proofs.Held.{holds, holds-none}
 use Rattle.layout.proofs.RoundTrip.{state-fits}
 use Rattle.words.proofs.Laying.{laid-short}
-use Rattle.hipokuta.specs.Send.{stateAfter, creation, COffer, kindFor, intervalFor, choicesFit, offerOf, reach, answered, offerState, offerOut, offerPlace, withdrawal}
+use Rattle.hipokuta.specs.Send.{stateAfter, createIn, COffer, kindFor, intervalFor, choicesFit, offerOf, reach, offerIn, offerState, offerOut, offerPlace, withdrawIn}
 
 -- ---- creation: the number, and the place afterwards
 
 module _ (c : CbrConfig) (place : List ℕ) where
   abbrev Creates : ℕ → List ℕ → Type 0
-  Creates n after = (n ≡ number (creation c place)) × (after ≡ stateAfter (creation c place) place)
+  Creates n after = (n ≡ number (createIn c place)) × (after ≡ stateAfter (createIn c place) place)
 
-  pub no-state-place : length place < 152 → Creates 19 place
-  unfolding creation stateAfter pick
-  no-state-place h = rw (lt-ltb (length place) 152 h) (refl, refl)
+  pub no-state-place : length place < stateSize → Creates 19 place
+  unfolding createIn stateAfter pick
+  no-state-place h = rw (lt-ltb (length place) stateSize h) (refl, refl)
 
-  module _ (room : 152 ≤ length place) (r : CbrCreated) (e : createdAnswer r ≡ create c) where
+  module _ (room : stateSize ≤ length place) (r : CbrCreated) (e : createdAnswer r ≡ create c) where
     pub is-created : (after : List ℕ) → r .answer ≡ Created → after ≡ laid (stateBytes (r .writer)) place → Creates 0 after
-    unfolding creation stateAfter pick
+    unfolding createIn stateAfter pick
     is-created after h g =
         let a : create c ≡ value (r .writer) = sym e ∙ ap (λ x. creationAnswer x (r .writer)) h in
-        rw (le-ltb (length place) 152 room, a) (refl, g)
+        rw (le-ltb (length place) stateSize room, a) (refl, g)
 
     pub not-created : (v : VbvError) (n : ℕ) → r .answer ≡ NotCreated v → n ≡ errorNumber v → Creates n place
-    unfolding creation stateAfter pick
+    unfolding createIn stateAfter pick
     not-created v n h g =
         let a : create c ≡ refusal v = sym e ∙ ap (λ x. creationAnswer x (r .writer)) h in
-        rw (le-ltb (length place) 152 room, a) (g, refl)
+        rw (le-ltb (length place) stateSize room, a) (g, refl)
 
 -- ---- an offer: the number, and state, output part and answer place afterwards
 
 module _ (s : List ℕ) (o : COffer) where
   abbrev Leaves : ℕ → List ℕ → List ℕ → List ℕ → Type 0
-  Leaves n after out answer = (n ≡ number (answered s o)) × ((after ≡ offerState s o) × ((out ≡ offerOut s o) × (answer ≡ offerPlace s o)))
+  Leaves n after out answer = (n ≡ number (offerIn s o)) × ((after ≡ offerState s o) × ((out ≡ offerOut s o) × (answer ≡ offerPlace s o)))
 
   -- a refusal's words in the answer place
   abbrev worded : VbvRefusal → List ℕ
   worded r = laid (wordsBytes (answerWords (refused (r .number) (r .picture) (r .coded) (r .expected)))) (o .answer)
 
   stopped : (n : ℕ) → reach s o ≡ refused n 0 0 0 → {r : VbvRefusal} {answer : List ℕ} → r ≡ plain n → answer ≡ worded r → Leaves n s (o .out) answer
-  unfolding answered offerState offerOut offerPlace stateAfter
+  unfolding offerIn offerState offerOut offerPlace stateAfter
   stopped n e f g = rw e (refl, (refl, (refl, g ∙ ap worded f)))
 
   -- the test of kind, interval and flag as the code has it, and the offer with what they stand for
@@ -85,22 +85,22 @@ module _ (s : List ℕ) (o : COffer) where
   unfolding choicesFit
   codes-told = rw (within-is 1 2 (o .interval))
 
-  module _ (x : CbrState) (e : x ≡ held s) where
+  module _ (x : CbrState) (e : x ≡ stateAt s) where
     pub no-state : x .fits ≡ false → {r : VbvRefusal} {answer : List ℕ} → r ≡ plain 12 → answer ≡ worded r → Leaves 12 s (o .out) answer
     unfolding reach pick
     no-state h f g = stopped 12 (rw (holds-none s x e h)) f g
 
     module _ (h : x .fits ≡ true) where
-      pub no-answer-place : length (o .answer) < 72 → Leaves 19 s (o .out) (o .answer)
+      pub no-answer-place : length (o .answer) < answerSize → Leaves 19 s (o .out) (o .answer)
       unfolding reach pick
       no-answer-place l =
-          let short = laid-short (wordsBytes (answerWords (refused 19 0 0 0))) (o .answer) (omega (arith, length-refused 19 0 0 0)) in
-          stopped 19 (rw (holds s x e h .0, lt-ltb (length (o .answer)) 72 l)) refl (sym short)
+          let short = laid-short (wordsBytes (answerWords (refused 19 0 0 0))) (o .answer) (omega (arith, length-refused-answer 19 0 0 0)) in
+          stopped 19 (rw (holds s x e h .0, lt-ltb (length (o .answer)) answerSize l)) refl (sym short)
 
-      module _ (l : 72 ≤ length (o .answer)) where
+      module _ (l : answerSize ≤ length (o .answer)) where
         pub no-code : codes ≡ false → {r : VbvRefusal} {answer : List ℕ} → r ≡ plain 12 → answer ≡ worded r → Leaves 12 s (o .out) answer
         unfolding reach pick
-        no-code t f g = stopped 12 (rw (holds s x e h .0, le-ltb (length (o .answer)) 72 l, sym codes-told ∙ t)) f g
+        no-code t f g = stopped 12 (rw (holds s x e h .0, le-ltb (length (o .answer)) answerSize l, sym codes-told ∙ t)) f g
 
         -- the writer is asked
         module _ (t : codes ≡ true) where
@@ -108,7 +108,7 @@ module _ (s : List ℕ) (o : COffer) where
           unfolding reach pick
           reaches =
               let k = holds s x e h in
-              rw (k .0, le-ltb (length (o .answer)) 72 l, sym codes-told ∙ t, k .1)
+              rw (k .0, le-ltb (length (o .answer)) answerSize l, sym codes-told ∙ t, k .1)
 
           pub asked : (k : PictureKind) (i : RemovalInterval) → k ≡ kindFor (o .kind) → i ≡ intervalFor (o .interval)
               → (r : CbrOffered) → offerAnswer (r .answer) ≡ offer (x .writer) (offered k i) → r .writer ≡ left (x .writer) (offered k i)
@@ -116,19 +116,19 @@ module _ (s : List ℕ) (o : COffer) where
               → out ≡ outAfter (x .writer) (offered k i)
               → answer ≡ laid (wordsBytes (answerWords (offerAnswer (r .answer)))) (o .answer)
               → Leaves n after out answer
-          unfolding answered offerState offerOut offerPlace stateAfter offerOf
+          unfolding offerIn offerState offerOut offerPlace stateAfter offerOf
           asked k i kind interval r f g n after out answer =
               rw (reaches, ← kind, ← interval)
               (n ∙ ap number f, (after ∙ ap (λ y. laid (stateBytes y) s) g, (out, answer ∙ ap (λ y. laid (wordsBytes (answerWords y)) (o .answer)) f)))
 
 -- ---- a withdrawal: the number, and the state afterwards
 
-module _ (s : List ℕ) (x : CbrState) (e : x ≡ held s) where
+module _ (s : List ℕ) (x : CbrState) (e : x ≡ stateAt s) where
   abbrev Withdraws : ℕ → List ℕ → Type 0
-  Withdraws n after = (n ≡ number (withdrawal s)) × (after ≡ stateAfter (withdrawal s) s)
+  Withdraws n after = (n ≡ number (withdrawIn s)) × (after ≡ stateAfter (withdrawIn s) s)
 
   pub no-writer : x .fits ≡ false → Withdraws 12 s
-  unfolding withdrawal stateAfter pick
+  unfolding withdrawIn stateAfter pick
   no-writer h = rw (holds-none s x e h) (refl, refl)
 
   module _ (h : x .fits ≡ true) (r : CbrWithdrawn) (f : withdrawnAnswer r ≡ withdraw (x .writer)) where
@@ -136,7 +136,7 @@ module _ (s : List ℕ) (x : CbrState) (e : x ≡ held s) where
     told a = ap withdraw (sym (holds s x e h .1)) ∙ (sym f ∙ ap (λ y. withdrawalAnswer y (r .writer)) a)
 
     pub is-withdrawn : {after : List ℕ} → after ≡ laid (stateBytes (r .writer)) s → r .answer ≡ Withdrawn → Withdraws 0 after
-    unfolding withdrawal stateAfter pick
+    unfolding withdrawIn stateAfter pick
     is-withdrawn g a = rw (holds s x e h .0, told a) (refl, g)
 
     -- a writer that fits is not refused
@@ -144,5 +144,5 @@ module _ (s : List ℕ) (x : CbrState) (e : x ≡ held s) where
     not-withdrawn v a =
         let k = holds s x e h in
         let b : refusal v ≡ withdraw (x .writer) = sym (ap (λ y. withdrawalAnswer y (r .writer)) a) ∙ f in
-        let d : withdraw (x .writer) ≡ value _ = ap withdraw (k .1) ∙ withdraws (writerAt s) (state-fits s (k .0) .2) in
+        let d : withdraw (x .writer) ≡ value _ = ap withdraw (k .1) ∙ withdraw-answer (writerAt s) (state-fits s (k .0) .2) in
         absurd (true≢false cc)

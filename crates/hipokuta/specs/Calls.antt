@@ -14,97 +14,97 @@ use Rattle.vbv.specs.Answers.{frameRate}
 use Rattle.rate_control.specs.Answers.{Given}
 use Rattle.rate_control.specs.Create.{create}
 use Rattle.rate_control.specs.Offer.{Offer}
-use Rattle.rate_control.specs.Calls.{Call, offering, withdrawing, Step, offered, withdrawn, stepOf, run, final}
+use Rattle.rate_control.specs.Calls.{Call, offering, withdrawing, Step, offered, withdrawn, stepOf, stepsOf, final}
 use Rattle.rate_control.specs.Demand.{AllBytes, DemandOf}
 use Rattle.rate_control.specs.declared.CbrConfig.{CbrConfig}
 use Rattle.rate_control.specs.declared.CbrWriter.{CbrWriter}
 use Rattle.rate_control.specs.declared.Pending.the-variants.{Nothing}
 use Rattle.layout.specs.State.{stateBytes, stateFits, writerAt}
-use Rattle.layout.specs.Answers.{answerWords}
+use Rattle.layout.specs.Answers.{answerSize, answerWords}
 use Rattle.words.specs.Words.{wordsBytes, laid}
-use Rattle.hipokuta.specs.Send.{stateAfter, creation, COffer, choicesFit, offerOf, reach, answered, offerState, offerOut, offerPlace, withdrawal}
+use Rattle.hipokuta.specs.Send.{stateAfter, createIn, COffer, choicesFit, offerOf, reach, offerIn, offerState, offerOut, offerPlace, withdrawIn}
 
 pub data CCall : Type 0 where
   offers : COffer → CCall
   withdraws : CCall
 
 -- the state's bytes after a call
-unfoldable pub after : List ℕ → CCall → List ℕ
-after s (offers o) = offerState s o
-after s withdraws = stateAfter (withdrawal s) s
+unfoldable pub callState : List ℕ → CCall → List ℕ
+callState s (offers o) = offerState s o
+callState s withdraws = stateAfter (withdrawIn s) s
 
 -- what the writer was asked and answered in a call; nothing, where the call stopped ahead of it
 unfoldable pub offerSteps : Answer (CbrWriter × Offer) → List Step
 offerSteps (value x) = stepOf (x .0) (offering (x .1)) ∷ []
 offerSteps (refused n k c e) = []
 
-unfoldable pub steps : List ℕ → CCall → List Step
-steps s (offers o) = offerSteps (reach s o)
-steps s withdraws = pick (not (stateFits s)) [] (stepOf (writerAt s) withdrawing ∷ [])
+unfoldable pub callSteps : List ℕ → CCall → List Step
+callSteps s (offers o) = offerSteps (reach s o)
+callSteps s withdraws = pick (not (stateFits s)) [] (stepOf (writerAt s) withdrawing ∷ [])
 
-unfoldable pub runC : List ℕ → List CCall → List Step
-runC s [] = []
-runC s (c ∷ cs) = steps s c ++ runC (after s c) cs
+unfoldable pub stepsFromC : List ℕ → List CCall → List Step
+stepsFromC s [] = []
+stepsFromC s (c ∷ cs) = callSteps s c ++ stepsFromC (callState s c) cs
 
-unfoldable pub finalC : List ℕ → List CCall → List ℕ
-finalC s [] = s
-finalC s (c ∷ cs) = finalC (after s c) cs
+unfoldable pub finalState : List ℕ → List CCall → List ℕ
+finalState s [] = s
+finalState s (c ∷ cs) = finalState (callState s c) cs
 
 -- the calls of the list that are for the writer: an offer with an answer place, and with a kind, interval and flag
-unfoldable pub callsOf : CCall → List Call
-callsOf (offers o) =
-    pick (ltb (length (o .answer)) 72) []
+unfoldable pub forWriter : CCall → List Call
+forWriter (offers o) =
+    pick (ltb (length (o .answer)) answerSize) []
     (pick (not (choicesFit o)) []
     (offering (offerOf o) ∷ []))
-callsOf withdraws = withdrawing ∷ []
+forWriter withdraws = withdrawing ∷ []
 
-unfoldable pub calls : List CCall → List Call
-calls [] = []
-calls (c ∷ cs) = callsOf c ++ calls cs
+unfoldable pub allForWriter : List CCall → List Call
+allForWriter [] = []
+allForWriter (c ∷ cs) = forWriter c ++ allForWriter cs
 
 -- what C sees of a call: the value returned, and its output part and answer place afterwards
-pub record Seen : Type 0 where
+pub record SeenByC : Type 0 where
   pub returned : ℕ
   pub out : List ℕ
   pub answer : List ℕ
 
 -- of calls on a state's bytes, by the promises of the entries
-unfoldable pub seen : List ℕ → CCall → Seen
-seen s (offers o) = record { returned = number (answered s o); out = offerOut s o; answer = offerPlace s o }
-seen s withdraws = record { returned = number (withdrawal s); out = []; answer = [] }
+unfoldable pub seenOf : List ℕ → CCall → SeenByC
+seenOf s (offers o) = record { returned = number (offerIn s o); out = offerOut s o; answer = offerPlace s o }
+seenOf s withdraws = record { returned = number (withdrawIn s); out = []; answer = [] }
 
-unfoldable pub seenC : List ℕ → List CCall → List Seen
-seenC s [] = []
-seenC s (c ∷ cs) = seen s c ∷ seenC (after s c) cs
+unfoldable pub seenOfAll : List ℕ → List CCall → List SeenByC
+seenOfAll s [] = []
+seenOfAll s (c ∷ cs) = seenOf s c ∷ seenOfAll (callState s c) cs
 
 -- of the same calls on a writer: what it answered and put out, as number and words; or the refusal that stops an offer ahead of it
-unfoldable pub shownAs : Answer Given → List ℕ → List ℕ → Seen
+unfoldable pub shownAs : Answer Given → List ℕ → List ℕ → SeenByC
 shownAs a out place = record { returned = number a; out = out; answer = laid (wordsBytes (answerWords a)) place }
 
-unfoldable pub shownStep : Step → List ℕ → Seen
+unfoldable pub shownStep : Step → List ℕ → SeenByC
 shownStep (offered o a out) place = shownAs a out place
 shownStep (withdrawn n) place = record { returned = n; out = []; answer = place }
 
-unfoldable pub shown : CbrWriter → CCall → Seen
+unfoldable pub shown : CbrWriter → CCall → SeenByC
 shown w (offers o) =
-    pick (ltb (length (o .answer)) 72) (shownAs (refused 19 0 0 0) (o .out) (o .answer))
+    pick (ltb (length (o .answer)) answerSize) (shownAs (refused 19 0 0 0) (o .out) (o .answer))
     (pick (not (choicesFit o)) (shownAs (refused 12 0 0 0) (o .out) (o .answer))
     (shownStep (stepOf w (offering (offerOf o))) (o .answer)))
 shown w withdraws = shownStep (stepOf w withdrawing) []
 
-unfoldable pub shownAll : CbrWriter → List CCall → List Seen
+unfoldable pub shownAll : CbrWriter → List CCall → List SeenByC
 shownAll w [] = []
-shownAll w (c ∷ cs) = shown w c ∷ shownAll (final w (callsOf c)) cs
+shownAll w (c ∷ cs) = shown w c ∷ shownAll (final w (forWriter c)) cs
 
 -- of calls on the state of the writer w, created with c in a place, the frame rate of its code being f
 pub record FromC (c : CbrConfig) (f : ℕ × ℕ) (w : CbrWriter) (place : List ℕ) (cs : List CCall) : Type 0 where
   -- the writer is asked these calls, in order, each on what the one before left, and these are its answers
-  pub same : runC (stateAfter (creation c place) place) cs ≡ run w (calls cs)
+  pub same : stepsFromC (stateAfter (createIn c place) place) cs ≡ stepsOf w (allForWriter cs)
   -- C sees of every call what the writer shows of it; no call finds the state unfit
-  pub sees : seenC (stateAfter (creation c place) place) cs ≡ shownAll w cs
+  pub sees : seenOfAll (stateAfter (createIn c place) place) cs ≡ shownAll w cs
   -- the bytes that are left are those of the writer that is left
-  pub left : finalC (stateAfter (creation c place) place) cs ≡ laid (stateBytes (final w (calls cs))) place
-  pub demand : DemandOf c f w (calls cs)
+  pub left : finalState (stateAfter (createIn c place) place) cs ≡ laid (stateBytes (final w (allForWriter cs))) place
+  pub demand : DemandOf c f w (allForWriter cs)
 
 -- a creation that C sees accepted has a frame rate and a writer, and so it is with every list of calls
 pub record FromCreation (c : CbrConfig) (place : List ℕ) : Type 0 where
@@ -112,28 +112,28 @@ pub record FromCreation (c : CbrConfig) (place : List ℕ) : Type 0 where
   pub writer : CbrWriter
   pub rate-is : frameRate (c .«frame_rate_code») ≡ value rate
   pub writer-is : create c ≡ value writer
-  pub from-c : (cs : List CCall) → AllBytes (calls cs) → FromC c rate writer place cs
+  pub from-c : (cs : List CCall) → AllBytes (allForWriter cs) → FromC c rate writer place cs
 
 abbrev pub OwedFromC : Type 0
-OwedFromC = (c : CbrConfig) (place : List ℕ) → number (creation c place) ≡ 0 → FromCreation c place
+OwedFromC = (c : CbrConfig) (place : List ℕ) → number (createIn c place) ≡ 0 → FromCreation c place
 
 -- ---- one call
 
 -- what a refusal leaves as it was, of any state bytes and offer; Numbers.antt says which numbers there are
 pub record Keeps (s : List ℕ) (o : COffer) : Type 0 where
   -- state bytes that hold no writer are 12 before anything else
-  pub no-writer : stateFits s ≡ false → (answered s o ≡ refused 12 0 0 0) × (withdrawal s ≡ refused 12 0 0 0)
+  pub no-writer : stateFits s ≡ false → (offerIn s o ≡ refused 12 0 0 0) × (withdrawIn s ≡ refused 12 0 0 0)
   -- a refusal changes neither state nor output part, but that 21 does what a withdrawal does
-  pub state : 1 ≤ number (answered s o) → (number (answered s o) ≡ 21 → ⊥) → offerState s o ≡ s
-  pub closes : number (answered s o) ≡ 21 → offerState s o ≡ stateAfter (withdrawal s) s
+  pub state : 1 ≤ number (offerIn s o) → (number (offerIn s o) ≡ 21 → ⊥) → offerState s o ≡ s
+  pub closes : number (offerIn s o) ≡ 21 → offerState s o ≡ stateAfter (withdrawIn s) s
   -- which with nothing pending has nothing to close
-  pub not-pending : writerAt s .pending ≡ Nothing → stateAfter (withdrawal s) s ≡ s
-  pub out : 1 ≤ number (answered s o) → offerOut s o ≡ o .out
+  pub not-pending : writerAt s .pending ≡ Nothing → stateAfter (withdrawIn s) s ≡ s
+  pub out : 1 ≤ number (offerIn s o) → offerOut s o ≡ o .out
   -- an output part as large as the buffer always has room
-  pub room : 72 ≤ length (o .answer) → writerAt s .model .params .«buffer_size_bits» ≤ 8 * length (o .out) → number (answered s o) ≡ 19 → ⊥
+  pub room : answerSize ≤ length (o .answer) → writerAt s .model .params .«buffer_size_bits» ≤ 8 * length (o .out) → number (offerIn s o) ≡ 19 → ⊥
   -- a refused withdrawal, and a refused creation in the same place
-  pub not-withdrawn : 1 ≤ number (withdrawal s) → stateAfter (withdrawal s) s ≡ s
-  pub not-created : (c : CbrConfig) → 1 ≤ number (creation c s) → stateAfter (creation c s) s ≡ s
+  pub not-withdrawn : 1 ≤ number (withdrawIn s) → stateAfter (withdrawIn s) s ≡ s
+  pub not-created : (c : CbrConfig) → 1 ≤ number (createIn c s) → stateAfter (createIn c s) s ≡ s
 
 abbrev pub OwedOfRefusals : Type 0
 OwedOfRefusals = (s : List ℕ) (o : COffer) → Bytes s → Keeps s o

@@ -18,8 +18,8 @@ use Rattle.rate_control.specs.Offer.{Offer, offer, left, outAfter, withdraw}
 use Rattle.rate_control.specs.declared.CbrConfig.{CbrConfig}
 use Rattle.rate_control.specs.declared.CbrWriter.{CbrWriter}
 use Rattle.words.specs.Words.{wordsBytes, laid}
-use Rattle.layout.specs.State.{stateBytes, stateFits, writerAt}
-use Rattle.layout.specs.Answers.{answerWords}
+use Rattle.layout.specs.State.{stateSize, stateBytes, stateFits, writerAt}
+use Rattle.layout.specs.Answers.{answerSize, answerWords}
 use Rattle.hipokuta.specs.Lent.{Slice}
 
 -- the place of a state afterwards: the new writer's state over its first bytes; as it was beside a refusal
@@ -40,8 +40,8 @@ configOf rate buffer code quantiser between anchors = record {
 }
 
 -- 19 for a place too short for a state, then the creation's own answer
-unfoldable pub creation : CbrConfig → List ℕ → Answer CbrWriter
-creation c place = refuse 19 (ltb (length place) 152) (create c)
+unfoldable pub createIn : CbrConfig → List ℕ → Answer CbrWriter
+createIn c place = refuse 19 (ltb (length place) stateSize) (create c)
 
 -- ---- an offer
 
@@ -91,13 +91,13 @@ offerOf o = record {
 unfoldable pub reach : List ℕ → COffer → Answer (CbrWriter × Offer)
 reach s o =
     refuse 12 (not (stateFits s))
-    (refuse 19 (ltb (length (o .answer)) 72)
+    (refuse 19 (ltb (length (o .answer)) answerSize)
     (refuse 12 (not (choicesFit o))
     (value (writerAt s, offerOf o))))
 
 -- then the writer's own answer
-unfoldable pub answered : List ℕ → COffer → Answer Given
-answered s o = andThen (reach s o) (λ x. offer (x .0) (x .1))
+unfoldable pub offerIn : List ℕ → COffer → Answer Given
+offerIn s o = andThen (reach s o) (λ x. offer (x .0) (x .1))
 
 -- state, output part and answer place afterwards
 unfoldable pub offerState : List ℕ → COffer → List ℕ
@@ -107,10 +107,10 @@ unfoldable pub offerOut : List ℕ → COffer → List ℕ
 offerOut s o = orElse (o .out) (andThen (reach s o) (λ x. value (outAfter (x .0) (x .1))))
 
 unfoldable pub offerPlace : List ℕ → COffer → List ℕ
-offerPlace s o = laid (wordsBytes (answerWords (answered s o))) (o .answer)
+offerPlace s o = laid (wordsBytes (answerWords (offerIn s o))) (o .answer)
 
 -- ---- a withdrawal
 
 -- 12 for a state that holds no writer, then the withdrawal's own answer
-unfoldable pub withdrawal : List ℕ → Answer CbrWriter
-withdrawal s = refuse 12 (not (stateFits s)) (withdraw (writerAt s))
+unfoldable pub withdrawIn : List ℕ → Answer CbrWriter
+withdrawIn s = refuse 12 (not (stateFits s)) (withdraw (writerAt s))

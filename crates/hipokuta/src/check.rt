@@ -6,17 +6,15 @@ ghost use Rattle.verify.specs.Check.{reported};
 ghost use Rattle.words.specs.Words.{wordsBytes, laid};
 ghost use Rattle.layout.specs.Answers.{refusalWords};
 ghost use Rattle.hipokuta.specs.Check.{checkedIn, reportAfter, recordsAfter, refusalAfter};
+use bits::VbvRefusal;
+use bits::plain;
+use layout::REFUSAL_BYTES;
+use layout::REPORT_BYTES;
 use layout::put_refusal;
 use layout::put_report;
-use verify::VbvRefusal;
 use verify::VbvStandard;
 use verify::VbvVerified;
-use verify::plain;
 use verify::verify_cbr_stream;
-
-const REPORT_BYTES: usize = 40;
-
-const REFUSAL_BYTES: usize = 32;
 
 // A refusal in its place: its number.
 fn refuse(place: &mut [u8], r: VbvRefusal) -> u64

@@ -2,8 +2,11 @@
 ghost use mathlib.Core.Path.{_≡_};
 ghost use Rattle.bits.specs.Refusals.{number};
 ghost use Rattle.rate_control.specs.Answers.{offerAnswer};
-ghost use Rattle.hipokuta.specs.Send.{stateAfter, configOf, creation, brought, kindFor, intervalFor, answered, offerState, offerOut, offerPlace, withdrawal};
+ghost use Rattle.hipokuta.specs.Send.{stateAfter, configOf, createIn, brought, kindFor, intervalFor, offerIn, offerState, offerOut, offerPlace, withdrawIn};
+use bits::plain;
 use layers::PictureKind;
+use layout::ANSWER_BYTES;
+use layout::STATE_BYTES;
 use layout::put_answer;
 use layout::put_refused;
 use layout::put_state;
@@ -14,11 +17,6 @@ use rate_control::CbrCreation;
 use rate_control::CbrWithdrawal;
 use rate_control::CbrWriter;
 use vbv::RemovalInterval;
-use verify::plain;
-
-const STATE_BYTES: usize = 152;
-
-const ANSWER_BYTES: usize = 72;
 
 // A new writer in the place for its state: 0, or the refusal's number.
 #[no_mangle]
@@ -31,8 +29,8 @@ pub extern "C" fn cbr_create(
     anchors_per_gop: u8,
     state: &mut [u8],
 ) -> u64
-    ensures { λ r. ⌜ r ≡ number (creation (configOf «bit_rate_value» «vbv_buffer_size_value» «frame_rate_code» quantiser «b_between» «anchors_per_gop») (now (state .entry))) ⌝ }
-    ensures { λ r. ⌜ now (state .exit) ≡ stateAfter (creation (configOf «bit_rate_value» «vbv_buffer_size_value» «frame_rate_code» quantiser «b_between» «anchors_per_gop») (now (state .entry))) (now (state .entry)) ⌝ }
+    ensures { λ r. ⌜ r ≡ number (createIn (configOf «bit_rate_value» «vbv_buffer_size_value» «frame_rate_code» quantiser «b_between» «anchors_per_gop») (now (state .entry))) ⌝ }
+    ensures { λ r. ⌜ now (state .exit) ≡ stateAfter (createIn (configOf «bit_rate_value» «vbv_buffer_size_value» «frame_rate_code» quantiser «b_between» «anchors_per_gop») (now (state .entry))) (now (state .entry)) ⌝ }
 {
     if state.len() < STATE_BYTES {
         return 19;
@@ -104,7 +102,7 @@ pub extern "C" fn cbr_offer(
     out: &mut [u8],
     answer: &mut [u8],
 ) -> u64
-    ensures { λ r. ⌜ r ≡ number (answered (now (state .entry)) (brought headers kind interval last layer out answer)) ⌝ }
+    ensures { λ r. ⌜ r ≡ number (offerIn (now (state .entry)) (brought headers kind interval last layer out answer)) ⌝ }
     ensures { λ r. ⌜ now (state .exit) ≡ offerState (now (state .entry)) (brought headers kind interval last layer out answer) ⌝ }
     ensures { λ r. ⌜ now (out .exit) ≡ offerOut (now (state .entry)) (brought headers kind interval last layer out answer) ⌝ }
     ensures { λ r. ⌜ now (answer .exit) ≡ offerPlace (now (state .entry)) (brought headers kind interval last layer out answer) ⌝ }
@@ -137,8 +135,8 @@ pub extern "C" fn cbr_offer(
 // Closes the pending picture, if there is one: 0, or 12 where the state holds no writer.
 #[no_mangle]
 pub extern "C" fn cbr_withdraw(state: &mut [u8]) -> u64
-    ensures { λ r. ⌜ r ≡ number (withdrawal (now (state .entry))) ⌝ }
-    ensures { λ r. ⌜ now (state .exit) ≡ stateAfter (withdrawal (now (state .entry))) (now (state .entry)) ⌝ }
+    ensures { λ r. ⌜ r ≡ number (withdrawIn (now (state .entry))) ⌝ }
+    ensures { λ r. ⌜ now (state .exit) ≡ stateAfter (withdrawIn (now (state .entry))) (now (state .entry)) ⌝ }
 {
     let held = read_state(state);
     if held.fits {

@@ -7,17 +7,17 @@ use native.Mathlib.Omega.{arith}
 use lib.ListN.{length}
 use Rattle.bits.specs.Refusals.{refused}
 use Rattle.bits.specs.declared.VbvRefusal.{VbvRefusal}
-use Rattle.rate_control.specs.Answers.{refusalOf, offerAnswer}
+use Rattle.rate_control.specs.Answers.{offerRefusal, offerAnswer}
 use Rattle.rate_control.specs.declared.CbrError.{CbrError}
 use Rattle.rate_control.specs.declared.CbrAnswer.{CbrAnswer}
 use Rattle.rate_control.specs.declared.CbrAnswer.the-variants.{Placed, Again, Refused}
 use Rattle.words.specs.Words.{wordsBytes, laid}
-use Rattle.layout.specs.Answers.{answerWords}
+use Rattle.layout.specs.Answers.{answerSize, answerWords}
 use Rattle.words.proofs.Bytes.{length-words}
 
-pub length-refused : (n picture coded expected : ℕ) → length (wordsBytes (answerWords (refused n picture coded expected))) ≡ 72
+pub length-refused-answer : (n picture coded expected : ℕ) → length (wordsBytes (answerWords (refused n picture coded expected))) ≡ answerSize
 unfolding answerWords
-length-refused n picture coded expected = omega (arith, length-words (answerWords (refused n picture coded expected)))
+length-refused-answer n picture coded expected = omega (arith, length-words (answerWords (refused n picture coded expected)))
 
 module _ (a : CbrAnswer) (place after : List ℕ) where
   pub way-placed : (q delay bytes zeros : ℕ) → a ≡ Placed q delay bytes zeros
@@ -30,7 +30,7 @@ module _ (a : CbrAnswer) (place after : List ℕ) where
   unfolding answerWords
   way-again q e w = rw e w
 
-  pub way-refused : (e : CbrError) (r : VbvRefusal) → a ≡ Refused e → r ≡ refusalOf e
+  pub way-refused : (e : CbrError) (r : VbvRefusal) → a ≡ Refused e → r ≡ offerRefusal e
       → after ≡ laid (wordsBytes (answerWords (refused (r .number) (r .picture) (r .coded) (r .expected)))) place
       → after ≡ laid (wordsBytes (answerWords (offerAnswer a))) place
   way-refused e r h g w = rw (h, ← g) w

@@ -6,16 +6,16 @@ use mathlib.Core.List.{List}
 use Prim.Native.Nat.{ℕ}
 use Rattle.bits.specs.Bits.{pick}
 use Rattle.rate_control.specs.Create.{noWriter}
-use Rattle.layout.specs.State.{stateFits, writerAt, held}
+use Rattle.layout.specs.State.{stateFits, writerAt, stateAt}
 use Rattle.layout.specs.declared.CbrState.{CbrState}
 
-module _ (s : List ℕ) (x : CbrState) (e : x ≡ held s) where
+module _ (s : List ℕ) (x : CbrState) (e : x ≡ stateAt s) where
   fitting : stateFits s ≡ true → x ≡ record { fits = true; writer = writerAt s }
-  unfolding held pick
+  unfolding stateAt pick
   fitting f = e ∙ rw f
 
   unfitting : stateFits s ≡ false → x ≡ record { fits = false; writer = noWriter }
-  unfolding held pick
+  unfolding stateAt pick
   unfitting f = e ∙ rw f
 
   pub holds : x .fits ≡ true → (stateFits s ≡ true) × (x .writer ≡ writerAt s)

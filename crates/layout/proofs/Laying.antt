@@ -3,20 +3,16 @@
 use mathlib.Core.Path.{_≡_, refl}
 use Prim.Native.Nat.{ℕ}
 use mathlib.Core.List.{List, [], _∷_, _++_}
-use native.Mathlib.Omega.{arith}
 use lib.ListN.{length, getD}
 use Rattle.words.specs.Words.{wordsBytes, laid}
 use Rattle.headers.specs.Answers.{flagOf}
 use Rattle.rate_control.specs.declared.CbrWriter.{CbrWriter}
+use Rattle.rate_control.proofs.States.{Three, of-three, is-three}
 use Rattle.layout.specs.State.{pendingCode, pendingQuantiser, stateWords, stateBytes}
 
 -- three values one by one
-three : (s t : List ℕ) → length s ≡ 3 → s ++ t ≡ getD s 0 0 ∷ getD s 1 0 ∷ getD s 2 0 ∷ t
-three [] t e = absurd (omega arith)
-three (a ∷ []) t e = absurd (omega arith)
-three (a ∷ b ∷ []) t e = absurd (omega arith)
-three (a ∷ b ∷ c ∷ []) t e = refl
-three (a ∷ b ∷ c ∷ d ∷ s) t e = absurd (omega arith)
+three-then : {s : List ℕ} (t : List ℕ) → Three s → s ++ t ≡ getD s 0 0 ∷ getD s 1 0 ∷ getD s 2 0 ∷ t
+three-then t (of-three a b c) = refl
 
 pub state-told : (place : List ℕ) (w : CbrWriter) (started code waits finished : ℕ) → length (w .«target_bits») ≡ 3 → length (w .q) ≡ 3
     → started ≡ flagOf (w .model .started) → code ≡ pendingCode (w .pending) → waits ≡ pendingQuantiser (w .pending) → finished ≡ flagOf (w .finished)
@@ -48,4 +44,4 @@ pub state-told : (place : List ℕ) (w : CbrWriter) (started code waits finished
     → out ≡ laid (stateBytes w) place
 unfolding stateBytes stateWords
 state-told place w started code waits finished l m e f g h out z =
-    rw (three (w .«target_bits») _ l, three (w .q) _ m, ← e, ← f, ← g, ← h) z
+    rw (three-then _ (is-three (w .«target_bits») l), three-then _ (is-three (w .q) m), ← e, ← f, ← g, ← h) z

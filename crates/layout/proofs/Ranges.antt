@@ -9,13 +9,14 @@ use lib.Dec.{leb}
 use lib.ListN.{getD}
 use borrow.Author.Tests.{leb-true}
 use Rattle.layers.specs.declared.PictureKind.the-variants.{I, P, B}
-use Rattle.rate_control.specs.Writer.{quantiser, every, pendingFits, writerFits}
+use Rattle.rate_control.specs.Writer.{quantiserFits, allFit, pendingFits, writerFits}
 use Rattle.rate_control.specs.declared.Pending.{Pending}
 use Rattle.rate_control.specs.declared.Pending.the-variants.{Nothing, Waits}
 use Rattle.rate_control.specs.declared.CbrWriter.{CbrWriter}
 use Rattle.headers.proofs.Answers.{flag-bound}
+use Rattle.vbv.specs.Model.{farthest}
 use Rattle.vbv.proofs.Fitting.{model-fits}
-use Rattle.rate_control.proofs.Fitting.{every-at, quantiser-is, writer-fits}
+use Rattle.rate_control.proofs.Fitting.{all-fit-at, quantiser-is, writer-fits}
 use Rattle.rate_control.proofs.States.{pending-some}
 use Rattle.layout.specs.State.{pendingCode, pendingQuantiser, stateWords}
 use Rattle.words.proofs.Bytes.{AllSmall, none, some, each-small, small-append}
@@ -30,17 +31,17 @@ code-low (Waits B q) = omega arith
 quantiser-low : (p : Pending) → pendingFits p ≡ true → pendingQuantiser p ≤ 31
 unfolding pendingQuantiser
 quantiser-low Nothing h = omega arith
-quantiser-low (Waits k q) h = quantiser-is (pending-some (Waits k q) k q (quantiser q) refl refl ∙ h) .high
+quantiser-low (Waits k q) h = quantiser-is (pending-some (Waits k q) k q (quantiserFits q) refl refl ∙ h) .high
 
-targets-small : (vs : List ℕ) → every (λ t. leb t (2 ^ 48)) vs ≡ true → AllSmall vs
-targets-small vs h = each-small vs (λ k g. omega (arith, leb-true (getD vs k 0) (2 ^ 48) (every-at _ vs k h g)))
+targets-small : (vs : List ℕ) → allFit (λ t. leb t farthest) vs ≡ true → AllSmall vs
+targets-small vs h = each-small vs (λ k g. omega (arith, leb-true (getD vs k 0) farthest (all-fit-at _ vs k h g)))
 
-quantisers-small : (vs : List ℕ) → every quantiser vs ≡ true → AllSmall vs
-quantisers-small vs h = each-small vs (λ k g. omega (arith, quantiser-is (every-at quantiser vs k h g) .high))
+quantisers-small : (vs : List ℕ) → allFit quantiserFits vs ≡ true → AllSmall vs
+quantisers-small vs h = each-small vs (λ k g. omega (arith, quantiser-is (all-fit-at quantiserFits vs k h g) .high))
 
 -- as a function, so that the goal says which word is meant
-more : {v : ℕ} {vs : List ℕ} → v < 2 ^ 64 → AllSmall vs → AllSmall (v ∷ vs)
-more h f = some h f
+small-more : {v : ℕ} {vs : List ℕ} → v < 2 ^ 64 → AllSmall vs → AllSmall (v ∷ vs)
+small-more h f = some h f
 
 pub state-small : (w : CbrWriter) → writerFits w ≡ true → AllSmall (stateWords w)
 unfolding stateWords
@@ -48,18 +49,18 @@ state-small w h =
     let f = writer-fits h in
     let m = model-fits (f .model-fits) in
     let p = m .params-fit in
-    more (omega (arith, p .rate-high))
-    (more (omega (arith, p .size-high))
-    (more (omega (arith, p .frn-high))
-    (more (omega (arith, p .frd-high))
-    (more (omega (arith, m .whole-high))
-    (more (omega (arith, m .rest-low, p .frn-high))
-    (more (omega (arith, m .end-high))
-    (more (omega (arith, m .removed-high))
-    (more (omega (arith, flag-bound (w .model .started)))
+    small-more (omega (arith, p .rate-high))
+    (small-more (omega (arith, p .size-high))
+    (small-more (omega (arith, p .frn-high))
+    (small-more (omega (arith, p .frd-high))
+    (small-more (omega (arith, m .whole-high))
+    (small-more (omega (arith, m .rest-low, p .frn-high))
+    (small-more (omega (arith, m .end-high))
+    (small-more (omega (arith, m .removed-high))
+    (small-more (omega (arith, flag-bound (w .model .started)))
     (small-append (targets-small (w .«target_bits») (f .targets))
     (small-append (quantisers-small (w .q) (f .quantisers))
-    (more (omega (arith, code-low (w .pending)))
-    (more (omega (arith, quantiser-low (w .pending) (f .pending)))
-    (more (omega (arith, f .stuffed, m .end-high))
-    (more (omega (arith, flag-bound (w .finished))) none))))))))))))))
+    (small-more (omega (arith, code-low (w .pending)))
+    (small-more (omega (arith, quantiser-low (w .pending) (f .pending)))
+    (small-more (omega (arith, f .stuffed, m .end-high))
+    (small-more (omega (arith, flag-bound (w .finished))) none))))))))))))))

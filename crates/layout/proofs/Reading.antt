@@ -15,29 +15,29 @@ use Rattle.vbv.specs.declared.VbvCbrModel.{VbvCbrModel}
 use Rattle.layers.specs.declared.PictureKind.{PictureKind}
 use Rattle.layers.specs.declared.PictureKind.the-variants.{I, P, B}
 use Rattle.rate_control.specs.Create.{noWriter}
-use Rattle.rate_control.specs.Writer.{quantiser, pendingFits, writerFits}
+use Rattle.rate_control.specs.Writer.{quantiserFits, pendingFits, writerFits}
 use Rattle.rate_control.specs.declared.Pending.{Pending}
 use Rattle.rate_control.specs.declared.Pending.the-variants.{Waits}
 use Rattle.rate_control.specs.declared.CbrWriter.{CbrWriter}
-use Rattle.rate_control.proofs.Fitting.{every-at, quantiser-is, writer-fits}
+use Rattle.rate_control.proofs.Fitting.{all-fit-at, quantiser-is, writer-fits}
 use Rattle.rate_control.proofs.States.{pending-some}
 use Rattle.words.specs.Words.{wordAt}
-use Rattle.layout.specs.State.{codesFit, pendingOf, writerAt, stateFits, held}
+use Rattle.layout.specs.State.{stateSize, codesFit, pendingOf, writerAt, stateFits, stateAt}
 use Rattle.layout.specs.Steps.{Narrow, narrow}
 use Rattle.layout.specs.declared.CbrState.{CbrState}
 use Rattle.layout.proofs.RoundTrip.{state-fits}
 
-abbrev unfit : CbrState
-unfit = record { fits = false; writer = noWriter }
+abbrev noState : CbrState
+noState = record { fits = false; writer = noWriter }
 
-pub unfit-told : (w : CbrWriter) → w ≡ noWriter → record { fits = false; writer = w } ≡ unfit
+pub unfit-told : (w : CbrWriter) → w ≡ noWriter → record { fits = false; writer = w } ≡ noState
 unfit-told w e = rw e
 
 -- a test in strict operations, and the definition's
-told : (a b : Bool) → (not a || b) ≡ pick a b true
+or-pick : (a b : Bool) → (not a || b) ≡ pick a b true
 unfolding pick
-told true b = refl
-told false b = refl
+or-pick true b = refl
+or-pick false b = refl
 
 -- a pending picture in its range has a quantiser of few bits
 waits-low : (code q : ℕ) → pick (eqb code 0) (eqb q 0) true ≡ true → pendingFits (pendingOf code q) ≡ true → q ≤ 31
@@ -50,7 +50,7 @@ waits-low code q h =
     Low x = pendingFits x ≡ true → q ≤ 31
 
     low : (k : PictureKind) → pendingFits (Waits k q) ≡ true → q ≤ 31
-    low k f = quantiser-is (pending-some (Waits k q) k q (quantiser q) refl refl ∙ f) .high
+    low k f = quantiser-is (pending-some (Waits k q) k q (quantiserFits q) refl refl ∙ f) .high
 
 module _ (s : List ℕ) where
   pub model-told : (a b c d e f g h i : ℕ) → a ≡ wordAt s 0 → b ≡ wordAt s 1 → c ≡ wordAt s 2 → d ≡ wordAt s 3 → e ≡ wordAt s 4
@@ -68,7 +68,7 @@ module _ (s : List ℕ) where
       ≡ narrow s
   unfolding narrow codesFit
   narrow-told started code waits i p b finished e f g h j k l =
-      rw (e, f, g, h, j, k, l, told (eqb (wordAt s 15) 0) (eqb (wordAt s 16) 0))
+      rw (e, f, g, h, j, k, l, or-pick (eqb (wordAt s 15) 0) (eqb (wordAt s 16) 0))
 
   narrow-is : narrow s ≡ true → (codesFit s ≡ true) × Narrow s
   unfolding narrow
@@ -105,29 +105,29 @@ module _ (s : List ℕ) where
       let b = both-true (leb (wordAt s 15) 3) _ (a .1) in
       let c = both-true (pick (eqb (wordAt s 15) 0) (eqb (wordAt s 16) 0) true) _ (b .1) in
       record {
-        i = quantiser-is (every-at quantiser _ 0 (w .quantisers) (omega arith)) .high;
-        p = quantiser-is (every-at quantiser _ 1 (w .quantisers) (omega arith)) .high;
-        b = quantiser-is (every-at quantiser _ 2 (w .quantisers) (omega arith)) .high;
+        i = quantiser-is (all-fit-at quantiserFits _ 0 (w .quantisers) (omega arith)) .high;
+        p = quantiser-is (all-fit-at quantiserFits _ 1 (w .quantisers) (omega arith)) .high;
+        b = quantiser-is (all-fit-at quantiserFits _ 2 (w .quantisers) (omega arith)) .high;
         waits = waits-low _ _ (c .0) (w .pending);
       }
 
   -- the ways through
-  unheld : (r : CbrState) → (stateFits s ≡ true → ⊥) → r ≡ unfit → r ≡ held s
-  unfolding held
-  unheld r f e = pick-elim (λ x. r ≡ x) (stateFits s) (λ h. absurd (f h)) (λ h. e)
+  not-state : (r : CbrState) → (stateFits s ≡ true → ⊥) → r ≡ noState → r ≡ stateAt s
+  unfolding stateAt
+  not-state r f e = pick-elim (λ x. r ≡ x) (stateFits s) (λ h. absurd (f h)) (λ h. e)
 
-  pub way-short : (r : CbrState) → length s < 152 → r ≡ unfit → r ≡ held s
-  way-short r h = unheld r (λ e. absurd (omega (arith, state-fits s e .0)))
+  pub way-short : (r : CbrState) → length s < stateSize → r ≡ noState → r ≡ stateAt s
+  way-short r h = not-state r (λ e. absurd (omega (arith, state-fits s e .0)))
 
   module _ (n : Bool) (e : n ≡ narrow s) where
-    pub way-wide : (r : CbrState) → n ≡ false → r ≡ unfit → r ≡ held s
+    pub way-wide : (r : CbrState) → n ≡ false → r ≡ noState → r ≡ stateAt s
     way-wide r h =
-        unheld r (λ f. let g = state-fits s f in true≢false (sym (is-narrow (g .1) (fits-narrow (g .1) (g .2))) ∙ sym e ∙ h))
+        not-state r (λ f. let g = state-fits s f in true≢false (sym (is-narrow (g .1) (fits-narrow (g .1) (g .2))) ∙ sym e ∙ h))
 
     module _ (w : CbrWriter) (f : Bool) (g : w ≡ writerAt s) (k : f ≡ writerFits w) where
-      pub way-unfit : (r : CbrState) → f ≡ false → r ≡ unfit → r ≡ held s
-      way-unfit r h = unheld r (λ z. true≢false (sym (state-fits s z .2) ∙ rw (← g, ← k) h))
+      pub way-unfit : (r : CbrState) → f ≡ false → r ≡ noState → r ≡ stateAt s
+      way-unfit r h = not-state r (λ z. true≢false (sym (state-fits s z .2) ∙ rw (← g, ← k) h))
 
-      pub way-held : 152 ≤ length s → n ≡ true → f ≡ true → _≡_ {A = CbrState} (record { fits = true; writer = w }) (held s)
-      unfolding held stateFits pick
-      way-held h t u = rw (le-leb 152 (length s) h, narrow-is (sym e ∙ t) .0, ← g, ← k, u)
+      pub way-held : stateSize ≤ length s → n ≡ true → f ≡ true → _≡_ {A = CbrState} (record { fits = true; writer = w }) (stateAt s)
+      unfolding stateAt stateFits pick
+      way-held h t u = rw (le-leb stateSize (length s) h, narrow-is (sym e ∙ t) .0, ← g, ← k, u)

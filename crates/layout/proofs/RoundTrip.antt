@@ -20,24 +20,14 @@ use Rattle.rate_control.specs.Writer.{writerFits}
 use Rattle.rate_control.specs.declared.Pending.{Pending}
 use Rattle.rate_control.specs.declared.Pending.the-variants.{Nothing, Waits}
 use Rattle.rate_control.specs.declared.CbrWriter.{CbrWriter}
+use Rattle.rate_control.proofs.States.{Three, of-three, is-three}
 use Rattle.words.specs.Words.{wordsBytes, laid, wordAt}
 use Rattle.words.proofs.Bytes.{length-words, word-put, wordsFrom, words-back}
 use Rattle.words.proofs.Laying.{laid-over, length-laid}
-use Rattle.layout.specs.State.{pendingCode, pendingQuantiser, stateWords, stateBytes, pendingOf, codesFit, writerAt, stateFits, held}
+use Rattle.layout.specs.State.{stateSize, pendingCode, pendingQuantiser, stateWords, stateBytes, pendingOf, codesFit, writerAt, stateFits}
 use Rattle.layout.proofs.Ranges.{code-low, state-small}
 
 -- ---- a writer's lists
-
--- three numbers
-data Three : List ℕ → Type 0 where
-  three : (a b c : ℕ) → Three (a ∷ b ∷ c ∷ [])
-
-is-three : (vs : List ℕ) → length vs ≡ 3 → Three vs
-is-three [] h = absurd (omega arith)
-is-three (a ∷ []) h = absurd (omega arith)
-is-three (a ∷ b ∷ []) h = absurd (omega arith)
-is-three (a ∷ b ∷ c ∷ []) h = three a b c
-is-three (a ∷ b ∷ c ∷ d ∷ vs) h = absurd (omega arith)
 
 length-state-words : (w : CbrWriter) → length (w .«target_bits») ≡ 3 → length (w .q) ≡ 3 → length (stateWords w) ≡ 19
 unfolding stateWords
@@ -45,7 +35,7 @@ length-state-words w t q =
     let rest = pendingCode (w .pending) ∷ pendingQuantiser (w .pending) ∷ w .«stuffing_bytes» ∷ flagOf (w .finished) ∷ [] in
     omega (arith, length-append (w .«target_bits») (w .q ++ rest), length-append (w .q) rest)
 
-pub length-state : (w : CbrWriter) → length (w .«target_bits») ≡ 3 → length (w .q) ≡ 3 → length (stateBytes w) ≡ 152
+pub length-state : (w : CbrWriter) → length (w .«target_bits») ≡ 3 → length (w .q) ≡ 3 → length (stateBytes w) ≡ stateSize
 unfolding stateBytes
 length-state w t q = omega (arith, length-words (stateWords w), length-state-words w t q)
 
@@ -70,7 +60,7 @@ pending-told (Waits B q) = refl
 abbrev Stand : CbrWriter → List ℕ → Type 0
 Stand w s = (k : ℕ) → T (ltb k 19) → wordAt s k ≡ getD (stateWords w) k 0
 
-stand-put : (w : CbrWriter) (place : List ℕ) → writerFits w ≡ true → length (w .«target_bits») ≡ 3 → length (w .q) ≡ 3 → 152 ≤ length place
+stand-put : (w : CbrWriter) (place : List ℕ) → writerFits w ≡ true → length (w .«target_bits») ≡ 3 → length (w .q) ≡ 3 → stateSize ≤ length place
     → Stand w (laid (stateBytes w) place)
 unfolding stateBytes
 stand-put w place h t q l k g =
@@ -84,7 +74,7 @@ stand-read : (m : VbvCbrModel) {t q : List ℕ} → Three t → Three q → (p :
     → (codesFit s ≡ true)
     × (writerAt s ≡ record { model = m; «target_bits» = t; q = q; pending = p; «stuffing_bytes» = n; finished = f })
 unfolding stateWords codesFit writerAt
-stand-read m (three a b c) (three d e g) p n f s at = (
+stand-read m (of-three a b c) (of-three d e g) p n f s at = (
   rw (at 8 tt, at 15 tt, at 16 tt, at 18 tt, pending-told p) (simp (le-leb _ _ (flag-bound (m .started)), le-leb _ _ (code-low p), le-leb _ _ (flag-bound f))),
   rw (
     at 0 tt,
@@ -112,7 +102,7 @@ stand-read m (three a b c) (three d e g) p n f s at = (
   ),
 )
 
-module _ (w : CbrWriter) (place : List ℕ) (h : writerFits w ≡ true) (t : length (w .«target_bits») ≡ 3) (q : length (w .q) ≡ 3) (l : 152 ≤ length place) where
+module _ (w : CbrWriter) (place : List ℕ) (h : writerFits w ≡ true) (t : length (w .«target_bits») ≡ 3) (q : length (w .q) ≡ 3) (l : stateSize ≤ length place) where
   pub read-put : (stateFits (laid (stateBytes w) place) ≡ true) × (writerAt (laid (stateBytes w) place) ≡ w)
   unfolding stateFits
   read-put =
@@ -120,18 +110,13 @@ module _ (w : CbrWriter) (place : List ℕ) (h : writerFits w ≡ true) (t : len
       let r = stand-read (w .model) (is-three _ t) (is-three _ q) (w .pending) (w .«stuffing_bytes») (w .finished) s (stand-put w place h t q l) in
       (rw (length-laid (stateBytes w) place, le-leb _ _ l, r .0, r .1, h), r .1)
 
-  -- so the place holds the writer
-  pub held-put : held (laid (stateBytes w) place) ≡ record { fits = true; writer = w }
-  unfolding held pick
-  held-put = rw (read-put .0, read-put .1)
-
 -- ---- put back what was read
 
 -- what the test of a place says
-pub state-fits : (s : List ℕ) → stateFits s ≡ true → (152 ≤ length s) × (codesFit s ≡ true) × (writerFits (writerAt s) ≡ true)
+pub state-fits : (s : List ℕ) → stateFits s ≡ true → (stateSize ≤ length s) × (codesFit s ≡ true) × (writerFits (writerAt s) ≡ true)
 unfolding stateFits
 state-fits s h =
-    let a = both-true (leb 152 (length s)) _ h in
+    let a = both-true (leb stateSize (length s)) _ h in
     let b = both-true (codesFit s) _ (a .1) in
     (leb-true _ _ (a .0), b .0, b .1)
 
@@ -168,5 +153,5 @@ pub read-back : (s : List ℕ) → stateFits s ≡ true → ((k : ℕ) → getD 
 unfolding stateBytes
 read-back s h b =
     let f = state-fits s h in
-    let l = length-take-le 152 s (f .0) in
-    rw (words-read s (f .1), words-back s 19 0 b (f .0), laid-over (take 152 s) s (omega arith), over-is (take 152 s) s, l) (take-append-drop 152 s)
+    let l = length-take-le stateSize s (f .0) in
+    rw (words-read s (f .1), words-back s 19 0 b (f .0), laid-over (take stateSize s) s (omega arith), over-is (take stateSize s) s, l) (take-append-drop stateSize s)

@@ -7,6 +7,16 @@ use Rattle.bits.specs.declared.VbvRefusal.{VbvRefusal}
 use Rattle.bits.specs.Refusals.{Answer, value, refused}
 use Rattle.rate_control.specs.Answers.{Given, placed, again}
 
+-- how many bytes each has: five, four and nine words
+abbrev pub reportSize : ℕ
+reportSize = 40
+
+abbrev pub refusalSize : ℕ
+refusalSize = 32
+
+abbrev pub answerSize : ℕ
+answerSize = 72
+
 unfoldable pub reportWords : VbvStreamReport → List ℕ
 reportWords r =
     r .«bit_rate» ∷ r .«buffer_size_bits» ∷ r .pictures ∷ r .«min_occupancy_after_bits» ∷ r .«max_occupancy_before_bits» ∷ []
@@ -16,6 +26,6 @@ refusalWords r = r .number ∷ r .picture ∷ r .coded ∷ r .expected ∷ []
 
 -- outcome (0 placed, 1 again, 2 refused), number, picture, coded, expected, quantiser, delay, bytes placed, stuffing bytes among them; 0 where an outcome has no use for it
 unfoldable pub answerWords : Answer Given → List ℕ
-answerWords (value (placed q delay bytes zeros)) = 0 ∷ 0 ∷ 0 ∷ 0 ∷ 0 ∷ q ∷ delay ∷ bytes ∷ zeros ∷ []
+answerWords (value (placed q delay bytes stuffing)) = 0 ∷ 0 ∷ 0 ∷ 0 ∷ 0 ∷ q ∷ delay ∷ bytes ∷ stuffing ∷ []
 answerWords (value (again q)) = 1 ∷ 0 ∷ 0 ∷ 0 ∷ 0 ∷ q ∷ 0 ∷ 0 ∷ 0 ∷ []
 answerWords (refused n picture coded expected) = 2 ∷ n ∷ picture ∷ coded ∷ expected ∷ 0 ∷ 0 ∷ 0 ∷ 0 ∷ []

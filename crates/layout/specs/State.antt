@@ -1,4 +1,4 @@
--- A writer's state as bytes (docs/LAYOUT.md, 'A writer's state'): nineteen words; and the writer that bytes hold.
+-- A writer's state as bytes (docs/LAYOUT.md, 'A writer's state'), and the writer that bytes hold.
 -- Bytes that are too few, or with a value out of its range, hold none (paper 01, 'Rust forms to replace').
 -- Assumes nothing.
 use Prim.Native.Nat.{ℕ, _+_}
@@ -16,6 +16,10 @@ use Rattle.rate_control.specs.declared.Pending.the-variants.{Nothing, Waits}
 use Rattle.rate_control.specs.declared.CbrWriter.{CbrWriter}
 use Rattle.words.specs.Words.{wordsBytes, wordAt}
 use Rattle.layout.specs.declared.CbrState.{CbrState}
+
+-- nineteen words of 8 bytes
+abbrev pub stateSize : ℕ
+stateSize = 152
 
 -- ---- written
 
@@ -88,8 +92,8 @@ writerAt s = record {
 }
 
 unfoldable pub stateFits : List ℕ → Bool
-stateFits s = leb 152 (length s) && (codesFit s && writerFits (writerAt s))
+stateFits s = leb stateSize (length s) && (codesFit s && writerFits (writerAt s))
 
 -- beside bytes that hold none stands a writer of no use
-unfoldable pub held : List ℕ → CbrState
-held s = pick (stateFits s) (record { fits = true; writer = writerAt s }) (record { fits = false; writer = noWriter })
+unfoldable pub stateAt : List ℕ → CbrState
+stateAt s = pick (stateFits s) (record { fits = true; writer = writerAt s }) (record { fits = false; writer = noWriter })

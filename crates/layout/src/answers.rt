@@ -4,8 +4,8 @@ ghost use Rattle.words.specs.Words.{wordsBytes, laid};
 ghost use Rattle.bits.specs.Refusals.{refused};
 ghost use Rattle.rate_control.specs.Answers.{offerAnswer};
 ghost use Rattle.layout.specs.Answers.{reportWords, refusalWords, answerWords};
+use bits::VbvRefusal;
 use rate_control::CbrAnswer;
-use verify::VbvRefusal;
 use verify::VbvStreamReport;
 use words::put_words;
 

@@ -10,6 +10,15 @@ pub use crate::state::put_state;
 pub use crate::state::read_state;
 use rate_control::CbrWriter;
 
+// How many bytes each takes.
+pub const REPORT_BYTES: usize = 40;
+
+pub const REFUSAL_BYTES: usize = 32;
+
+pub const ANSWER_BYTES: usize = 72;
+
+pub const STATE_BYTES: usize = 152;
+
 // Whether a place holds a writer, and the writer.
 pub struct CbrState {
     pub fits: bool,

@@ -4,9 +4,10 @@ ghost use mathlib.Core.Bool.{false};
 ghost use Rattle.headers.specs.Answers.{flagOf};
 ghost use Rattle.rate_control.specs.Create.{noWriter};
 ghost use Rattle.words.specs.Words.{laid};
-ghost use Rattle.layout.specs.State.{pendingCode, pendingQuantiser, pendingOf, writerAt, stateBytes, held};
-ghost use Rattle.layout.specs.Steps.{Narrow, narrow as narrowOf};
+ghost use Rattle.layout.specs.State.{pendingCode, pendingQuantiser, pendingOf, writerAt, stateBytes, stateAt};
+ghost use Rattle.layout.specs.Steps.{Narrow, narrow};
 use crate::CbrState;
+use crate::STATE_BYTES;
 use layers::PictureKind;
 use rate_control::CbrWriter;
 use rate_control::Pending;
@@ -15,8 +16,6 @@ use vbv::VbvCbrModel;
 use vbv::VbvParams;
 use words::put_words;
 use words::word_at;
-
-const STATE_BYTES: usize = 152;
 
 fn flag(value: bool) -> u64
     ensures { λ r. ⌜ r ≡ flagOf value ⌝ }
@@ -101,7 +100,7 @@ fn model_at(place: &[u8]) -> VbvCbrModel
 
 // The words that a writer has in fewer bits: flags, the pending picture, quantisers up to 31.
 fn narrow(place: &[u8]) -> bool
-    ensures { λ r. ⌜ r ≡ narrowOf (now (place .entry)) ⌝ }
+    ensures { λ r. ⌜ r ≡ narrow (now (place .entry)) ⌝ }
 {
     let code = word_at(place, 15);
     let q = word_at(place, 16);
@@ -154,7 +153,7 @@ fn unfit() -> CbrState
 
 // The writer that a place holds: none where it is too short or has a value out of its range.
 pub fn read_state(place: &[u8]) -> CbrState
-    ensures { λ r. ⌜ r ≡ held (now (place .entry)) ⌝ }
+    ensures { λ r. ⌜ r ≡ stateAt (now (place .entry)) ⌝ }
 {
     if place.len() < STATE_BYTES {
         return unfit();

@@ -3,10 +3,10 @@
 use mathlib.Core.Path.{_≡_, refl, sym, ap, _∙_}
 use mathlib.Core.Bool.{true, false}
 use mathlib.Core.List.{List, [], _∷_}
-use Prim.Native.Nat.{ℕ, suc, _+_, _-_, _*_, _^_, _≤_}
+use Prim.Native.Nat.{ℕ, suc, _+_, _-_, _*_, _≤_}
 use native.Mathlib.Omega.{arith}
 use lib.ListN.{length}
-use Rattle.vbv.specs.Model.{paramsFit}
+use Rattle.vbv.specs.Model.{farthest, paramsFit}
 use Rattle.vbv.specs.declared.VbvParams.{VbvParams}
 use Rattle.vbv.proofs.Laws.{units-over, units-beyond}
 use Rattle.verify.specs.Run.{run}
@@ -16,14 +16,14 @@ use Rattle.verify.specs.Sequence.{declared}
 use Rattle.verify.specs.declared.VbvStandard.the-variants.{Mpeg2}
 use Rattle.verify.proofs.Accepting.{Passed, exactRecord, run-none, run-passed, accepted}
 use Rattle.layers.proofs.Stream.{Part, PartsFit, part, stream, coded, coded-none, stream-coded, stream-declared}
-use Rattle.rate_control.specs.Sent.{Sent, endToEnd, none, next, sentRecord, sentRecords, Passes}
-use Rattle.rate_control.proofs.Removing.{Done, Course, First}
-use Rattle.rate_control.proofs.Sending.{codedOf, codedBy, Sending}
+use Rattle.rate_control.specs.Sent.{Sent, endToEnd, no-removal, removal-then, sentRecord, sentRecords, PassesCheck}
+use Rattle.rate_control.proofs.Removing.{Done, RemovalsDone, EachDone}
+use Rattle.rate_control.proofs.Sending.{codedSent, codedBy, Sending}
 
 -- ---- the run over the pictures
 
-done-passed : {p : VbvParams} {d previous : ℕ} {x : Sent} → Done p d previous x → Passed p previous d (codedOf x)
-unfolding codedOf
+done-passed : {p : VbvParams} {d previous : ℕ} {x : Sent} → Done p d previous x → Passed p previous d (codedSent x)
+unfolding codedSent
 done-passed {p} r = record {
   in-time = r .in-time;
   delay-exact = r .as-placed .delay-exact;
@@ -32,17 +32,17 @@ done-passed {p} r = record {
   no-underflow = units-beyond p _ _ (r .in-buffer .no-underflow);
 }
 
-done-record : {p : VbvParams} {d previous : ℕ} {x : Sent} → Done p d previous x → exactRecord p previous d (codedOf x) ≡ sentRecord p d previous x
-unfolding codedOf sentRecord
+done-record : {p : VbvParams} {d previous : ℕ} {x : Sent} → Done p d previous x → exactRecord p previous d (codedSent x) ≡ sentRecord p d previous x
+unfolding codedSent sentRecord
 done-record {previous = previous} {x = x} r =
     let e : 8 * (x .before + length (x .bytes)) - previous ≡ 8 * length (x .bytes) = omega (arith, r .begins) in
     rw e
 
-course-ran : {p : VbvParams} {d previous : ℕ} {xs : List Sent} (n : ℕ) → Course p d previous xs
+course-ran : {p : VbvParams} {d previous : ℕ} {xs : List Sent} (n : ℕ) → RemovalsDone p d previous xs
     → run p n previous d (codedBy xs) ≡ value (sentRecords p d previous xs)
-unfolding codedOf codedBy sentRecords
-course-ran {p} {d} {previous} n none = run-none p n previous d
-course-ran n (next {xs = xs} r c) = rw (← done-record r) (run-passed n (codedBy xs) (done-passed r) (course-ran (suc n) c))
+unfolding codedSent codedBy sentRecords
+course-ran {p} {d} {previous} n no-removal = run-none p n previous d
+course-ran n (removal-then {xs = xs} r c) = rw (← done-record r) (run-passed n (codedBy xs) (done-passed r) (course-ran (suc n) c))
 
 -- ---- the verdict
 
@@ -51,12 +51,12 @@ unfolding codedBy
 coded-length [] = refl
 coded-length (x ∷ xs) = ap suc (coded-length xs)
 
-first-told : {p : VbvParams} {d previous : ℕ} {x : Sent} {xs : List Sent} → Course p d previous (x ∷ xs) → x .delay ≤ 65534
-first-told (next r c) = r .as-placed .delay-told
+first-told : {p : VbvParams} {d previous : ℕ} {x : Sent} {xs : List Sent} → RemovalsDone p d previous (x ∷ xs) → x .delay ≤ 65534
+first-told (removal-then r c) = r .as-placed .delay-told
 
-passes-by : (p : VbvParams) (x : Sent) (xs : List Sent) → paramsFit p ≡ true → 8 * length (endToEnd (x ∷ xs)) ≤ 2 ^ 48 → First p (x ∷ xs)
-    → declared Mpeg2 (endToEnd (x ∷ xs)) ≡ value p → codedPictures Mpeg2 (endToEnd (x ∷ xs)) ≡ value (codedBy (x ∷ xs)) → Passes p (x ∷ xs)
-unfolding codedBy codedOf sentRecords
+passes-by : (p : VbvParams) (x : Sent) (xs : List Sent) → paramsFit p ≡ true → 8 * length (endToEnd (x ∷ xs)) ≤ farthest → EachDone p (x ∷ xs)
+    → declared Mpeg2 (endToEnd (x ∷ xs)) ≡ value p → codedPictures Mpeg2 (endToEnd (x ∷ xs)) ≡ value (codedBy (x ∷ xs)) → PassesCheck p (x ∷ xs)
+unfolding codedBy codedSent sentRecords
 passes-by p x xs f l c d h places m = accepted Mpeg2 (endToEnd (x ∷ xs)) places l d h (first-told c) f (rw (coded-length xs) m) (course-ran 0 c)
 
 sending-declared : {p : VbvParams} {x : Sent} {xs : List Sent} → Sending p false 0 (x ∷ xs) → declared Mpeg2 (endToEnd (x ∷ xs)) ≡ value p
@@ -67,7 +67,7 @@ sending-declared {p} {x} {xs} a = ap (declared Mpeg2) (a .laid-is) ∙ go (a .pa
     go [] f e = let z = sym (coded-none 0 (length (a .follows))) ∙ e in cc
     go (y ∷ ys) (part f fs) e = stream-declared f ys (a .follows)
 
-pub passes : (p : VbvParams) (xs : List Sent) → paramsFit p ≡ true → 8 * length (endToEnd xs) ≤ 2 ^ 48 → First p xs → Sending p false 0 xs → Passes p xs
+pub passes : (p : VbvParams) (xs : List Sent) → paramsFit p ≡ true → 8 * length (endToEnd xs) ≤ farthest → EachDone p xs → Sending p false 0 xs → PassesCheck p xs
 passes p [] f l c a = tt
 passes p (x ∷ xs) f l c a =
     passes-by p x xs f l c (sending-declared a) (ap (codedPictures Mpeg2) (a .laid-is) ∙ stream-coded (a .fit) (a .ends) ∙ ap value (a .coded-is))

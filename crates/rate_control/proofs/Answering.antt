@@ -3,7 +3,7 @@
 use mathlib.Core.Path.{_≡_, refl, sym, ap, subst, _∙_}
 use mathlib.Core.Bool.{Bool, true, false, _||_, true≢false}
 use mathlib.Core.List.{List}
-use Prim.Native.Nat.{ℕ, zero, suc, _+_, _*_, _^_, _≤_, _<_}
+use Prim.Native.Nat.{ℕ, zero, suc, _+_, _*_, _≤_, _<_}
 use native.Mathlib.Omega.{arith}
 use lib.Dec.{ltb}
 use borrow.Author.Tests.{ltb-false, ltb-true, eqb-true, eqb-false, not-true, not-false}
@@ -11,6 +11,7 @@ use Rattle.bits.specs.Bits.{pick}
 use Rattle.bits.specs.Refusals.{Answer, refused}
 use Rattle.bits.proofs.Flags.{or-left, or-right, pick-elim}
 use Rattle.bits.proofs.Over.{over-take, over-drop}
+use Rattle.vbv.specs.Model.{farthest}
 use Rattle.vbv.specs.Annex.{unit, overflows, beyond}
 use Rattle.vbv.specs.declared.VbvParams.{VbvParams}
 use Rattle.vbv.proofs.Laws.{over-units, over-full, beyond-units, beyond-there, first-in-time, fits-params}
@@ -20,12 +21,12 @@ use Rattle.rate_control.specs.Answers.{Given}
 use Rattle.rate_control.specs.Writer.{index, clashes, asked}
 use Rattle.rate_control.specs.Offer.{Offer, position, content, end, deliveredAt, deliveredNext, stuffing, delay, firstDelay, tooLarge, placedBytes, offer, outOf}
 use Rattle.rate_control.specs.Sent.{positionOf, contentOf, Stuffs}
-use Rattle.rate_control.specs.Due.{Known, deliveredFor, holding, OutOfTurn, last-placed, other-kind, Fitting, InRange, OnTime, AllThere, delayFor, Due, out-of-turn, bad-headers, bad-layer, far-position, far-end, early, overflow, too-large, largest, no-edge, no-room, room, PartHolds, none}
+use Rattle.rate_control.specs.Due.{Known, deliveredFor, holding, OutOfTurn, last-placed, other-kind, Fitting, Near, OnTime, AllDelivered, delayFor, Due, out-of-turn, bad-headers, bad-layer, far-position, far-end, early-position, overflowing, too-large, largest, no-edge, no-room, room, PartHolds}
 use Rattle.rate_control.specs.declared.Pending.{Pending}
 use Rattle.rate_control.specs.declared.Pending.the-variants.{Nothing, Waits}
 use Rattle.rate_control.specs.declared.CbrWriter.{CbrWriter}
 use Rattle.vbv.proofs.Cases.{delivered-of}
-use Rattle.rate_control.proofs.Chain.{Placing, Outcome, stays, closes, retries, places}
+use Rattle.rate_control.proofs.Chain.{Placing, Outcome, stays, closes, retries, hands-out}
 use Rattle.rate_control.proofs.Fitting.{writer-fits}
 use Rattle.rate_control.proofs.Placing.{delivered-later, delivered-first, placed-size, stuffing-last, stuffing-least, first-told}
 use Rattle.rate_control.proofs.Retries.{below-31}
@@ -91,7 +92,7 @@ module _ (p : VbvParams) (t : List ℕ) (x : Known) (o : Offer) {n : ℕ} (h : I
   unfolding deliveredNext
   stuffs = record {
     least = λ e j. rw (← delivered-known p t x o, ← at-content) (stuffing-least held o (fits-params (held .model) (writer-fits (h .fits) .model-fits)) e j);
-    none = stuffing-last held o;
+    after-last = stuffing-last held o;
   }
 
   late : beyond p (position held o) (deliveredAt held o) ≡ true → 1 ≤ x .pictures
@@ -134,22 +135,22 @@ module _ (p : VbvParams) (t : List ℕ) (x : Known) (o : Offer) {n : ℕ} (h : I
       pick-elim D _ (λ e. bad-layer (in-turn-is x o h17) (not-false _ h18) (not-true _ e)) λ h20.
       let g : Fitting p x o = record { in-turn = in-turn-is x o h17; headers-fit = not-false _ h18; layer-fits = not-false _ h20 } in
       pick-elim D _ (λ e. far g _ refl e) λ h14.
-      let near : InRange p x o (stuffing held o) =
+      let near : Near p x o (stuffing held o) =
       record {
         fitting = g;
         stuffs = stuffs;
-        position-near = rw (← at-position) (ltb-false (2 ^ 48) (position held o) (or-left _ _ h14));
-        end-near = rw (← at-end) (ltb-false (2 ^ 48) (end held o) (or-right (ltb (2 ^ 48) (position held o)) _ h14));
+        position-near = rw (← at-position) (ltb-false farthest (position held o) (or-left _ _ h14));
+        end-near = rw (← at-end) (ltb-false farthest (end held o) (or-right (ltb farthest (position held o)) _ h14));
       } in
-      pick-elim D _ (λ e. early near (rw (← delivered-known p t x o, ← at-position) (beyond-there p _ _ e)) (late e)) λ h7.
+      pick-elim D _ (λ e. early-position near (rw (← delivered-known p t x o, ← at-position) (beyond-there p _ _ e)) (late e)) λ h7.
       let in-time : positionOf (x .bytes) o * unit p ≤ deliveredFor p x o = rw (← delivered-known p t x o, ← at-position) (beyond-units p _ _ h7) in
-      pick-elim D _ (λ e. overflowing near in-time (or-left _ _ h17) e) λ h9.
-      let timely : OnTime p x o (stuffing held o) = record { in-range = near; in-time = in-time; no-overflow = rw (← delivered-known p t x o) (over-units p _ _ h9) } in
+      pick-elim D _ (λ e. overflow-due near in-time (or-left _ _ h17) e) λ h9.
+      let timely : OnTime p x o (stuffing held o) = record { near = near; in-time = in-time; no-overflow = rw (← delivered-known p t x o) (over-units p _ _ h9) } in
       pick-elim D _ (λ e. size-due timely (rw (← delivered-known p t x o, ← at-content) (beyond-there p _ _ e))) λ size.
       pick-elim D _
       (λ e. no-edge timely (rw (← delivered-known p t x o, ← at-content) (beyond-units p _ _ size)) (rw (← delivered-known p t x o, ← at-end) (beyond-there p _ _ e)))
       λ h22.
-      let whole : AllThere p x o (stuffing held o) = record { on-time = timely; end-there = rw (← delivered-known p t x o, ← at-end) (beyond-units p _ _ h22) } in
+      let whole : AllDelivered p x o (stuffing held o) = record { on-time = timely; end-delivered = rw (← delivered-known p t x o, ← at-end) (beyond-units p _ _ h22) } in
       pick-elim D _ (λ e. no-room whole (rw (← placed-size held o) (ltb-true _ _ e))) λ h19.
       let k : Placing held o =
       record {
@@ -158,8 +159,8 @@ module _ (p : VbvParams) (t : List ℕ) (x : Known) (o : Offer) {n : ℕ} (h : I
         same-kind = or-right (held .finished) _ h17;
         headers-fit = not-false _ h18;
         layer-fits = not-false _ h20;
-        position-far = ltb-false (2 ^ 48) (position held o) (or-left _ _ h14);
-        end-far = ltb-false (2 ^ 48) (end held o) (or-right (ltb (2 ^ 48) (position held o)) _ h14);
+        position-far = ltb-false farthest (position held o) (or-left _ _ h14);
+        end-far = ltb-false farthest (end held o) (or-right (ltb farthest (position held o)) _ h14);
         in-time = h7;
         no-overflow = h9;
         no-underflow = h22;
@@ -167,15 +168,15 @@ module _ (p : VbvParams) (t : List ℕ) (x : Known) (o : Offer) {n : ℕ} (h : I
       } in
       rw (delay-known k, placed-size held o) (room whole (rw (← placed-size held o) (ltb-false _ _ h19)))
     where
-      far : Fitting p x o → (b : Bool) → ltb (2 ^ 48) (position held o) ≡ b → (ltb (2 ^ 48) (position held o) || ltb (2 ^ 48) (end held o)) ≡ true → D (refused 14 0 0 0)
+      far : Fitting p x o → (b : Bool) → ltb farthest (position held o) ≡ b → (ltb farthest (position held o) || ltb farthest (end held o)) ≡ true → D (refused 14 0 0 0)
       far g true e f = far-position g (rw (← at-position) (ltb-true _ _ e))
-      far g false e f = far-end g stuffs (rw (← at-end) (ltb-true (2 ^ 48) (end held o) (or-other (ltb (2 ^ 48) (position held o)) _ f e)))
+      far g false e f = far-end g stuffs (rw (← at-end) (ltb-true farthest (end held o) (or-other (ltb farthest (position held o)) _ f e)))
 
-      overflowing : InRange p x o (stuffing held o) → positionOf (x .bytes) o * unit p ≤ deliveredFor p x o → x .finished ≡ false
+      overflow-due : Near p x o (stuffing held o) → positionOf (x .bytes) o * unit p ≤ deliveredFor p x o → x .finished ≡ false
           → overflows p (8 * x .bytes) (deliveredAt held o) ≡ true → D (refused 9 (x .pictures) 0 0)
-      overflowing near in-time f e =
+      overflow-due near in-time f e =
           let z = at-first f e in
-          subst (λ (k : ℕ). D (refused 9 k 0 0)) (sym z) (overflow near in-time (rw (← delivered-known p t x o) (over-full p _ _ e)) z)
+          subst (λ (k : ℕ). D (refused 9 k 0 0)) (sym z) (overflowing near in-time (rw (← delivered-known p t x o) (over-full p _ _ e)) z)
 
 -- ---- what its output part holds
 
@@ -184,4 +185,4 @@ unfolding placedBytes
 outcome-holds w o (stays e) = refl
 outcome-holds w o (closes x) = refl
 outcome-holds w o (retries x) = refl
-outcome-holds w o (places x) = record { bytes = over-take (placedBytes w o) (o .out); rest = over-drop (placedBytes w o) (o .out) }
+outcome-holds w o (hands-out x) = record { bytes = over-take (placedBytes w o) (o .out); rest = over-drop (placedBytes w o) (o .out) }

@@ -10,13 +10,13 @@ use Rattle.vbv.specs.declared.VbvError.the-variants.{FrameRateCode, Early, Dela
 use Rattle.vbv.specs.declared.VbvViolation.{VbvViolation}
 use Rattle.vbv.specs.declared.VbvViolation.the-variants.{Overflow, Underflow, DelayMismatch}
 use Rattle.bits.specs.declared.VbvRefusal.{VbvRefusal}
-use Rattle.rate_control.specs.Answers.{refusalOf}
+use Rattle.rate_control.specs.Answers.{offerRefusal}
 use Rattle.rate_control.specs.declared.CbrError.{CbrError}
 use Rattle.rate_control.specs.declared.CbrError.the-variants.{Model, Violation, Kind, Headers, Layer, TooLarge, Stuffing, Output}
 
 -- back from what is told
-unfoldable caseOf : VbvRefusal → CbrError
-caseOf r =
+unfoldable offerErrorOf : VbvRefusal → CbrError
+offerErrorOf r =
     pick (eqb (r .number) 9) (Violation (Overflow (r .picture) (r .coded) (r .expected)))
     (pick (eqb (r .number) 10) (Violation (Underflow (r .picture) (r .coded) (r .expected)))
     (pick (eqb (r .number) 11) (Violation (DelayMismatch (r .picture) (r .coded) (r .expected)))
@@ -28,31 +28,31 @@ caseOf r =
     (pick (eqb (r .number) 22) Stuffing
     (Model (errorOf (r .number)))))))))))
 
-model-back : (e : VbvError) → caseOf (refusalOf (Model e)) ≡ Model e
-unfolding caseOf pick
-model-back FrameRateCode = ap Model (error-back FrameRateCode)
-model-back Early = ap Model (error-back Early)
-model-back DelayTooLong = ap Model (error-back DelayTooLong)
-model-back Params = ap Model (error-back Params)
-model-back Order = ap Model (error-back Order)
-model-back Range = ap Model (error-back Range)
+model-error-back : (e : VbvError) → offerErrorOf (offerRefusal (Model e)) ≡ Model e
+unfolding offerErrorOf pick
+model-error-back FrameRateCode = ap Model (error-back FrameRateCode)
+model-error-back Early = ap Model (error-back Early)
+model-error-back DelayTooLong = ap Model (error-back DelayTooLong)
+model-error-back Params = ap Model (error-back Params)
+model-error-back Order = ap Model (error-back Order)
+model-error-back Range = ap Model (error-back Range)
 
-violation-back : (v : VbvViolation) → caseOf (refusalOf (Violation v)) ≡ Violation v
-unfolding caseOf pick
-violation-back (Overflow k c x) = refl
-violation-back (Underflow k c x) = refl
-violation-back (DelayMismatch k c x) = refl
+violation-error-back : (v : VbvViolation) → offerErrorOf (offerRefusal (Violation v)) ≡ Violation v
+unfolding offerErrorOf pick
+violation-error-back (Overflow k c x) = refl
+violation-error-back (Underflow k c x) = refl
+violation-error-back (DelayMismatch k c x) = refl
 
-refusal-back : (e : CbrError) → caseOf (refusalOf e) ≡ e
-unfolding caseOf pick
-refusal-back (Model e) = model-back e
-refusal-back (Violation v) = violation-back v
-refusal-back Kind = refl
-refusal-back Headers = refl
-refusal-back Layer = refl
-refusal-back TooLarge = refl
-refusal-back Stuffing = refl
-refusal-back Output = refl
+offer-error-back : (e : CbrError) → offerErrorOf (offerRefusal e) ≡ e
+unfolding offerErrorOf pick
+offer-error-back (Model e) = model-error-back e
+offer-error-back (Violation v) = violation-error-back v
+offer-error-back Kind = refl
+offer-error-back Headers = refl
+offer-error-back Layer = refl
+offer-error-back TooLarge = refl
+offer-error-back Stuffing = refl
+offer-error-back Output = refl
 
-pub one-case : (e f : CbrError) → refusalOf e ≡ refusalOf f → e ≡ f
-one-case e f h = sym (refusal-back e) ∙ ap caseOf h ∙ refusal-back f
+pub one-offer-error : (e f : CbrError) → offerRefusal e ≡ offerRefusal f → e ≡ f
+one-offer-error e f h = sym (offer-error-back e) ∙ ap offerErrorOf h ∙ offer-error-back f

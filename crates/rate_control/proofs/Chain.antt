@@ -2,12 +2,13 @@
 -- Assumes nothing.
 use mathlib.Core.Path.{_≡_, refl}
 use mathlib.Core.Bool.{true, false}
-use Prim.Native.Nat.{ℕ, _^_, _≤_}
+use Prim.Native.Nat.{ℕ, _≤_}
 use lib.Dec.{ltb, eqb}
 use lib.ListN.{length}
 use borrow.Author.Tests.{ltb-false, eqb-true, eqb-false, not-false}
 use Rattle.bits.proofs.Flags.{or-left, or-right, pick-elim}
 use Rattle.bits.specs.Refusals.{Answer, value, refused}
+use Rattle.vbv.specs.Model.{farthest}
 use Rattle.vbv.specs.Annex.{overflows, beyond}
 use Rattle.layers.specs.Headers.{headersFit}
 use Rattle.layers.specs.Layer.{layerFits}
@@ -27,8 +28,8 @@ pub record Placing (w : CbrWriter) (o : Offer) : Type 0 where
   pub same-kind : clashes (w .pending) (o .kind) ≡ false
   pub headers-fit : headersFit (w .model .params) (w .model .started) (o .headers) ≡ true
   pub layer-fits : layerFits (o .kind) (o .interval) (o .layer) ≡ true
-  pub position-far : position w o ≤ 2 ^ 48
-  pub end-far : end w o ≤ 2 ^ 48
+  pub position-far : position w o ≤ farthest
+  pub end-far : end w o ≤ farthest
   pub in-time : beyond (w .model .params) (position w o) (deliveredAt w o) ≡ false
   pub no-overflow : overflows (w .model .params) (w .model .«prev_end_bits») (deliveredAt w o) ≡ false
   pub no-underflow : beyond (w .model .params) (end w o) (deliveredAt w o) ≡ false
@@ -39,7 +40,7 @@ pub data Outcome (w : CbrWriter) (o : Offer) : Answer Given → Type 0 where
   stays : {n k : ℕ} → eqb n 21 ≡ false → Outcome w o (refused n k 0 0)
   closes : q-of w o ≡ 31 → Outcome w o (refused 21 0 0 0)
   retries : (q-of w o ≡ 31 → ⊥) → Outcome w o (value (again (coarser (q-of w o))))
-  places : Placing w o → Outcome w o (value (placed (q-of w o) (delay w o) (length (placedBytes w o)) (stuffing w o)))
+  hands-out : Placing w o → Outcome w o (value (placed (q-of w o) (delay w o) (length (placedBytes w o)) (stuffing w o)))
 
 size-outcome : (w : CbrWriter) (o : Offer) → Outcome w o (tooLarge (q-of w o))
 size-outcome w o = pick-elim (Outcome w o) _ (λ e. closes (eqb-true _ _ e)) (λ e. retries (eqb-false _ _ e))
@@ -57,14 +58,14 @@ outcome w o =
     pick-elim P _ (λ e. size-outcome w o) λ size.
     pick-elim P _ (λ e. stays refl) λ h22.
     pick-elim P _ (λ e. stays refl) λ h19.
-    places (record {
+    hands-out (record {
       fitted = not-false _ h12;
       unfinished = or-left _ _ h17;
       same-kind = or-right (w .finished) _ h17;
       headers-fit = not-false _ h18;
       layer-fits = not-false _ h20;
       position-far = ltb-false _ _ (or-left _ _ h14);
-      end-far = ltb-false _ _ (or-right (ltb (2 ^ 48) (position w o)) _ h14);
+      end-far = ltb-false _ _ (or-right (ltb farthest (position w o)) _ h14);
       in-time = h7;
       no-overflow = h9;
       no-underflow = h22;

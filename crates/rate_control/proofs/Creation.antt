@@ -3,7 +3,7 @@
 use mathlib.Core.Path.{_≡_, refl, sym, ap, _∙_}
 use mathlib.Core.Bool.{Bool, true, false, _&&_, true≢false}
 use mathlib.Core.List.{List, [], _∷_}
-use Prim.Native.Nat.{ℕ, _+_, _*_, _/_, _^_, _≤_}
+use Prim.Native.Nat.{ℕ, _+_, _*_, _/_, _≤_}
 use native.Mathlib.Omega.{arith}
 use native.Mathlib.Nat.{mul-le-mul, div-le-self, div-lt-iff-lt-mul}
 use lib.Dec.{leb}
@@ -14,7 +14,8 @@ use Rattle.bits.proofs.Following.{then-value}
 use Rattle.bits.specs.Refusals.{value, orElse}
 use Rattle.vbv.specs.Answers.{frameRate, modelAnswer, rateAnswer}
 use Rattle.vbv.proofs.Picks.{was-held}
-use Rattle.vbv.specs.Model.{paramsFit, newModel}
+use Rattle.vbv.specs.Params.{rateUnit}
+use Rattle.vbv.specs.Model.{farthest, paramsFit, newModel}
 use Rattle.vbv.specs.declared.FrameRate.{FrameRate}
 use Rattle.vbv.specs.declared.FrameRate.the-variants.{Rate, Refused as NoRate}
 use Rattle.vbv.specs.declared.VbvParams.{VbvParams}
@@ -23,19 +24,20 @@ use Rattle.vbv.specs.declared.VbvError.{VbvError}
 use Rattle.vbv.specs.declared.VbvError.the-variants.{Params}
 use Rattle.vbv.specs.declared.VbvModel.{VbvModel}
 use Rattle.vbv.specs.declared.VbvModel.the-variants.{Model, Refused as NoModel}
+use Rattle.vbv.proofs.Units.{params-rate}
 use Rattle.vbv.proofs.Fitting.{params-fit}
 use Rattle.vbv.proofs.Laws.{refused-value, made}
 use Rattle.rate_control.specs.Targets.{groupPictures, groupBits, groupWeight, target, targets}
 use Rattle.rate_control.specs.Answers.{createdAnswer}
-use Rattle.rate_control.specs.Create.{within, configFits, configParams, freshWriter, noWriter, create}
-use Rattle.rate_control.specs.Writer.{every}
-use Rattle.rate_control.specs.Steps.{ConfigFits, Shares, notCreated, Creates, withRate}
+use Rattle.rate_control.specs.Create.{within, configFits, writerParams, freshWriter, noWriter, create}
+use Rattle.rate_control.specs.Writer.{allFit}
+use Rattle.rate_control.specs.Due.{Ranges}
+use Rattle.rate_control.specs.Steps.{TargetsFit, notCreated, Creates, withRate}
 use Rattle.rate_control.specs.declared.CbrConfig.{CbrConfig}
 use Rattle.rate_control.specs.declared.Pending.the-variants.{Nothing}
 use Rattle.rate_control.specs.declared.CbrWriter.{CbrWriter}
 use Rattle.rate_control.specs.declared.CbrCreation.the-variants.{Created}
 use Rattle.rate_control.specs.declared.CbrCreated.{CbrCreated}
-use Rattle.rate_control.proofs.Retries.{Quant}
 use Rattle.rate_control.proofs.Fitting.{within-bounds, is-quantiser, none-fits, fitting-writer}
 use Rattle.rate_control.proofs.Invariant.{Inv}
 
@@ -52,29 +54,28 @@ pub config-told : (c : CbrConfig) (r s q b a : Bool) → r ≡ within 1 262143 (
 unfolding configFits
 config-told c r s q b a e f g h k = rw (e, f, g, h, k)
 
-config-bounds : (c : CbrConfig) → configFits c ≡ true → ConfigFits c × Quant (c .«initial_quantiser_scale_code»)
+pub config-ranges : (c : CbrConfig) → configFits c ≡ true → Ranges c
 unfolding configFits
-config-bounds c h =
+config-ranges c h =
     let r = both-true (within 1 262143 (c .«bit_rate_value»)) _ h in
     let s = both-true (within 1 1023 (c .«vbv_buffer_size_value»)) _ (r .1) in
     let q = both-true (within 1 31 (c .«initial_quantiser_scale_code»)) _ (s .1) in
     let b = both-true (within 0 15 (c .«b_between»)) (within 1 255 (c .«anchors_per_gop»)) (q .1) in
-    let scale = within-bounds 1 31 _ (q .0) in (
-      record {
-        rate-high = within-bounds 1 262143 _ (r .0) .1;
-        size-high = within-bounds 1 1023 _ (s .0) .1;
-        between-high = within-bounds 0 15 _ (b .0) .1;
-        anchors-high = within-bounds 1 255 _ (b .1) .1;
-      },
-      record { low = scale .0; high = scale .1 },
-    )
-
-pub config-fits : (c : CbrConfig) → configFits c ≡ true → ConfigFits c
-config-fits c h = config-bounds c h .0
+    record {
+      rate-low = within-bounds 1 262143 _ (r .0) .0;
+      rate-high = within-bounds 1 262143 _ (r .0) .1;
+      buffer-low = within-bounds 1 1023 _ (s .0) .0;
+      buffer-high = within-bounds 1 1023 _ (s .0) .1;
+      quantiser-low = within-bounds 1 31 _ (q .0) .0;
+      quantiser-high = within-bounds 1 31 _ (q .0) .1;
+      between-high = within-bounds 0 15 _ (b .0) .1;
+      anchors-low = within-bounds 1 255 _ (b .1) .0;
+      anchors-high = within-bounds 1 255 _ (b .1) .1;
+    }
 
 -- ---- the targets
 
-module _ (p : VbvParams) (between anchors : ℕ) (h : Shares p between anchors) where
+module _ (p : VbvParams) (between anchors : ℕ) (h : TargetsFit p between anchors) where
   -- no product passes 64 bits
   pub pictures-most : anchors * (between + 1) ≤ 4080
   pictures-most = mul-le-mul {n₂ = 255} {m₂ = 16} (omega arith) (omega arith)
@@ -92,7 +93,7 @@ module _ (p : VbvParams) (between anchors : ℕ) (h : Shares p between anchors) 
   between-most = mul-le-mul {n₂ = 255} {m₂ = 15} (omega arith) (omega arith)
 
   -- the weights of a group are at least its pictures
-  target-low : (weight : ℕ) → weight ≤ 40 → target p between anchors weight ≤ 2 ^ 48
+  target-low : (weight : ℕ) → weight ≤ 40 → target p between anchors weight ≤ farthest
   unfolding target groupBits groupPictures groupWeight
   target-low weight w =
       let share = p .«bit_rate» * p .frd / p .frn in
@@ -100,23 +101,30 @@ module _ (p : VbvParams) (between anchors : ℕ) (h : Shares p between anchors) 
       let all = 40 + 16 * anchors + 9 * (anchors * between) in
       let b : share ≤ p .«bit_rate» * p .frd = div-le-self (p .«bit_rate» * p .frd) (p .frn) in
       let c : share * weight ≤ 3358785830400 * 40 = mul-le-mul {n₁ = share} {m₁ = weight} {n₂ = 3358785830400} {m₂ = 40} (omega (arith, share-most)) w in
-      let f : share * weight * pictures ≤ 2 ^ 48 * all = mul-le-mul {n₁ = share * weight} {m₁ = pictures} {n₂ = 2 ^ 48} {m₂ = all} (omega arith) (omega arith) in
-      let g = div-lt-iff-lt-mul {k = all} {x = share * pictures * weight} {y = 2 ^ 48 + 1} (omega arith) .1 (omega arith) in
+      let f : share * weight * pictures ≤ farthest * all = mul-le-mul {n₁ = share * weight} {m₁ = pictures} {n₂ = farthest} {m₂ = all} (omega arith) (omega arith) in
+      let g = div-lt-iff-lt-mul {k = all} {x = share * pictures * weight} {y = farthest + 1} (omega arith) .1 (omega arith) in
       omega arith
 
-  targets-low : every (λ t. leb t (2 ^ 48)) (targets p between anchors) ≡ true
-  unfolding targets every
+  targets-low : allFit (λ t. leb t farthest) (targets p between anchors) ≡ true
+  unfolding targets allFit
   targets-low =
       simp (le-leb _ _ (target-low 40 (omega arith)), le-leb _ _ (target-low 16 (omega arith)), le-leb _ _ (target-low 9 (omega arith)))
 
--- a model of parameters that fit has targets
-pub shared-out : (p : VbvParams) (m : VbvCbrModel) (between anchors : ℕ) → newModel p ≡ value m
-    → p .«bit_rate» ≤ 104857200 → between ≤ 15 → anchors ≤ 255 → Shares (m .params) between anchors
-shared-out p m between anchors h r b a =
-    let k = made p m h in
-    let f = params-fit (k .params-fit) in
+-- a model of a configuration in its ranges has targets
+pub targets-fit : (c : CbrConfig) (n d : ℕ) (p : VbvParams) (x : VbvModel) (m : VbvCbrModel) → p ≡ writerParams c (n, d) → modelAnswer x ≡ newModel p
+    → x ≡ Model m → Ranges c → TargetsFit (m .params) (c .«b_between») (c .«anchors_per_gop»)
+targets-fit c n d p x m i e h r =
+    let k = made p m (sym e ∙ ap modelAnswer h) in
+    let q = params-fit (k .params-fit) in
+    let rate : p .«bit_rate» ≡ rateUnit * c .«bit_rate_value» = ap (λ (y : VbvParams). y .«bit_rate») i ∙ params-rate _ _ (n, d) in
     rw (k .params-kept)
-    (record { rate-high = r; frn-low = f .frn-low; frd-high = f .frd-high; between-high = b; anchors-high = a })
+    (record {
+      rate-high = omega (arith, rate, r .rate-high);
+      frn-low = q .frn-low;
+      frd-high = q .frd-high;
+      between-high = r .between-high;
+      anchors-high = r .anchors-high;
+    })
 
 -- ---- the ways through creation
 
@@ -135,17 +143,17 @@ unfolding freshWriter
 fresh-told c m t e = rw e
 
 module _ (c : CbrConfig) where
-  module _ (n d : ℕ) (x : VbvModel) (e : modelAnswer x ≡ newModel (configParams c (n, d))) where
+  module _ (n d : ℕ) (p : VbvParams) (i : p ≡ writerParams c (n, d)) (x : VbvModel) (e : modelAnswer x ≡ newModel p) where
     pub way-made : (m : VbvCbrModel) (w : CbrWriter) → x ≡ Model m → w ≡ freshWriter c m
         → Creates (record { answer = Created; writer = w }) (withRate c (n, d))
     way-made m w h g =
-        let a : newModel (configParams c (n, d)) ≡ value m = sym e ∙ ap modelAnswer h in
+        let a : newModel (writerParams c (n, d)) ≡ value m = ap newModel (sym i) ∙ sym e ∙ ap modelAnswer h in
         (rw (a, g), rw (a, g))
 
     pub way-unmade : (error : VbvError) (r : CbrCreated) → x ≡ NoModel error → r ≡ notCreated error → Creates r (withRate c (n, d))
     unfolding notCreated
     way-unmade error r h g =
-        let a : newModel (configParams c (n, d)) ≡ modelAnswer (NoModel error) = sym e ∙ ap modelAnswer h in
+        let a : newModel (writerParams c (n, d)) ≡ modelAnswer (NoModel error) = ap newModel (sym i) ∙ sym e ∙ ap modelAnswer h in
         (rw (a, g), rw (a, g))
 
   -- the answer, and the writer beside it
@@ -191,18 +199,18 @@ pub record Creation (c : CbrConfig) (w : CbrWriter) : Type 0 where
   pub frames : ℕ × ℕ
   pub frames-are : frameRate (c .«frame_rate_code») ≡ value frames
   pub model : VbvCbrModel
-  pub model-is : newModel (configParams c frames) ≡ value model
+  pub model-is : newModel (writerParams c frames) ≡ value model
   pub writer-is : freshWriter c model ≡ w
 
 same-value : {X : Type 0} {x y : X} → value x ≡ value y → x ≡ y
 same-value e = cc
 
-pub creation : (c : CbrConfig) (w : CbrWriter) → create c ≡ value w → Creation c w
+pub creation-found : (c : CbrConfig) (w : CbrWriter) → create c ≡ value w → Creation c w
 unfolding create
-creation c w h =
+creation-found c w h =
     let a = was-held (configFits c) _ _ refused-value h in
     let f = then-value (frameRate (c .«frame_rate_code»)) (a .1) in
-    let m = then-value (newModel (configParams c (f .0))) (f .2) in
+    let m = then-value (newModel (writerParams c (f .0))) (f .2) in
     record { ranges = a .0; frames = f .0; frames-are = f .1; model = m .0; model-is = m .1; writer-is = same-value (m .2) }
 
 -- ---- the writer
@@ -214,13 +222,12 @@ pub record Fresh (w : CbrWriter) : Type 0 where
   pub at-zero : w .model .«prev_end_bits» ≡ 0
   pub unstuffed : w .«stuffing_bytes» ≡ 0
 
-fresh : {c : CbrConfig} {w : CbrWriter} (x : Creation c w) → Fresh (freshWriter c (x .model))
-unfolding freshWriter every
-fresh {c} x =
+fresh-writer : {c : CbrConfig} {w : CbrWriter} (x : Creation c w) → Fresh (freshWriter c (x .model))
+unfolding freshWriter allFit
+fresh-writer {c} x =
     let a = made _ (x .model) (x .model-is) in
-    let f = config-bounds c (x .ranges) in
-    let t : Shares (x .model .params) (c .«b_between») (c .«anchors_per_gop»)
-    = shared-out _ (x .model) _ _ (x .model-is) (omega (arith, f .0 .rate-high)) (f .0 .between-high) (f .0 .anchors-high) in
+    let f = config-ranges c (x .ranges) in
+    let t = targets-fit c (x .frames .0) (x .frames .1) _ (Model (x .model)) (x .model) refl (sym (x .model-is)) refl f in
     record {
       inv =
           record {
@@ -232,7 +239,7 @@ fresh {c} x =
                   few = rw (a .at-zero, a .none-removed) (omega arith);
                   stuffed = omega arith;
                   targets = targets-low _ _ _ t;
-                  quantisers = simp (is-quantiser (f .1));
+                  quantisers = simp (is-quantiser (record { low = f .quantiser-low; high = f .quantiser-high }));
                   pending = none-fits;
                 });
             three = refl;
@@ -246,5 +253,5 @@ fresh {c} x =
       unstuffed = refl;
     }
 
-pub created : (c : CbrConfig) (w : CbrWriter) → create c ≡ value w → Fresh w
-created c w h = let x = creation c w h in rw (← x .writer-is) (fresh x)
+pub created-fresh : (c : CbrConfig) (w : CbrWriter) → create c ≡ value w → Fresh w
+created-fresh c w h = let x = creation-found c w h in rw (← x .writer-is) (fresh-writer x)

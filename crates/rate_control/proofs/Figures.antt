@@ -9,29 +9,29 @@ use Rattle.vbv.proofs.Figures.{figures as model-figures}
 use Rattle.rate_control.specs.Targets.{groupPictures, groupBits, groupWeight, target, targets}
 use Rattle.rate_control.specs.Writer.{of, coarser, steered}
 use Rattle.rate_control.specs.Offer.{firstDelay}
-use Rattle.rate_control.specs.Figures.{retried, Figures, Shares, Rules, Steering}
+use Rattle.rate_control.specs.Figures.{retried, WriterFigures, TargetFigures, Rules, Steering}
 
-pub figures : Figures
+pub writer-figures : WriterFigures
 unfolding groupPictures groupBits groupWeight target targets coarser firstDelay retried
-figures = record { model = model-figures; first-delay = refl; targets-of-three = refl; retries-from-1 = refl }
+writer-figures = record { model = model-figures; first-delay = refl; targets-of-three = refl; retries-from-1 = refl }
 
-low : (p : VbvParams) → 4 * p .«bit_rate» * firstDelay p ≤ 270000 * p .«buffer_size_bits»
+first-delay-low : (p : VbvParams) → 4 * p .«bit_rate» * firstDelay p ≤ 270000 * p .«buffer_size_bits»
 unfolding firstDelay
-low p = omega (arith, div-add-mod' (90000 * p .«buffer_size_bits» * 3) (4 * p .«bit_rate»))
+first-delay-low p = omega (arith, div-add-mod' (90000 * p .«buffer_size_bits» * 3) (4 * p .«bit_rate»))
 
-high : (p : VbvParams) → 1 ≤ p .«bit_rate» → 270000 * p .«buffer_size_bits» < 4 * p .«bit_rate» * (firstDelay p + 1)
+first-delay-high : (p : VbvParams) → 1 ≤ p .«bit_rate» → 270000 * p .«buffer_size_bits» < 4 * p .«bit_rate» * (firstDelay p + 1)
 unfolding firstDelay
-high p l =
+first-delay-high p l =
     let m : 90000 * p .«buffer_size_bits» * 3 % (4 * p .«bit_rate») < 4 * p .«bit_rate» = mod-lt (90000 * p .«buffer_size_bits» * 3) (omega arith) in
     omega (arith, div-add-mod' (90000 * p .«buffer_size_bits» * 3) (4 * p .«bit_rate»))
 
 pub rules : Rules
 unfolding coarser
-rules = record { first-delay-low = low; first-delay-high = high; coarser-5 = refl; coarser-10 = refl; coarser-20 = refl; coarser-24 = refl; coarser-30 = refl }
+rules = record { first-delay-low = first-delay-low; first-delay-high = first-delay-high; coarser-5 = refl; coarser-10 = refl; coarser-20 = refl; coarser-24 = refl; coarser-30 = refl }
 
-pub shares : Shares
+pub target-figures : TargetFigures
 unfolding groupPictures groupBits groupWeight target targets of
-shares = record { of-i = refl; of-p = refl; of-b = refl; floored = refl }
+target-figures = record { of-i = refl; of-p = refl; of-b = refl; floored = refl }
 
 pub steering : Steering
 unfolding steered pick

@@ -3,41 +3,41 @@
 use mathlib.Core.Path.{_≡_, refl}
 use mathlib.Core.Bool.{Bool, true}
 use mathlib.Core.List.{List, [], _∷_}
-use Prim.Native.Nat.{ℕ, zero, suc, _*_, _%_, _^_, _≤_, _<_}
+use Prim.Native.Nat.{ℕ, zero, suc, _*_, _%_, _≤_, _<_}
 use native.Mathlib.Omega.{arith}
 use lib.Dec.{leb, eqb}
 use lib.ListN.{length, getD, set}
 use borrow.Author.Tests.{leb-true, eqb-true, le-leb, eq-eqb}
 use Rattle.bits.proofs.Reading.{both-true}
-use Rattle.vbv.specs.Model.{modelFits}
+use Rattle.vbv.specs.Model.{farthest, modelFits}
 use Rattle.rate_control.specs.Create.{within}
-use Rattle.rate_control.specs.Writer.{quantiser, every, pendingFits, writerFits}
+use Rattle.rate_control.specs.Writer.{quantiserFits, allFit, pendingFits, writerFits}
 use Rattle.rate_control.specs.declared.Pending.the-variants.{Nothing, Waits}
 use Rattle.rate_control.specs.declared.CbrWriter.{CbrWriter}
 use Rattle.rate_control.proofs.Retries.{Quant}
 
 -- ---- tests of a list
 
-pub every-at : (f : ℕ → Bool) (xs : List ℕ) (i : ℕ) → every f xs ≡ true → i < length xs → f (getD xs i 0) ≡ true
-unfolding every
-every-at f [] i h l = absurd (omega arith)
-every-at f (x ∷ xs) zero h l = both-true (f x) (every f xs) h .0
-every-at f (x ∷ xs) (suc i) h l = every-at f xs i (both-true (f x) (every f xs) h .1) (omega arith)
+pub all-fit-at : (f : ℕ → Bool) (xs : List ℕ) (i : ℕ) → allFit f xs ≡ true → i < length xs → f (getD xs i 0) ≡ true
+unfolding allFit
+all-fit-at f [] i h l = absurd (omega arith)
+all-fit-at f (x ∷ xs) zero h l = both-true (f x) (allFit f xs) h .0
+all-fit-at f (x ∷ xs) (suc i) h l = all-fit-at f xs i (both-true (f x) (allFit f xs) h .1) (omega arith)
 
 -- at any place, where the test holds of 0
-pub every-get : (f : ℕ → Bool) (xs : List ℕ) (i : ℕ) → f 0 ≡ true → every f xs ≡ true → f (getD xs i 0) ≡ true
-unfolding every
-every-get f [] i z h = z
-every-get f (x ∷ xs) zero z h = both-true (f x) (every f xs) h .0
-every-get f (x ∷ xs) (suc i) z h = every-get f xs i z (both-true (f x) (every f xs) h .1)
+pub all-fit-get : (f : ℕ → Bool) (xs : List ℕ) (i : ℕ) → f 0 ≡ true → allFit f xs ≡ true → f (getD xs i 0) ≡ true
+unfolding allFit
+all-fit-get f [] i z h = z
+all-fit-get f (x ∷ xs) zero z h = both-true (f x) (allFit f xs) h .0
+all-fit-get f (x ∷ xs) (suc i) z h = all-fit-get f xs i z (both-true (f x) (allFit f xs) h .1)
 
-pub every-set : (f : ℕ → Bool) (xs : List ℕ) (i x : ℕ) → every f xs ≡ true → f x ≡ true → every f (set xs i x) ≡ true
-unfolding every
-every-set f [] i x h g = h
-every-set f (y ∷ ys) zero x h g = rw (g, both-true (f y) (every f ys) h .1)
-every-set f (y ∷ ys) (suc i) x h g =
-    let b = both-true (f y) (every f ys) h in
-    rw (b .0, every-set f ys i x (b .1) g)
+pub all-fit-set : (f : ℕ → Bool) (xs : List ℕ) (i x : ℕ) → allFit f xs ≡ true → f x ≡ true → allFit f (set xs i x) ≡ true
+unfolding allFit
+all-fit-set f [] i x h g = h
+all-fit-set f (y ∷ ys) zero x h g = rw (g, both-true (f y) (allFit f ys) h .1)
+all-fit-set f (y ∷ ys) (suc i) x h g =
+    let b = both-true (f y) (allFit f ys) h in
+    rw (b .0, all-fit-set f ys i x (b .1) g)
 
 -- ---- quantisers
 
@@ -48,15 +48,19 @@ within-bounds low high v h =
     let b = both-true (leb low v) (leb v high) h in
     (leb-true _ _ (b .0), leb-true _ _ (b .1))
 
-pub quantiser-is : {q : ℕ} → quantiser q ≡ true → Quant q
-unfolding quantiser
+pub in-bounds : (low high v : ℕ) → low ≤ v → v ≤ high → within low high v ≡ true
+unfolding within
+in-bounds low high v l h = simp (le-leb low v l, le-leb v high h)
+
+pub quantiser-is : {q : ℕ} → quantiserFits q ≡ true → Quant q
+unfolding quantiserFits
 quantiser-is {q} h =
     let b = within-bounds 1 31 q h in
     record { low = b .0; high = b .1 }
 
-pub is-quantiser : {q : ℕ} → Quant q → quantiser q ≡ true
-unfolding quantiser within
-is-quantiser h = simp (le-leb _ _ (h .low), le-leb _ _ (h .high))
+pub is-quantiser : {q : ℕ} → Quant q → quantiserFits q ≡ true
+unfolding quantiserFits
+is-quantiser {q} h = in-bounds 1 31 q (h .low) (h .high)
 
 pub none-fits : pendingFits Nothing ≡ true
 unfolding pendingFits
@@ -73,8 +77,8 @@ pub record WriterFits (w : CbrWriter) : Type 0 where
   pub whole-bytes : w .model .«prev_end_bits» % 8 ≡ 0
   pub few : 8 * w .model .removed ≤ w .model .«prev_end_bits»
   pub stuffed : 8 * w .«stuffing_bytes» ≤ w .model .«prev_end_bits»
-  pub targets : every (λ t. leb t (2 ^ 48)) (w .«target_bits») ≡ true
-  pub quantisers : every quantiser (w .q) ≡ true
+  pub targets : allFit (λ t. leb t farthest) (w .«target_bits») ≡ true
+  pub quantisers : allFit quantiserFits (w .q) ≡ true
   pub pending : pendingFits (w .pending) ≡ true
 
 pub writer-fits : {w : CbrWriter} → writerFits w ≡ true → WriterFits w
@@ -84,8 +88,8 @@ writer-fits {w} h =
     let b = both-true (eqb (w .model .«prev_end_bits» % 8) 0) _ (a .1) in
     let c = both-true (leb (8 * w .model .removed) (w .model .«prev_end_bits»)) _ (b .1) in
     let d = both-true (leb (8 * w .«stuffing_bytes») (w .model .«prev_end_bits»)) _ (c .1) in
-    let e = both-true (every (λ t. leb t (2 ^ 48)) (w .«target_bits»)) _ (d .1) in
-    let f = both-true (every quantiser (w .q)) _ (e .1) in
+    let e = both-true (allFit (λ t. leb t farthest) (w .«target_bits»)) _ (d .1) in
+    let f = both-true (allFit quantiserFits (w .q)) _ (e .1) in
     record {
       model-fits = a .0;
       whole-bytes = eqb-true _ _ (b .0);

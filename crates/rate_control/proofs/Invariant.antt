@@ -1,31 +1,32 @@
 -- What holds of a writer between calls, after n retries of the pending picture.
 -- Assumes nothing.
-use mathlib.Core.Path.{_≡_, refl, sym, _∙_}
+use mathlib.Core.Path.{_≡_, refl, sym, ap, _∙_}
 use mathlib.Core.Bool.{true, false, true≢false}
-use Prim.Native.Nat.{ℕ, _+_, _^_, _≤_, _<_}
+use Prim.Native.Nat.{ℕ, _+_, _≤_, _<_}
 use native.Mathlib.Omega.{arith}
 use lib.ListN.{length, length-set}
 use Rattle.bits.specs.Bits.{pick}
 use Rattle.bits.specs.Refusals.{Answer, orElse}
 use Rattle.vbv.specs.Annex.{overflows}
-use Rattle.vbv.specs.Model.{delivered}
+use Rattle.vbv.specs.Model.{farthest, delivered}
 use Rattle.vbv.proofs.Fitting.{model-fits}
 use Rattle.vbv.proofs.After.{after as model-after, after-fits}
 use Rattle.layers.specs.declared.PictureKind.{PictureKind}
 use Rattle.layers.specs.declared.PictureKind.the-variants.{I, P, B}
 use Rattle.layers.proofs.Laws.{layer-long}
-use Rattle.rate_control.specs.Writer.{writerFits, quantiser, index, of, asked, askedOf, coarser, pendingFits}
+use Rattle.rate_control.specs.Writer.{writerFits, quantiserFits, index, of, asked, pendingOr, coarser, pendingFits}
 use Rattle.rate_control.specs.Answers.{Given}
 use Rattle.rate_control.specs.Offer.{Offer, end, deliveredAt, deliveredNext, withPending, withPlaced, leftBy, withdraw}
-use Rattle.rate_control.specs.Calls.{Call, offering, withdrawing, stepOf, after}
+use Rattle.rate_control.specs.Calls.{Call, offering, withdrawing, stepOf, leftByCall}
 use Rattle.rate_control.specs.Demand.{retriesBy, retriesAfter}
 use Rattle.rate_control.specs.declared.Pending.{Pending}
 use Rattle.rate_control.specs.declared.Pending.the-variants.{Nothing, Waits}
 use Rattle.rate_control.specs.declared.CbrWriter.{CbrWriter}
-use Rattle.rate_control.proofs.Chain.{q-of, Placing, Outcome, stays, closes, retries, places, outcome}
+use Rattle.rate_control.proofs.Chain.{q-of, Placing, Outcome, stays, closes, retries, hands-out, outcome}
 use Rattle.rate_control.proofs.Retries.{Quant, below-31, rest, rest-small, rest-step, coarser-quant, steered-quant}
-use Rattle.rate_control.proofs.Fitting.{every-at, every-set, quantiser-is, is-quantiser, none-fits, waits-fits, WriterFits, writer-fits, fitting-writer}
+use Rattle.rate_control.proofs.Fitting.{all-fit-at, all-fit-set, quantiser-is, is-quantiser, none-fits, waits-fits, WriterFits, writer-fits, fitting-writer}
 use Rattle.rate_control.proofs.Placing.{placed-size, end-is, next-room, params-fitted}
+use Rattle.rate_control.proofs.States.{withdraw-answer}
 
 -- no picture pending: no retries; one pending: those it had and those it may have are eleven at most
 abbrev pub PendingOk : ℕ → Pending → Type 0
@@ -60,10 +61,10 @@ index-low B = omega arith
 
 kind-quant : {n : ℕ} {w : CbrWriter} (k : PictureKind) → Inv n w → Quant (of k (w .q))
 unfolding of
-kind-quant {w = w} k h = quantiser-is (every-at quantiser (w .q) (index k) (writer-fits (h .fits) .quantisers) (omega (arith, index-low k, h .three)))
+kind-quant {w = w} k h = quantiser-is (all-fit-at quantiserFits (w .q) (index k) (writer-fits (h .fits) .quantisers) (omega (arith, index-low k, h .three)))
 
-asked-of : (n : ℕ) {q : ℕ} (x : Pending) → PendingOk n x → Quant q → Quant (askedOf x q) × (n + rest (askedOf x q) ≤ 11)
-unfolding askedOf
+asked-of : (n : ℕ) {q : ℕ} (x : Pending) → PendingOk n x → Quant q → Quant (pendingOr x q) × (n + rest (pendingOr x q) ≤ 11)
+unfolding pendingOr
 asked-of n Nothing h g = (g, omega (arith, rest-small g))
 asked-of n (Waits k q) h g = h
 
@@ -82,7 +83,7 @@ place-fits {w = w} {o = o} h g =
     let e = end-is w o in
     let s = placed-size w o in
     let l = layer-long (o .kind) (o .interval) (o .layer) (g .layer-fits) in
-    let c : m .removed < 2 ^ 48 = omega (arith, f .few, v .end-high) in
+    let c : m .removed < farthest = omega (arith, f .few, v .end-high) in
     let a = model-after m (end w o) (deliveredNext w o) in
     record {
       model-fits =
@@ -92,7 +93,7 @@ place-fits {w = w} {o = o} h g =
       few = rw (a .end-is, a .count-is) (omega (arith, f .few));
       stuffed = rw (a .end-is) (omega (arith, f .stuffed));
       targets = f .targets;
-      quantisers = every-set quantiser (w .q) (index (o .kind)) _ (f .quantisers) (is-quantiser (steered-quant _ _ (asked-quant (o .kind) h .0)));
+      quantisers = all-fit-set quantiserFits (w .q) (index (o .kind)) _ (f .quantisers) (is-quantiser (steered-quant _ _ (asked-quant (o .kind) h .0)));
       pending = none-fits;
     }
 
@@ -142,13 +143,12 @@ outcome-inv {n} {w} {o} h (retries g) =
     let l = below-31 (a .0) g in
     let c = coarser-quant (a .0) in
     pending-inv (Waits (o .kind) (coarser (q-of w o))) h (c, omega (arith, rest-step (a .0) l)) (waits-fits c (o .kind))
-outcome-inv h (places g) = place-inv h g
+outcome-inv h (hands-out g) = place-inv h g
 
 pub withdraw-is : (w : CbrWriter) → writerFits w ≡ true → orElse w (withdraw w) ≡ withPending w Nothing
-unfolding withdraw pick
-withdraw-is w e = rw e
+withdraw-is w e = ap (orElse w) (withdraw-answer w e)
 
-pub call-inv : {n : ℕ} {w : CbrWriter} (c : Call) → Inv n w → Inv (retriesAfter n (stepOf w c)) (after w c)
-unfolding stepOf after
+pub call-inv : {n : ℕ} {w : CbrWriter} (c : Call) → Inv n w → Inv (retriesAfter n (stepOf w c)) (leftByCall w c)
+unfolding stepOf leftByCall
 call-inv {w = w} (offering o) h = outcome-inv h (outcome w o)
 call-inv {w = w} withdrawing h = rw (withdraw-is w (h .fits)) (pending-inv Nothing h refl none-fits)

@@ -15,13 +15,13 @@ use Rattle.rate_control.specs.Create.{freshWriter, create}
 use Rattle.rate_control.specs.Writer.{writerFits}
 use Rattle.rate_control.specs.Answers.{Given}
 use Rattle.rate_control.specs.Offer.{Offer, withPending, withPlaced, offer, leftBy, left, outAfter, withdraw}
-use Rattle.rate_control.specs.Calls.{Call, offering, withdrawing, after, final}
+use Rattle.rate_control.specs.Calls.{Call, offering, withdrawing, leftByCall, final}
 use Rattle.rate_control.specs.declared.CbrConfig.{CbrConfig}
 use Rattle.rate_control.specs.declared.Pending.the-variants.{Nothing}
 use Rattle.rate_control.specs.declared.CbrWriter.{CbrWriter}
-use Rattle.rate_control.proofs.Chain.{Outcome, stays, closes, retries, places, outcome}
+use Rattle.rate_control.proofs.Chain.{Outcome, stays, closes, retries, hands-out, outcome}
 use Rattle.rate_control.proofs.Invariant.{Inv, withdraw-is, call-inv}
-use Rattle.rate_control.proofs.Creation.{creation, created}
+use Rattle.rate_control.proofs.Creation.{creation-found, created-fresh}
 
 -- ---- a refusal: nothing changes, but that 21 closes the pending picture, as a withdrawal does
 
@@ -54,16 +54,16 @@ unfolding withPending withPlaced pick
 outcome-targets (stays e) = rw e
 outcome-targets (closes g) = refl
 outcome-targets (retries g) = refl
-outcome-targets (places g) = refl
+outcome-targets (hands-out g) = refl
 
 withdraw-targets : (w : CbrWriter) → orElse w (withdraw w) .«target_bits» ≡ w .«target_bits»
 unfolding withdraw withPending
 withdraw-targets w = pick-elim (λ (r : Answer CbrWriter). orElse w r .«target_bits» ≡ w .«target_bits») _ (λ e. refl) (λ e. refl)
 
-pub after-targets : (w : CbrWriter) (c : Call) → after w c .«target_bits» ≡ w .«target_bits»
-unfolding after
-after-targets w (offering o) = outcome-targets (outcome w o)
-after-targets w withdrawing = withdraw-targets w
+pub left-targets : (w : CbrWriter) (c : Call) → leftByCall w c .«target_bits» ≡ w .«target_bits»
+unfolding leftByCall
+left-targets w (offering o) = outcome-targets (outcome w o)
+left-targets w withdrawing = withdraw-targets w
 
 -- ---- what holds of a writer between calls, with the numbers of targets and quantisers that its type has
 
@@ -77,12 +77,12 @@ unfolding freshWriter targets
 fresh-targets c m = refl
 
 pub created-whole : (c : CbrConfig) (w : CbrWriter) → create c ≡ value w → Whole w
-created-whole c w h = record { tries = 0; inv = created c w h .inv; targets = rw (← creation c w h .writer-is) (fresh-targets c _) }
+created-whole c w h = record { tries = 0; inv = created-fresh c w h .inv; targets = rw (← creation-found c w h .writer-is) (fresh-targets c _) }
 
-pub after-whole : {w : CbrWriter} (c : Call) → Whole w → Whole (after w c)
-after-whole {w} c h = record { tries = _; inv = call-inv c (h .inv); targets = ap length (after-targets w c) ∙ h .targets }
+pub left-whole : {w : CbrWriter} (c : Call) → Whole w → Whole (leftByCall w c)
+left-whole {w} c h = record { tries = _; inv = call-inv c (h .inv); targets = ap length (left-targets w c) ∙ h .targets }
 
 pub final-whole : {w : CbrWriter} (l : List Call) → Whole w → Whole (final w l)
 unfolding final
 final-whole [] h = h
-final-whole (c ∷ l) h = final-whole l (after-whole c h)
+final-whole (c ∷ l) h = final-whole l (left-whole c h)

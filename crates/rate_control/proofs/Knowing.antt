@@ -17,17 +17,17 @@ use Rattle.vbv.specs.Model.{periods}
 use Rattle.vbv.specs.declared.VbvParams.{VbvParams}
 use Rattle.rate_control.specs.Answers.{Given}
 use Rattle.rate_control.specs.Writer.{writerFits, asked}
-use Rattle.rate_control.specs.Create.{configParams, freshWriter, create}
+use Rattle.rate_control.specs.Create.{writerParams, freshWriter, create}
 use Rattle.rate_control.specs.Offer.{Offer, end, deliveredAt, deliveredNext, placedBytes, withPending, withPlaced, offer, leftBy, left, withdraw}
-use Rattle.rate_control.specs.Calls.{Call, offering, withdrawing, stepOf, after, run, final}
-use Rattle.rate_control.specs.Due.{Known, atFirst, deliveredFor, pendingNow, told, known, holding, paramsOf, targetsOf}
+use Rattle.rate_control.specs.Calls.{Call, offering, withdrawing, stepOf, leftByCall, stepsOf, final}
+use Rattle.rate_control.specs.Due.{Known, atFirst, deliveredFor, pendingNow, knownAfterOffer, knownAfter, holding, targetsOf}
 use Rattle.rate_control.specs.declared.Pending.the-variants.{Nothing}
 use Rattle.rate_control.specs.declared.CbrConfig.{CbrConfig}
 use Rattle.rate_control.specs.declared.CbrWriter.{CbrWriter}
 use Rattle.vbv.proofs.Cases.{modelAt, after-is, delivered-of, made-is}
-use Rattle.rate_control.proofs.Chain.{Outcome, stays, closes, retries, places, outcome}
+use Rattle.rate_control.proofs.Chain.{Outcome, stays, closes, retries, hands-out, outcome}
 use Rattle.rate_control.proofs.Placing.{delivered-later, delivered-first, end-is}
-use Rattle.rate_control.proofs.Creation.{creation}
+use Rattle.rate_control.proofs.Creation.{creation-found}
 use Rattle.rate_control.proofs.Invariant.{Inv, call-inv, withdraw-is}
 use Rattle.rate_control.proofs.Removing.{position-same}
 
@@ -53,15 +53,15 @@ module _ (p : VbvParams) (t : List ℕ) where
     end-known : end (holding p t x) o ≡ 8 * (x .bytes + length (placedBytes (holding p t x) o))
     end-known = omega (arith, end-is (holding p t x) o)
 
-    outcome-told : {a : Answer Given} → Outcome (holding p t x) o a → leftBy (holding p t x) o a ≡ holding p t (told p t x o a)
+    outcome-told : {a : Answer Given} → Outcome (holding p t x) o a → leftBy (holding p t x) o a ≡ holding p t (knownAfterOffer p t x o a)
     unfolding withPending withPlaced asked pick
     outcome-told (stays e) = rw e
     outcome-told (closes g) = refl
     outcome-told (retries g) = refl
-    outcome-told (places g) =
+    outcome-told (hands-out g) =
         rw (after-is, next-known, end-known, add-one, ← any-placed (x .pictures))
 
-  pub offer-told : (w : CbrWriter) (x : Known) (o : Offer) → w ≡ holding p t x → left w o ≡ holding p t (told p t x o (offer w o))
+  pub offer-told : (w : CbrWriter) (x : Known) (o : Offer) → w ≡ holding p t x → left w o ≡ holding p t (knownAfterOffer p t x o (offer w o))
   offer-told w x o e = rw e (outcome-told x o (outcome _ o))
 
   pub withdrawal-told : (w : CbrWriter) (x : Known) → writerFits w ≡ true → w ≡ holding p t x → orElse w (withdraw w) ≡ holding p t (pendingNow x Nothing)
@@ -70,8 +70,8 @@ module _ (p : VbvParams) (t : List ℕ) where
 
   -- ---- a list of calls
 
-  pub state : {n : ℕ} (w : CbrWriter) (x : Known) (l : List Call) → w ≡ holding p t x → Inv n w → final w l ≡ holding p t (known p t x (run w l))
-  unfolding run stepOf after final
+  pub state : {n : ℕ} (w : CbrWriter) (x : Known) (l : List Call) → w ≡ holding p t x → Inv n w → final w l ≡ holding p t (knownAfter p t x (stepsOf w l))
+  unfolding stepsOf stepOf leftByCall final
   state w x [] e h = e
   state w x (offering o ∷ l) e h =
       state _ _ l (offer-told w x o e) (call-inv (offering o) h)
@@ -80,16 +80,16 @@ module _ (p : VbvParams) (t : List ℕ) where
 -- ---- a writer that was created
 
 pub fresh-known : (c : CbrConfig) (f : ℕ × ℕ)
-    → freshWriter c (modelAt (paramsOf c f) 0 0 0 false)
-    ≡ holding (paramsOf c f) (targetsOf c f) (atFirst c)
+    → freshWriter c (modelAt (writerParams c f) 0 0 0 false)
+    ≡ holding (writerParams c f) (targetsOf c f) (atFirst c)
 unfolding freshWriter
 fresh-known c f = refl
 
 pub created-known : (c : CbrConfig) (f : ℕ × ℕ) (w : CbrWriter) → frameRate (c .«frame_rate_code») ≡ value f → create c ≡ value w
-    → w ≡ holding (paramsOf c f) (targetsOf c f) (atFirst c)
+    → w ≡ holding (writerParams c f) (targetsOf c f) (atFirst c)
 created-known c f w e h =
-    let x = creation c w h in
+    let x = creation-found c w h in
     let same : value (x .frames) ≡ value f = sym (x .frames-are) ∙ e in
     let g : x .frames ≡ f = cc in
-    let m : x .model ≡ modelAt (configParams c (x .frames)) 0 0 0 false = made-is _ _ (x .model-is) in
+    let m : x .model ≡ modelAt (writerParams c (x .frames)) 0 0 0 false = made-is _ _ (x .model-is) in
     sym (x .writer-is) ∙ rw (m, g) (fresh-known c f)

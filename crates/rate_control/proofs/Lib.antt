@@ -8,7 +8,7 @@ pub mod Cases
 pub mod Retries
 pub mod Fitting
 pub mod Placing
-pub mod Judging
+pub mod Testing
 pub mod Offering
 pub mod Invariant
 pub mod Creation

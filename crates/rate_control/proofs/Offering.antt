@@ -3,7 +3,7 @@
 use mathlib.Core.Path.{_≡_, refl, sym, ap, _∙_}
 use mathlib.Core.Bool.{Bool, true, false, not, _||_, true≢false}
 use mathlib.Core.List.{List, [], _++_}
-use Prim.Native.Nat.{ℕ, _+_, _^_, _≤_, _<_}
+use Prim.Native.Nat.{ℕ, _+_, _≤_, _<_}
 use native.Mathlib.Omega.{arith}
 use lib.Dec.{leb, ltb, eqb}
 use lib.ListN.{length, replicate}
@@ -12,6 +12,7 @@ use Rattle.bits.proofs.Flags.{or-right, pick-elim}
 use Rattle.bits.specs.Bits.{pick}
 use Rattle.bits.specs.Answers.{over}
 use Rattle.bits.specs.Refusals.{Answer}
+use Rattle.vbv.specs.Model.{farthest}
 use Rattle.vbv.specs.Steps.{ModelFits}
 use Rattle.vbv.specs.Patch.{patched}
 use Rattle.vbv.specs.declared.RemovalInterval.{RemovalInterval}
@@ -23,19 +24,19 @@ use Rattle.layers.specs.Headers.{headersFit}
 use Rattle.layers.specs.Layer.{layerFits}
 use Rattle.rate_control.specs.Answers.{Given, offerAnswer}
 use Rattle.rate_control.specs.Writer.{writerFits, index, of, clashes, asked}
-use Rattle.rate_control.specs.Offer.{Offer, position, content, end, stuffing, tail, placedBytes, withPlaced, offer, left, outOf, outAfter}
-use Rattle.rate_control.specs.Steps.{measured, judged, Placeable, placedBy, refused, tooLarge, placed, offered}
+use Rattle.rate_control.specs.Offer.{Offer, position, content, end, stuffing, endCode, placedBytes, withPlaced, offer, left, outOf, outAfter}
+use Rattle.rate_control.specs.Steps.{measured, tested, Placeable, placedBy, refusedInCode, tooLargeInCode, placedInCode, offerInCode}
 use Rattle.rate_control.specs.declared.CbrWriter.{CbrWriter}
 use Rattle.rate_control.specs.declared.CbrError.{CbrError}
 use Rattle.rate_control.specs.declared.CbrError.the-variants.{Model, Kind, Headers, Layer, Output}
 use Rattle.rate_control.specs.declared.CbrOffered.{CbrOffered}
 use Rattle.rate_control.specs.declared.Placement.{Placement}
-use Rattle.rate_control.specs.declared.Judged.{Judged}
-use Rattle.rate_control.specs.declared.Judged.the-variants.{Refused, TooLarge, Ready}
-use Rattle.rate_control.proofs.Fitting.{every-get, writer-fits}
+use Rattle.rate_control.specs.declared.Tested.{Tested}
+use Rattle.rate_control.specs.declared.Tested.the-variants.{Refused, TooLarge, Ready}
+use Rattle.rate_control.proofs.Fitting.{all-fit-get, writer-fits}
 use Rattle.rate_control.proofs.Placing.{placed-size}
 use Rattle.rate_control.proofs.Numbers.{answer-is, writer-is}
-use Rattle.rate_control.proofs.Judging.{through, placement, measuredFor, measured-is}
+use Rattle.rate_control.proofs.Testing.{alike, placement, measuredFor, measured-is}
 
 -- ---- the tests
 
@@ -43,77 +44,79 @@ pub model-of : (w : CbrWriter) (f : Bool) → f ≡ writerFits w → f ≡ true 
 model-of w f e h = model-fits (writer-fits (sym e ∙ h) .model-fits)
 
 module _ (w : CbrWriter) (headers : List ℕ) (k : PictureKind) (i : RemovalInterval) (last : Bool) (layer : List ℕ) (f : Bool) (e : f ≡ writerFits w) where
-  pub way-unfit : f ≡ false → Refused (Model Params) ≡ judged w headers k i last layer
-  unfolding judged
+  pub way-unfit : f ≡ false → Refused (Model Params) ≡ tested w headers k i last layer
+  unfolding tested
   way-unfit h = yes _ _ _ (rw (← e, h)) refl
 
   module _ (h : f ≡ true) (c : Bool) (q : c ≡ clashes (w .pending) k) where
     fine : not (writerFits w) ≡ false
     fine = rw (← e, h)
 
-    pub way-17 : (w .finished || c) ≡ true → Refused Kind ≡ judged w headers k i last layer
-    unfolding judged
+    pub way-17 : (w .finished || c) ≡ true → Refused Kind ≡ tested w headers k i last layer
+    unfolding tested
     way-17 g = no _ _ _ fine (yes _ _ _ (rw (← q) g) refl)
 
     module _ (g : (w .finished || c) ≡ false) (t : Bool) (a : t ≡ headersFit (w .model .params) (w .model .started) headers) where
-      pub way-18 : t ≡ false → Refused Headers ≡ judged w headers k i last layer
-      unfolding judged
+      pub way-18 : t ≡ false → Refused Headers ≡ tested w headers k i last layer
+      unfolding tested
       way-18 l = no _ _ _ fine (no _ _ _ (rw (← q) g) (yes _ _ _ (rw (← a, l)) refl))
 
       module _ (l : t ≡ true) (u : Bool) (b : u ≡ layerFits k i layer) where
-        pub way-20 : u ≡ false → Refused Layer ≡ judged w headers k i last layer
-        unfolding judged
+        pub way-20 : u ≡ false → Refused Layer ≡ tested w headers k i last layer
+        unfolding tested
         way-20 r = no _ _ _ fine (no _ _ _ (rw (← q) g) (no _ _ _ (rw (← a, l)) (yes _ _ _ (rw (← b, r)) refl)))
 
-        pub way-on : (j : Judged) → u ≡ true → j ≡ measured (w .model) (length headers) (length layer) i last → j ≡ judged w headers k i last layer
-        unfolding judged
+        pub way-on : (j : Tested) → u ≡ true → j ≡ measured (w .model) (length headers) (length layer) i last → j ≡ tested w headers k i last layer
+        unfolding tested
         way-on j r v = no _ _ _ fine (no _ _ _ (rw (← q) g) (no _ _ _ (rw (← a, l)) (no _ _ _ (rw (← b, r)) v)))
 
 -- ---- the answer of the tests
 
 -- what they are for an offer
-abbrev pub judgedFor : CbrWriter → Offer → Judged
-judgedFor w o = judged w (o .headers) (o .kind) (o .interval) (o .last) (o .layer)
+abbrev pub testedFor : CbrWriter → Offer → Tested
+testedFor w o = tested w (o .headers) (o .kind) (o .interval) (o .last) (o .layer)
 
-unfoldable answered : CbrWriter → Offer → Judged → CbrOffered
-answered w o (Refused e) = refused w e
-answered w o TooLarge = tooLarge w (o .kind) (asked w (o .kind))
-answered w o (Ready p) =
-    pick (ltb (length (o .out)) (p .bytes)) (refused w Output) (placedBy w (o .kind) (length (o .layer)) (o .last) p)
+unfoldable answerTo : CbrWriter → Offer → Tested → CbrOffered
+answerTo w o (Refused e) = refusedInCode w e
+answerTo w o TooLarge = tooLargeInCode w (o .kind) (asked w (o .kind))
+answerTo w o (Ready p) =
+    pick (ltb (length (o .out)) (p .bytes)) (refusedInCode w Output) (placedBy w (o .kind) (length (o .layer)) (o .last) p)
 
 module _ (w : CbrWriter) (o : Offer) where
-  answered-no : (e : CbrError) → answered w o (Refused e) ≡ refused w e
-  unfolding answered
-  answered-no e = refl
+  answer-refused : (e : CbrError) → answerTo w o (Refused e) ≡ refusedInCode w e
+  unfolding answerTo
+  answer-refused e = refl
 
-  answered-large : answered w o TooLarge ≡ tooLarge w (o .kind) (asked w (o .kind))
-  unfolding answered
-  answered-large = refl
+  answer-large : answerTo w o TooLarge ≡ tooLargeInCode w (o .kind) (asked w (o .kind))
+  unfolding answerTo
+  answer-large = refl
 
-  placed-by : placedBy w (o .kind) (length (o .layer)) (o .last) (placement w o) ≡ placed w o (asked w (o .kind))
-  unfolding placement placedBy placed withPlaced
+  placed-by : placedBy w (o .kind) (length (o .layer)) (o .last) (placement w o) ≡ placedInCode w o (asked w (o .kind))
+  unfolding placement placedBy placedInCode withPlaced
   placed-by = refl
 
-  answered-ready : answered w o (Ready (placement w o))
-      ≡ pick (ltb (length (o .out)) (length (placedBytes w o))) (refused w Output) (placed w o (asked w (o .kind)))
-  unfolding answered placement
-  answered-ready = ap (pick (ltb (length (o .out)) (length (placedBytes w o))) (refused w Output)) placed-by
+  answer-ready : answerTo w o (Ready (placement w o))
+      ≡ pick (ltb (length (o .out)) (length (placedBytes w o))) (refusedInCode w Output) (placedInCode w o (asked w (o .kind)))
+  unfolding answerTo placement
+  answer-ready = ap (pick (ltb (length (o .out)) (length (placedBytes w o))) (refusedInCode w Output)) placed-by
 
-  offer-is : answered w o (judgedFor w o) ≡ offered w o
-  unfolding judged offered measuredFor
+  abbrev Gives : Tested → CbrOffered → Type 0
+  Gives j r = answerTo w o j ≡ r
+
+  offer-is : answerTo w o (testedFor w o) ≡ offerInCode w o
+  unfolding tested offerInCode measuredFor
   offer-is =
-      let a = answered w o in
-      through a _ _ _ _ _ (answered-no _) λ h12.
-      through a _ _ _ _ _ (answered-no _) λ h17.
-      through a _ _ _ _ _ (answered-no _) λ h18.
-      through a _ _ _ _ _ (answered-no _) λ h20.
-      ap a (measured-is w o (not-false _ h12)) ∙
-      (through a _ _ _ _ _ (answered-no _) λ h14.
-      through a _ _ _ _ _ (answered-no _) λ h7.
-      through a _ _ _ _ _ (answered-no _) λ h9.
-      through a _ _ _ _ _ answered-large λ size.
-      through a _ _ _ _ _ (answered-no _) λ h22.
-      answered-ready)
+      alike Gives _ (answer-refused _) λ h12.
+      alike Gives _ (answer-refused _) λ h17.
+      alike Gives _ (answer-refused _) λ h18.
+      alike Gives _ (answer-refused _) λ h20.
+      ap (answerTo w o) (measured-is w o (not-false _ h12)) ∙
+      (alike Gives _ (answer-refused _) λ h14.
+      alike Gives _ (answer-refused _) λ h7.
+      alike Gives _ (answer-refused _) λ h9.
+      alike Gives _ answer-large λ size.
+      alike Gives _ (answer-refused _) λ h22.
+      answer-ready)
 
 -- ---- a picture to place
 
@@ -125,11 +128,11 @@ large-ready h = true≢false cc
 
 record Readied (w : CbrWriter) (o : Offer) (p : Placement) : Type 0 where
   fitted : writerFits w ≡ true
-  end-far : end w o ≤ 2 ^ 48
+  end-far : end w o ≤ farthest
   is : p ≡ placement w o
 
-readied : (w : CbrWriter) (o : Offer) (p : Placement) → judgedFor w o ≡ Ready p → Readied w o p
-unfolding judged measuredFor
+readied : (w : CbrWriter) (o : Offer) (p : Placement) → testedFor w o ≡ Ready p → Readied w o p
+unfolding tested measuredFor
 readied w o p h =
     let a = was-no _ _ _ not-ready h in
     let b = was-no _ _ _ not-ready (a .1) in
@@ -143,18 +146,18 @@ readied w o p h =
     let e22 = was-no _ _ _ not-ready (size .1) in
     record {
       fitted = f;
-      end-far = ltb-false (2 ^ 48) (end w o) (or-right (ltb (2 ^ 48) (position w o)) _ (e14 .0));
+      end-far = ltb-false farthest (end w o) (or-right (ltb farthest (position w o)) _ (e14 .0));
       is = ready-same _ _ (sym (e22 .1));
     }
   where
     ready-same : (x y : Placement) → Ready x ≡ Ready y → x ≡ y
     ready-same x y e = cc
 
-module _ (w : CbrWriter) (o : Offer) (j : Judged) (e : j ≡ judgedFor w o) (p : Placement) (h : j ≡ Ready p) where
+module _ (w : CbrWriter) (o : Offer) (j : Tested) (e : j ≡ testedFor w o) (p : Placement) (h : j ≡ Ready p) where
   ready : Readied w o p
   ready = readied w o p (sym e ∙ h)
 
-  bytes-of : p .bytes ≡ length (o .headers) + length (o .layer) + p .«stuffing_bytes» + length (tail (o .last))
+  bytes-of : p .bytes ≡ length (o .headers) + length (o .layer) + p .«stuffing_bytes» + length (endCode (o .last))
   unfolding placement
   bytes-of = rw (ready .is) (placed-size w o)
 
@@ -167,20 +170,20 @@ module _ (w : CbrWriter) (o : Offer) (j : Judged) (e : j ≡ judgedFor w o) (p :
       let s : p .«stuffing_bytes» ≡ stuffing w o = ap (λ (x : Placement). x .«stuffing_bytes») (r .is) in
       record {
         layer-far = omega (arith, r .end-far);
-        target-far = leb-true _ _ (every-get (λ t. leb t (2 ^ 48)) (w .«target_bits») (index (o .kind)) refl (v .targets));
+        target-far = leb-true _ _ (all-fit-get (λ t. leb t farthest) (w .«target_bits») (index (o .kind)) refl (v .targets));
         total-far = omega (arith, r .end-far, v .stuffed, m .end-high);
       }
 
-  ready-is : offered w o ≡ pick (ltb (length (o .out)) (p .bytes)) (refused w Output) (placedBy w (o .kind) (length (o .layer)) (o .last) p)
-  unfolding answered
+  ready-is : offerInCode w o ≡ pick (ltb (length (o .out)) (p .bytes)) (refusedInCode w Output) (placedBy w (o .kind) (length (o .layer)) (o .last) p)
+  unfolding answerTo
   ready-is = sym (offer-is w o) ∙ rw (← e, h)
 
-module _ (w : CbrWriter) (headers : List ℕ) (k : PictureKind) (i : RemovalInterval) (last : Bool) (layer : List ℕ) (j : Judged)
-    (e : j ≡ judged w headers k i last layer) (p : Placement) (h : j ≡ Ready p) where
+module _ (w : CbrWriter) (headers : List ℕ) (k : PictureKind) (i : RemovalInterval) (last : Bool) (layer : List ℕ) (j : Tested)
+    (e : j ≡ tested w headers k i last layer) (p : Placement) (h : j ≡ Ready p) where
   abbrev any-out : Offer
   any-out = record { headers = headers; kind = k; interval = i; last = last; layer = layer; out = [] }
 
-  pub bytes-are : p .bytes ≡ length headers + length layer + p .«stuffing_bytes» + length (tail last)
+  pub bytes-are : p .bytes ≡ length headers + length layer + p .«stuffing_bytes» + length (endCode last)
   bytes-are = bytes-of w any-out j e p h
 
   pub placeable : Placeable w k (length layer) p
@@ -189,45 +192,45 @@ module _ (w : CbrWriter) (headers : List ℕ) (k : PictureKind) (i : RemovalInte
 -- ---- what is promised
 
 -- the answer by number, the writer that is left, and what the output part holds
-abbrev Promised : CbrWriter → Offer → CbrOffered → List ℕ → Type 0
-Promised w o r x = (offerAnswer (r .answer) ≡ offer w o) × ((r .writer ≡ left w o) × (x ≡ outAfter w o))
+abbrev OfferPromised : CbrWriter → Offer → CbrOffered → List ℕ → Type 0
+OfferPromised w o r x = (offerAnswer (r .answer) ≡ offer w o) × ((r .writer ≡ left w o) × (x ≡ outAfter w o))
 
-promised : (w : CbrWriter) (o : Offer) (r : CbrOffered) (x : List ℕ) → r ≡ offered w o
-    → x ≡ outOf (offerAnswer (r .answer)) (placedBytes w o) (o .out) → Promised w o r x
+promised : (w : CbrWriter) (o : Offer) (r : CbrOffered) (x : List ℕ) → r ≡ offerInCode w o
+    → x ≡ outOf (offerAnswer (r .answer)) (placedBytes w o) (o .out) → OfferPromised w o r x
 promised w o r x e h =
     let a : offerAnswer (r .answer) ≡ offer w o = ap (λ (s : CbrOffered). offerAnswer (s .answer)) e ∙ answer-is w o in
     (a, (ap (λ (s : CbrOffered). s .writer) e ∙ writer-is w o, h ∙ ap (λ (s : Answer Given). outOf s (placedBytes w o) (o .out)) a))
 
 -- ---- the ways
 
-module _ (w : CbrWriter) (o : Offer) (j : Judged) (e : j ≡ judgedFor w o) (r : CbrOffered) where
-  pub offer-refused : (error : CbrError) → j ≡ Refused error → r ≡ refused w error → Promised w o r (o .out)
-  unfolding answered refused
+module _ (w : CbrWriter) (o : Offer) (j : Tested) (e : j ≡ testedFor w o) (r : CbrOffered) where
+  pub offer-refused : (error : CbrError) → j ≡ Refused error → r ≡ refusedInCode w error → OfferPromised w o r (o .out)
+  unfolding answerTo refusedInCode
   offer-refused error h g =
-      let a : offered w o ≡ refused w error = sym (offer-is w o) ∙ rw (← e, h) in
+      let a : offerInCode w o ≡ refusedInCode w error = sym (offer-is w o) ∙ rw (← e, h) in
       promised w o r (o .out) (g ∙ sym a) (rw g)
 
-  pub offer-large : j ≡ TooLarge → r ≡ tooLarge w (o .kind) (asked w (o .kind)) → Promised w o r (o .out)
-  unfolding answered tooLarge
+  pub offer-large : j ≡ TooLarge → r ≡ tooLargeInCode w (o .kind) (asked w (o .kind)) → OfferPromised w o r (o .out)
+  unfolding answerTo tooLargeInCode
   offer-large h g =
-      let a : offered w o ≡ tooLarge w (o .kind) (asked w (o .kind)) = sym (offer-is w o) ∙ rw (← e, h) in
+      let a : offerInCode w o ≡ tooLargeInCode w (o .kind) (asked w (o .kind)) = sym (offer-is w o) ∙ rw (← e, h) in
       promised w o r (o .out) (g ∙ sym a)
       (rw g
       (pick-elim (λ (s : CbrOffered). o .out ≡ outOf (offerAnswer (s .answer)) (placedBytes w o) (o .out)) (eqb (asked w (o .kind)) 31) (λ f. refl) (λ f. refl)))
 
   module _ (p : Placement) (h : j ≡ Ready p) where
-    pub offer-short : length (o .out) < p .bytes → r ≡ refused w Output → Promised w o r (o .out)
-    unfolding pick refused
+    pub offer-short : length (o .out) < p .bytes → r ≡ refusedInCode w Output → OfferPromised w o r (o .out)
+    unfolding pick refusedInCode
     offer-short l g =
-        let a : offered w o ≡ refused w Output = ready-is w o j e p h ∙ rw (lt-ltb _ _ l) in
+        let a : offerInCode w o ≡ refusedInCode w Output = ready-is w o j e p h ∙ rw (lt-ltb _ _ l) in
         promised w o r (o .out) (g ∙ sym a) (rw g)
 
     pub offer-placed : (x : List ℕ) → p .bytes ≤ length (o .out) → r ≡ placedBy w (o .kind) (length (o .layer)) (o .last) p
-        → x ≡ over (o .headers ++ (patched (o .layer) (p .«vbv_delay») ++ (replicate (p .«stuffing_bytes») 0 ++ tail (o .last)))) (o .out)
-        → Promised w o r x
-    unfolding pick placement placedBytes placed
+        → x ≡ over (o .headers ++ (patched (o .layer) (p .«vbv_delay») ++ (replicate (p .«stuffing_bytes») 0 ++ endCode (o .last)))) (o .out)
+        → OfferPromised w o r x
+    unfolding pick placement placedBytes placedInCode
     offer-placed x l g k =
         let s = ready w o j e p h .is in
-        let a : offered w o ≡ placedBy w (o .kind) (length (o .layer)) (o .last) p = ready-is w o j e p h ∙ rw (le-ltb _ _ l) in
-        let b : r ≡ placed w o (asked w (o .kind)) = g ∙ rw s (placed-by w o) in
+        let a : offerInCode w o ≡ placedBy w (o .kind) (length (o .layer)) (o .last) p = ready-is w o j e p h ∙ rw (le-ltb _ _ l) in
+        let b : r ≡ placedInCode w o (asked w (o .kind)) = g ∙ rw s (placed-by w o) in
         promised w o r x (g ∙ sym a) (rw (b, k, s))

@@ -3,7 +3,7 @@
 use mathlib.Core.Path.{_≡_, refl, sym, _∙_}
 use mathlib.Core.Bool.{Bool, true, false, not, _||_}
 use mathlib.Core.List.{List}
-use Prim.Native.Nat.{ℕ, _+_, _*_, _^_, _≤_, _<_}
+use Prim.Native.Nat.{ℕ, _+_, _*_, _≤_, _<_}
 use native.Mathlib.Omega.{arith}
 use lib.Dec.{ltb}
 use lib.ListN.{length}
@@ -11,6 +11,7 @@ use borrow.Author.Tests.{ltb-false, lt-ltb, le-ltb, eq-eqb, ne-eqb}
 use Rattle.bits.specs.Bits.{pick}
 use Rattle.bits.specs.Refusals.{Answer, refuse, violate}
 use Rattle.bits.proofs.Flags.{or-left, or-right, is-true, is-false}
+use Rattle.vbv.specs.Model.{farthest}
 use Rattle.vbv.specs.Annex.{unit, overflows, beyond}
 use Rattle.vbv.specs.declared.VbvParams.{VbvParams}
 use Rattle.vbv.proofs.Laws.{over-units, units-over, beyond-units, units-beyond}
@@ -21,7 +22,7 @@ use Rattle.rate_control.specs.Answers.{Given}
 use Rattle.rate_control.specs.Writer.{writerFits, clashes, asked}
 use Rattle.rate_control.specs.Offer.{Offer, position, content, end, deliveredAt, stuffing, tooLarge, placedBytes, offer}
 use Rattle.rate_control.specs.Sent.{contentOf, Stuffs}
-use Rattle.rate_control.specs.Due.{Known, anyPlaced, deliveredFor, askedFor, holding, OutOfTurn, Fitting, InRange, OnTime, AllThere, Due, out-of-turn, bad-headers, bad-layer, far-position, far-end, early, overflow, too-large, largest, no-edge, no-room, room}
+use Rattle.rate_control.specs.Due.{Known, anyPlaced, deliveredFor, askedFor, holding, OutOfTurn, Fitting, Near, OnTime, AllDelivered, Due, out-of-turn, bad-headers, bad-layer, far-position, far-end, early-position, overflowing, too-large, largest, no-edge, no-room, room}
 use Rattle.rate_control.specs.declared.CbrWriter.{CbrWriter}
 use Rattle.rate_control.proofs.Chain.{Placing}
 use Rattle.rate_control.proofs.Placing.{placed-size}
@@ -30,11 +31,11 @@ use Rattle.rate_control.proofs.Knowing.{delivered-known}
 use Rattle.rate_control.proofs.Answering.{turn, in-turn-is, at-position, at-content, at-end, stuffs, delay-known}
 
 -- the zeros are fixed by what they do
-zeros-same : {p : VbvParams} {n d : ℕ} {o : Offer} {a b : ℕ} → Stuffs p n d o a → Stuffs p n d o b → a ≡ b
-zeros-same {o = o} {a = a} {b = b} g h = go (o .last) refl
+stuffing-same : {p : VbvParams} {n d : ℕ} {o : Offer} {a b : ℕ} → Stuffs p n d o a → Stuffs p n d o b → a ≡ b
+stuffing-same {o = o} {a = a} {b = b} g h = go (o .last) refl
   where
     go : (t : Bool) → o .last ≡ t → a ≡ b
-    go true e = g .none e ∙ sym (h .none e)
+    go true e = g .after-last e ∙ sym (h .after-last e)
     go false e =
         let l = g .least e b .1 (h .least e b .0 (omega arith)) in
         let k = h .least e a .1 (g .least e a .0 (omega arith)) in
@@ -54,7 +55,7 @@ module _ (p : VbvParams) (t : List ℕ) (x : Known) (o : Offer) {n : ℕ} (i : I
       (refuse 20 (not (layerFits (o .kind) (o .interval) (o .layer))) r)))
 
   abbrev upTo14 : Answer Given → Answer Given
-  upTo14 r = upTo20 (refuse 14 (ltb (2 ^ 48) (position w o) || ltb (2 ^ 48) (end w o)) r)
+  upTo14 r = upTo20 (refuse 14 (ltb farthest (position w o) || ltb farthest (end w o)) r)
 
   abbrev upTo9 : Answer Given → Answer Given
   upTo9 r =
@@ -77,7 +78,7 @@ module _ (p : VbvParams) (t : List ℕ) (x : Known) (o : Offer) {n : ℕ} (i : I
   turn-no f = is-false _ (λ e. f (turn x o _ refl e))
 
   stuffing-is : {z : ℕ} → Stuffs p (x .bytes) (deliveredFor p x o) o z → stuffing w o ≡ z
-  stuffing-is g = zeros-same (stuffs p t x o i) g
+  stuffing-is g = stuffing-same (stuffs p t x o i) g
 
   end-is : {z : ℕ} → Stuffs p (x .bytes) (deliveredFor p x o) o z → end w o ≡ contentOf (x .bytes) o + 8 * z
   end-is g = rw (← stuffing-is g) (at-end p t x o i)
@@ -92,34 +93,34 @@ module _ (p : VbvParams) (t : List ℕ) (x : Known) (o : Offer) {n : ℕ} (i : I
   or-no : (a b : Bool) → a ≡ false → b ≡ false → (a || b) ≡ false
   or-no a b f h = rw (f, h)
 
-  past-14 : {k : ℕ} {z r : Answer Given} → InRange p x o k → z ≡ r → z ≡ upTo14 r
+  past-14 : {k : ℕ} {z r : Answer Given} → Near p x o k → z ≡ r → z ≡ upTo14 r
   past-14 g e =
-      let a : position w o ≤ 2 ^ 48 = rw (at-position p t x o i) (g .position-near) in
-      let b : end w o ≤ 2 ^ 48 = rw (end-is (g .stuffs)) (g .end-near) in
-      past-20 (g .fitting) (no _ _ _ (or-no _ _ (le-ltb (2 ^ 48) (position w o) a) (le-ltb (2 ^ 48) (end w o) b)) e)
+      let a : position w o ≤ farthest = rw (at-position p t x o i) (g .position-near) in
+      let b : end w o ≤ farthest = rw (end-is (g .stuffs)) (g .end-near) in
+      past-20 (g .fitting) (no _ _ _ (or-no _ _ (le-ltb farthest (position w o) a) (le-ltb farthest (end w o) b)) e)
 
   past-9 : {k : ℕ} {z r : Answer Given} → OnTime p x o k → z ≡ r → z ≡ upTo9 r
   past-9 g e =
       let a : position w o * unit p ≤ deliveredAt w o = rw (delivered-known p t x o, at-position p t x o i) (g .in-time) in
       let b : deliveredAt w o ≤ (8 * x .bytes + p .«buffer_size_bits») * unit p = rw (delivered-known p t x o) (g .no-overflow) in
-      past-14 (g .in-range) (no _ _ _ (units-beyond p _ _ a) (no _ _ _ (units-over p _ _ b) e))
+      past-14 (g .near) (no _ _ _ (units-beyond p _ _ a) (no _ _ _ (units-over p _ _ b) e))
 
-  past-22 : {k : ℕ} {z r : Answer Given} → AllThere p x o k → z ≡ r → z ≡ upTo22 r
+  past-22 : {k : ℕ} {z r : Answer Given} → AllDelivered p x o k → z ≡ r → z ≡ upTo22 r
   past-22 {k} g e =
-      let l = g .end-there in
+      let l = g .end-delivered in
       let m : contentOf (x .bytes) o * unit p ≤ deliveredFor p x o = omega arith in
       let a : content w o * unit p ≤ deliveredAt w o = rw (delivered-known p t x o, at-content p t x o i) m in
-      let b : end w o * unit p ≤ deliveredAt w o = rw (delivered-known p t x o, end-is (g .on-time .in-range .stuffs)) l in
+      let b : end w o * unit p ≤ deliveredAt w o = rw (delivered-known p t x o, end-is (g .on-time .near .stuffs)) l in
       past-9 (g .on-time) (no _ _ _ (units-beyond p _ _ a) (no _ _ _ (units-beyond p _ _ b) e))
 
   -- d lies before `end`
   not-there : (end d e f : ℕ) → end ≡ e → d ≡ f → f < e * unit p → beyond p end d ≡ true
   not-there end d e f a b l = is-true _ (λ z. omega (arith, l, beyond-units p (e) (f) (rw (← a, ← b) z)))
 
-  placing : {k : ℕ} → AllThere p x o k → length (placedBytes w o) ≤ length (o .out) → Placing w o
+  placing : {k : ℕ} → AllDelivered p x o k → length (placedBytes w o) ≤ length (o .out) → Placing w o
   placing g s =
       let q = g .on-time in
-      let r = q .in-range in
+      let r = q .near in
       let f = turn-no (r .fitting .in-turn) in
       record {
         fitted = i .fits;
@@ -131,7 +132,7 @@ module _ (p : VbvParams) (t : List ℕ) (x : Known) (o : Offer) {n : ℕ} (i : I
         end-far = rw (end-is (r .stuffs)) (r .end-near);
         in-time = units-beyond p _ _ (rw (delivered-known p t x o, at-position p t x o i) (q .in-time));
         no-overflow = units-over p _ _ (rw (delivered-known p t x o) (q .no-overflow));
-        no-underflow = units-beyond p _ _ (rw (delivered-known p t x o, end-is (r .stuffs)) (g .end-there));
+        no-underflow = units-beyond p _ _ (rw (delivered-known p t x o, end-is (r .stuffs)) (g .end-delivered));
         room = s;
       }
 
@@ -147,11 +148,11 @@ module _ (p : VbvParams) (t : List ℕ) (x : Known) (o : Offer) {n : ℕ} (i : I
       (no _ _ _ (turn-no f)
       (held (headersFit p (anyPlaced x) (o .headers)) _ _ g
       (failed (layerFits (o .kind) (o .interval) (o .layer)) _ _ k refl)))
-  only (far-position g l) = past-20 g (yes _ _ _ (is-true _ (λ z. omega (arith, l, at-position p t x o i, ltb-false (2 ^ 48) (position w o) (or-left _ _ z)))) refl)
+  only (far-position g l) = past-20 g (yes _ _ _ (is-true _ (λ z. omega (arith, l, at-position p t x o i, ltb-false farthest (position w o) (or-left _ _ z)))) refl)
   only (far-end g s l) =
-      past-20 g (yes _ _ _ (is-true _ (λ z. omega (arith, l, end-is s, ltb-false (2 ^ 48) (end w o) (or-right (ltb (2 ^ 48) (position w o)) _ z)))) refl)
-  only (early g l k) = past-14 g (yes _ _ _ (not-there _ _ _ _ (at-position p t x o i) (delivered-known p t x o) l) refl)
-  only (overflow g a l k) =
+      past-20 g (yes _ _ _ (is-true _ (λ z. omega (arith, l, end-is s, ltb-false farthest (end w o) (or-right (ltb farthest (position w o)) _ z)))) refl)
+  only (early-position g l k) = past-14 g (yes _ _ _ (not-there _ _ _ _ (at-position p t x o i) (delivered-known p t x o) l) refl)
+  only (overflowing g a l k) =
       let b : position w o * unit p ≤ deliveredAt w o = rw (delivered-known p t x o, at-position p t x o i) a in
       past-14 g
       (no _ _ _ (units-beyond p _ _ b)
@@ -164,10 +165,10 @@ module _ (p : VbvParams) (t : List ℕ) (x : Known) (o : Offer) {n : ℕ} (i : I
       let b : content w o * unit p ≤ deliveredAt w o = rw (delivered-known p t x o, at-content p t x o i) a in
       past-9 g
       (no _ _ _ (units-beyond p _ _ b)
-      (yes _ _ _ (not-there _ _ _ _ (end-is (g .in-range .stuffs)) (delivered-known p t x o) l) refl))
+      (yes _ _ _ (not-there _ _ _ _ (end-is (g .near .stuffs)) (delivered-known p t x o) l) refl))
   only (no-room g l) =
-      let s : length (o .out) < length (placedBytes w o) = rw (placed-size w o, stuffing-is (g .on-time .in-range .stuffs)) l in
+      let s : length (o .out) < length (placedBytes w o) = rw (placed-size w o, stuffing-is (g .on-time .near .stuffs)) l in
       past-22 g (yes _ _ _ (lt-ltb _ _ s) refl)
   only (room g l) =
-      let s : length (placedBytes w o) ≤ length (o .out) = rw (placed-size w o, stuffing-is (g .on-time .in-range .stuffs)) l in
-      past-22 g (no _ _ _ (le-ltb _ _ s) (rw (delay-known p t x o i (placing g s), placed-size w o, stuffing-is (g .on-time .in-range .stuffs))))
+      let s : length (placedBytes w o) ≤ length (o .out) = rw (placed-size w o, stuffing-is (g .on-time .near .stuffs)) l in
+      past-22 g (no _ _ _ (le-ltb _ _ s) (rw (delay-known p t x o i (placing g s), placed-size w o, stuffing-is (g .on-time .near .stuffs))))

@@ -21,7 +21,7 @@ use Rattle.vbv.proofs.Laws.{over-units, units-over, beyond-units, least-end, de
 use Rattle.vbv.proofs.After.{patched-size}
 use Rattle.rate_control.specs.Answers.{Given}
 use Rattle.rate_control.specs.Writer.{writerFits}
-use Rattle.rate_control.specs.Offer.{Offer, position, content, end, firstDelay, deliveredAt, deliveredNext, stuffing, delay, tail, placedBytes, offer}
+use Rattle.rate_control.specs.Offer.{Offer, position, content, end, firstDelay, deliveredAt, deliveredNext, stuffing, delay, endCode, placedBytes, offer}
 use Rattle.rate_control.specs.declared.CbrWriter.{CbrWriter}
 use Rattle.rate_control.proofs.Fitting.{writer-fits}
 use Rattle.rate_control.proofs.Chain.{Placing}
@@ -40,14 +40,14 @@ module _ (w : CbrWriter) (o : Offer) where
 
   -- ---- sizes
 
-  pub placed-size : length (placedBytes w o) ≡ length (o .headers) + length (o .layer) + stuffing w o + length (tail (o .last))
+  pub placed-size : length (placedBytes w o) ≡ length (o .headers) + length (o .layer) + stuffing w o + length (endCode (o .last))
   unfolding placedBytes
   placed-size =
       let l : List ℕ = patched (o .layer) (delay w o) in
       let z : List ℕ = replicate (stuffing w o) 0 in
-      let a : length (placedBytes w o) ≡ length (o .headers) + length (l ++ (z ++ tail (o .last))) = length-append (o .headers) (l ++ (z ++ tail (o .last))) in
-      let b = length-append l (z ++ tail (o .last)) in
-      let c = length-append z (tail (o .last)) in
+      let a : length (placedBytes w o) ≡ length (o .headers) + length (l ++ (z ++ endCode (o .last))) = length-append (o .headers) (l ++ (z ++ endCode (o .last))) in
+      let b = length-append l (z ++ endCode (o .last)) in
+      let c = length-append z (endCode (o .last)) in
       omega (arith, patched-size (o .layer) (delay w o), length-replicate {A = ℕ} (stuffing w o) 0)
 
   pub end-is : end w o ≡ w .model .«prev_end_bits» + 8 * length (placedBytes w o)

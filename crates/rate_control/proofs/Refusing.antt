@@ -1,21 +1,17 @@
 -- The numbers of a writer's refusals; and a withdrawal from a writer that fits, which is not refused.
 -- Assumes nothing.
-use mathlib.Core.Path.{_≡_, refl}
-use mathlib.Core.Bool.{true}
+use mathlib.Core.Path.{refl}
 use mathlib.Core.List.{[], _∷_}
-use Rattle.bits.specs.Bits.{pick}
-use Rattle.bits.specs.Refusals.{Answer, value}
+use Rattle.bits.specs.Refusals.{Answer}
 use Rattle.bits.specs.Numbers.{Numbered, a-value, by-number, by-picture}
 use Rattle.bits.proofs.Flags.{pick-elim}
 use Rattle.bits.proofs.Numbering.{and-then, wider}
 use Rattle.vbv.proofs.Numbering.{model-numbers}
 use Rattle.rate_control.specs.Answers.{Given}
 use Rattle.rate_control.specs.Create.{create}
-use Rattle.rate_control.specs.Writer.{writerFits}
-use Rattle.rate_control.specs.Offer.{Offer, offer, withPending, withdraw}
+use Rattle.rate_control.specs.Offer.{Offer, offer, withdraw}
 use Rattle.rate_control.specs.Numbers.{WriterNumbers}
 use Rattle.rate_control.specs.declared.CbrConfig.{CbrConfig}
-use Rattle.rate_control.specs.declared.Pending.the-variants.{Nothing}
 use Rattle.rate_control.specs.declared.CbrWriter.{CbrWriter}
 
 created-numbered : (c : CbrConfig) → Numbered (12 ∷ 6 ∷ []) [] [] (create c)
@@ -50,7 +46,3 @@ withdraw-numbered w = pick-elim (Numbered (12 ∷ []) [] []) _ (λ e. by-number 
 
 pub writer-numbers : WriterNumbers
 writer-numbers = record { creation = created-numbered; offers = offer-numbered; withdrawals = withdraw-numbered }
-
-pub withdraws : (w : CbrWriter) → writerFits w ≡ true → withdraw w ≡ value (withPending w Nothing)
-unfolding withdraw pick
-withdraws w f = rw f

@@ -15,11 +15,11 @@ use Rattle.vbv.proofs.Laws.{over-units, beyond-units}
 use Rattle.vbv.proofs.After.{after as model-after}
 use Rattle.rate_control.specs.Answers.{Given, placed, again}
 use Rattle.rate_control.specs.Offer.{Offer, position, content, end, deliveredAt, deliveredNext, stuffing, delay, placedBytes, withPending, withPlaced, leftBy, outOf}
-use Rattle.rate_control.specs.Calls.{Call, offering, withdrawing, stepOf, after, run}
-use Rattle.rate_control.specs.Sent.{positionOf, contentOf, Stuffs, Sent, position as sentPosition, end as sentEnd, sentBy, sent, Removals, none, next, EachRemoval, InBuffer, Placed, LeastStuffing}
+use Rattle.rate_control.specs.Calls.{Call, offering, withdrawing, stepOf, leftByCall, stepsOf}
+use Rattle.rate_control.specs.Sent.{positionOf, contentOf, Stuffs, Sent, sentPosition, sentEnd, sentBy, sent, Removals, no-removal, removal-then, EachRemoval, InBuffer, WellPlaced, LeastStuffing}
 use Rattle.rate_control.specs.declared.Pending.the-variants.{Nothing}
 use Rattle.rate_control.specs.declared.CbrWriter.{CbrWriter}
-use Rattle.rate_control.proofs.Chain.{Placing, Outcome, stays, closes, retries, places, outcome}
+use Rattle.rate_control.proofs.Chain.{Placing, Outcome, stays, closes, retries, hands-out, outcome}
 use Rattle.rate_control.proofs.Placing.{delivered-later, end-is, stuffing-last, stuffing-least, params-fitted, delay-told, delivered-told}
 use Rattle.rate_control.proofs.Creation.{Fresh}
 use Rattle.rate_control.proofs.Invariant.{Inv, call-inv, withdraw-is}
@@ -28,23 +28,23 @@ use Rattle.rate_control.proofs.Invariant.{Inv, call-inv, withdraw-is}
 
 -- the picture that a placing sends, n bytes being handed out before
 unfoldable pub sentOf : ℕ → CbrWriter → Offer → Sent
-sentOf n w o = record { before = n; offer = o; delay = delay w o; zeros = stuffing w o; bytes = placedBytes w o }
+sentOf n w o = record { before = n; offer = o; delay = delay w o; stuffing = stuffing w o; bytes = placedBytes w o }
 
 -- a removal, and what the check needs besides: the start code is there in time, and the bytes before are those that were removed
 pub record Done (p : VbvParams) (d previous : ℕ) (x : Sent) : Type 0 where
   pub in-buffer : InBuffer p d previous x
-  pub as-placed : Placed p d previous x
+  pub as-placed : WellPlaced p d previous x
   pub least : LeastStuffing p d previous x
   pub in-time : beyond p (sentPosition x) d ≡ false
   pub begins : previous ≡ 8 * x .before
 
-abbrev pub Course : VbvParams → ℕ → ℕ → List Sent → Type 0
-Course p d previous xs = Removals p (Done p) d previous xs
+abbrev pub RemovalsDone : VbvParams → ℕ → ℕ → List Sent → Type 0
+RemovalsDone p d previous xs = Removals p (Done p) d previous xs
 
 weaker : {p : VbvParams} {A B : ℕ → ℕ → Sent → Type 0} {d previous : ℕ} {xs : List Sent}
     → ((d previous : ℕ) (x : Sent) → A d previous x → B d previous x) → Removals p A d previous xs → Removals p B d previous xs
-weaker f none = none
-weaker f (next h r) = next (f _ _ _ h) (weaker f r)
+weaker f no-removal = no-removal
+weaker f (removal-then h r) = removal-then (f _ _ _ h) (weaker f r)
 
 module _ (n : ℕ) (w : CbrWriter) (o : Offer) (k : w .model .«prev_end_bits» ≡ 8 * n) where
   pub position-same : positionOf n o ≡ position w o
@@ -57,7 +57,7 @@ module _ (n : ℕ) (w : CbrWriter) (o : Offer) (k : w .model .«prev_end_bits» 
 
   pub stuffs-same : Placing w o → Stuffs (w .model .params) n (deliveredAt w o) o (stuffing w o)
   unfolding deliveredNext
-  stuffs-same g = record { least = λ e j. rw content-same (stuffing-least w o (params-fitted w o g) e j); none = stuffing-last w o }
+  stuffs-same g = record { least = λ e j. rw content-same (stuffing-least w o (params-fitted w o g) e j); after-last = stuffing-last w o }
 
   end-same : sentEnd (sentOf n w o) ≡ end w o
   unfolding sentOf
@@ -83,53 +83,53 @@ unfolding withPending pick
 outcome-finished h (stays e) = (λ k out rest. refl, rw e h)
 outcome-finished h (closes g) = (λ k out rest. refl, h)
 outcome-finished h (retries g) = (λ k out rest. refl, h)
-outcome-finished h (places g) = absurd (true≢false (sym h ∙ g .unfinished))
+outcome-finished h (hands-out g) = absurd (true≢false (sym h ∙ g .unfinished))
 
 still-finished : (w : CbrWriter) → w .finished ≡ true → withPending w Nothing .finished ≡ true
 unfolding withPending
 still-finished w e = e
 
-pub finished-none : {m : ℕ} (k : ℕ) (w : CbrWriter) (l : List Call) → Inv m w → w .finished ≡ true → sent k (run w l) ≡ []
-unfolding run stepOf after sent
+pub finished-none : {m : ℕ} (k : ℕ) (w : CbrWriter) (l : List Call) → Inv m w → w .finished ≡ true → sent k (stepsOf w l) ≡ []
+unfolding stepsOf stepOf leftByCall sent
 finished-none k w [] h e = refl
 finished-none k w (offering o ∷ l) h e =
     let f = outcome-finished e (outcome w o) in
-    f .0 k _ (λ j. sent j (run (after w (offering o)) l)) ∙ finished-none k _ l (call-inv (offering o) h) (f .1)
+    f .0 k _ (λ j. sent j (stepsOf (leftByCall w (offering o)) l)) ∙ finished-none k _ l (call-inv (offering o) h) (f .1)
 finished-none k w (withdrawing ∷ l) h e = finished-none k _ l (call-inv withdrawing h) (rw (withdraw-is w (h .fits)) (still-finished w e))
 
 -- ---- all of them
 
 -- from a writer on: before the first picture Annex C of the whole, later the removals from what the writer has delivered
-abbrev pub First : VbvParams → List Sent → Type 0
-First p xs = EachRemoval p (Done p) xs
+abbrev pub EachDone : VbvParams → List Sent → Type 0
+EachDone p xs = EachRemoval p (Done p) xs
 
-abbrev Onward : VbvParams → Bool → ℕ → ℕ → List Sent → Type 0
-Onward p true d previous xs = Course p d previous xs
-Onward p false d previous xs = First p xs
+abbrev RemovalsFrom : VbvParams → Bool → ℕ → ℕ → List Sent → Type 0
+RemovalsFrom p true d previous xs = RemovalsDone p d previous xs
+RemovalsFrom p false d previous xs = EachDone p xs
 
 Claim : CbrWriter → List Sent → Type 0
-Claim w xs = Onward (w .model .params) (w .model .started) (delivered (w .model)) (w .model .«prev_end_bits») xs
+Claim w xs = RemovalsFrom (w .model .params) (w .model .started) (delivered (w .model)) (w .model .«prev_end_bits») xs
 
-onward-none : (p : VbvParams) (b : Bool) (d previous : ℕ) → Onward p b d previous []
-onward-none p true d previous = none
-onward-none p false d previous = tt
+removals-none : (p : VbvParams) (b : Bool) (d previous : ℕ) → RemovalsFrom p b d previous []
+removals-none p true d previous = no-removal
+removals-none p false d previous = tt
 
 module _ {m : ℕ} (n : ℕ) (w : CbrWriter) (o : Offer) (h : Inv m w) (k : w .model .«prev_end_bits» ≡ 8 * n) (g : Placing w o) (xs : List Sent)
-    (c : Course (w .model .params) (deliveredNext w o) (end w o) xs) where
-  whole : Course (w .model .params) (deliveredAt w o) (w .model .«prev_end_bits») (sentOf n w o ∷ xs)
+    (c : RemovalsDone (w .model .params) (deliveredNext w o) (end w o) xs) where
+  whole : RemovalsDone (w .model .params) (deliveredAt w o) (w .model .«prev_end_bits») (sentOf n w o ∷ xs)
   unfolding sentOf deliveredNext
-  whole = next {xs = xs} (place-done n w o k g) (rw (end-same n w o k) c)
+  whole = removal-then {xs = xs} (place-done n w o k g) (rw (end-same n w o k) c)
 
   first : w .model .started ≡ false → deliveredAt w o ≡ firstDelivered (w .model .params) (positionOf n o) (delay w o)
   first e = rw (position-same n w o k) (delivered-told w o g e)
 
-  place-onward : Claim w (sentOf n w o ∷ xs)
+  place-removals : Claim w (sentOf n w o ∷ xs)
   unfolding Claim sentOf
-  place-onward = go (w .model .started) refl
+  place-removals = go (w .model .started) refl
     where
-      go : (b : Bool) → w .model .started ≡ b → Onward (w .model .params) b (delivered (w .model)) (w .model .«prev_end_bits») (sentOf n w o ∷ xs)
-      go true e = subst (λ (d : ℕ). Course (w .model .params) d (w .model .«prev_end_bits») (sentOf n w o ∷ xs)) (delivered-later w o e) whole
-      go false e = subst₂ (λ (d previous : ℕ). Course (w .model .params) d previous (sentOf n w o ∷ xs)) (first e) (h .none-yet e) whole
+      go : (b : Bool) → w .model .started ≡ b → RemovalsFrom (w .model .params) b (delivered (w .model)) (w .model .«prev_end_bits») (sentOf n w o ∷ xs)
+      go true e = subst (λ (d : ℕ). RemovalsDone (w .model .params) d (w .model .«prev_end_bits») (sentOf n w o ∷ xs)) (delivered-later w o e) whole
+      go false e = subst₂ (λ (d previous : ℕ). RemovalsDone (w .model .params) d previous (sentOf n w o ∷ xs)) (first e) (h .none-yet e) whole
 
 -- the bytes handed out after an answer
 abbrev countBy : ℕ → Answer Given → ℕ
@@ -143,50 +143,50 @@ unfolding withPending withPlaced pick
 outcome-bytes n k (stays e) = rw e k
 outcome-bytes n k (closes g) = k
 outcome-bytes n k (retries g) = k
-outcome-bytes {w} {o} n k (places g) = model-after (w .model) (end w o) (deliveredNext w o) .end-is ∙ omega (arith, end-is w o)
+outcome-bytes {w} {o} n k (hands-out g) = model-after (w .model) (end w o) (deliveredNext w o) .end-is ∙ omega (arith, end-is w o)
 
-placed-course : (w : CbrWriter) (o : Offer) {xs : List Sent} → Claim (withPlaced w o) xs → Course (w .model .params) (deliveredNext w o) (end w o) xs
+placed-removals : (w : CbrWriter) (o : Offer) {xs : List Sent} → Claim (withPlaced w o) xs → RemovalsDone (w .model .params) (deliveredNext w o) (end w o) xs
 unfolding Claim withPlaced
-placed-course w o c =
+placed-removals w o c =
     let a = model-after (w .model) (end w o) (deliveredNext w o) in
     rw (a .delivered-is, a .params-kept, a .end-is, a .is-started) at (c)
 
-outcome-onward : {m : ℕ} {w : CbrWriter} {o : Offer} {a : Answer Given} (n : ℕ) (l : List Call) → Inv m w → w .model .«prev_end_bits» ≡ 8 * n → Outcome w o a
-    → Claim (leftBy w o a) (sent (countBy n a) (run (leftBy w o a) l))
-    → Claim w (sentBy n o a (outOf a (placedBytes w o) (o .out)) (λ j. sent j (run (leftBy w o a) l)))
+outcome-removals : {m : ℕ} {w : CbrWriter} {o : Offer} {a : Answer Given} (n : ℕ) (l : List Call) → Inv m w → w .model .«prev_end_bits» ≡ 8 * n → Outcome w o a
+    → Claim (leftBy w o a) (sent (countBy n a) (stepsOf (leftBy w o a) l))
+    → Claim w (sentBy n o a (outOf a (placedBytes w o) (o .out)) (λ j. sent j (stepsOf (leftBy w o a) l)))
 unfolding Claim withPending sentOf pick
-outcome-onward n l h k (stays e) c = let d = rw e at (c) in rw e d
-outcome-onward n l h k (closes g) c = c
-outcome-onward n l h k (retries g) c = c
-outcome-onward {w = w} {o = o} n l h k (places g) c =
-    rw (over-take (placedBytes w o) (o .out)) (place-onward n w o h k g _ (placed-course w o c))
+outcome-removals n l h k (stays e) c = let d = rw e at (c) in rw e d
+outcome-removals n l h k (closes g) c = c
+outcome-removals n l h k (retries g) c = c
+outcome-removals {w = w} {o = o} n l h k (hands-out g) c =
+    rw (over-take (placedBytes w o) (o .out)) (place-removals n w o h k g _ (placed-removals w o c))
 
-withdrawn-onward : {v : CbrWriter} (w : CbrWriter) (xs : List Sent) → v ≡ withPending w Nothing → Claim v xs → Claim w xs
+withdrawn-removals : {v : CbrWriter} (w : CbrWriter) (xs : List Sent) → v ≡ withPending w Nothing → Claim v xs → Claim w xs
 unfolding withPending Claim
-withdrawn-onward w xs e c = subst (λ (v : CbrWriter). Claim v xs) e c
+withdrawn-removals w xs e c = subst (λ (v : CbrWriter). Claim v xs) e c
 
 withdrawn-bytes : (w : CbrWriter) (n : ℕ) → w .model .«prev_end_bits» ≡ 8 * n → withPending w Nothing .model .«prev_end_bits» ≡ 8 * n
 unfolding withPending
 withdrawn-bytes w n k = k
 
-onward : {m : ℕ} (n : ℕ) (w : CbrWriter) (l : List Call) → Inv m w → w .model .«prev_end_bits» ≡ 8 * n → Claim w (sent n (run w l))
-unfolding run stepOf after sent Claim
-onward n w [] h k = onward-none (w .model .params) (w .model .started) (delivered (w .model)) (w .model .«prev_end_bits»)
-onward n w (offering o ∷ l) h k =
-    outcome-onward n l h k (outcome w o) (onward _ _ l (call-inv (offering o) h) (outcome-bytes n k (outcome w o)))
-onward n w (withdrawing ∷ l) h k =
+removals-from : {m : ℕ} (n : ℕ) (w : CbrWriter) (l : List Call) → Inv m w → w .model .«prev_end_bits» ≡ 8 * n → Claim w (sent n (stepsOf w l))
+unfolding stepsOf stepOf leftByCall sent Claim
+removals-from n w [] h k = removals-none (w .model .params) (w .model .started) (delivered (w .model)) (w .model .«prev_end_bits»)
+removals-from n w (offering o ∷ l) h k =
+    outcome-removals n l h k (outcome w o) (removals-from _ _ l (call-inv (offering o) h) (outcome-bytes n k (outcome w o)))
+removals-from n w (withdrawing ∷ l) h k =
     let e = withdraw-is w (h .fits) in
-    withdrawn-onward w _ e (onward n _ l (call-inv withdrawing h) (rw e (withdrawn-bytes w n k)))
+    withdrawn-removals w _ e (removals-from n _ l (call-inv withdrawing h) (rw e (withdrawn-bytes w n k)))
 
 -- by Annex C's own formula, of a writer that has placed nothing yet
-pub fresh-course : {w : CbrWriter} → Fresh w → (l : List Call) → First (w .model .params) (sent 0 (run w l))
+pub fresh-done : {w : CbrWriter} → Fresh w → (l : List Call) → EachDone (w .model .params) (sent 0 (stepsOf w l))
 unfolding Claim
-fresh-course {w} f l =
-    subst (λ (b : Bool). Onward (w .model .params) b (delivered (w .model)) (w .model .«prev_end_bits») (sent 0 (run w l))) (f .unplaced)
-    (onward 0 w l (f .inv) (f .at-zero))
+fresh-done {w} f l =
+    subst (λ (b : Bool). RemovalsFrom (w .model .params) b (delivered (w .model)) (w .model .«prev_end_bits») (sent 0 (stepsOf w l))) (f .unplaced)
+    (removals-from 0 w l (f .inv) (f .at-zero))
 
 -- a part of what holds at each removal
-pub each : {p : VbvParams} {B : ℕ → ℕ → Sent → Type 0} → ((d previous : ℕ) (x : Sent) → Done p d previous x → B d previous x) → (xs : List Sent) → First p xs
+pub each : {p : VbvParams} {B : ℕ → ℕ → Sent → Type 0} → ((d previous : ℕ) (x : Sent) → Done p d previous x → B d previous x) → (xs : List Sent) → EachDone p xs
     → EachRemoval p B xs
 each f [] c = tt
 each f (x ∷ xs) c = weaker f c

@@ -1,4 +1,4 @@
--- The bytes that a list of calls hands out are parts that fit, endToEnd end to end.
+-- The bytes that a list of calls hands out are parts that fit, laid end to end.
 -- Assumes nothing.
 use mathlib.Core.Path.{_≡_, refl, sym, ap, subst}
 use mathlib.Core.Bool.{Bool, true, false}
@@ -17,12 +17,13 @@ use Rattle.scan.proofs.Laid.{Tail, tail-none, tail-end}
 use Rattle.verify.specs.declared.CodedPicture.{CodedPicture}
 use Rattle.layers.proofs.Stream.{Part, bytesOf, PartFits, PartsFit, no-parts, part, stream, pictureOf, coded, part-then, stream-none, stream-more, coded-none, coded-last, coded-more}
 use Rattle.rate_control.specs.Answers.{Given}
-use Rattle.rate_control.specs.Offer.{Offer, end, deliveredNext, stuffing, delay, tail, placedBytes, withPending, withPlaced, leftBy, outOf}
-use Rattle.rate_control.specs.Calls.{Call, offering, withdrawing, stepOf, after, run}
-use Rattle.rate_control.specs.Sent.{positionOf, Sent, position, end as sentEnd, sentBy, sent, endToEnd}
+use Rattle.rate_control.specs.Offer.{Offer, end, deliveredNext, stuffing, delay, endCode, placedBytes, withPending, withPlaced, leftBy, outOf}
+use Rattle.rate_control.specs.Calls.{Call, offering, withdrawing, stepOf, leftByCall, stepsOf}
+use Rattle.rate_control.specs.Sent.{positionOf, Sent, sentPosition, sentEnd, sentBy, sent, endToEnd}
 use Rattle.rate_control.specs.Demand.{AllBytes}
 use Rattle.rate_control.specs.declared.CbrWriter.{CbrWriter}
-use Rattle.rate_control.proofs.Chain.{Placing, Outcome, stays, closes, retries, places, outcome}
+use Rattle.rate_control.proofs.Storage.{end-code-last, end-code-none}
+use Rattle.rate_control.proofs.Chain.{Placing, Outcome, stays, closes, retries, hands-out, outcome}
 use Rattle.rate_control.proofs.Placing.{delay-told}
 use Rattle.rate_control.proofs.Invariant.{Inv, outcome-inv, call-inv, withdraw-is}
 use Rattle.rate_control.proofs.Removing.{sentOf, finished-none}
@@ -30,30 +31,22 @@ use Rattle.rate_control.proofs.Removing.{sentOf, finished-none}
 -- ---- one picture
 
 -- a picture as the check is to see it
-unfoldable pub codedOf : Sent → CodedPicture
-codedOf x = record { «pos_bits» = position x; «end_bits» = sentEnd x; «vbv_delay» = x .delay; interval = x .offer .interval }
+unfoldable pub codedSent : Sent → CodedPicture
+codedSent x = record { «pos_bits» = sentPosition x; «end_bits» = sentEnd x; «vbv_delay» = x .delay; interval = x .offer .interval }
 
 unfoldable pub codedBy : List Sent → List CodedPicture
 codedBy [] = []
-codedBy (x ∷ xs) = codedOf x ∷ codedBy xs
+codedBy (x ∷ xs) = codedSent x ∷ codedBy xs
 
 abbrev partOf : CbrWriter → Offer → Part
 partOf w o = record { headers = o .headers; layer = o .layer; delay = delay w o; zeros = stuffing w o; interval = o .interval }
 
-placed-part : (w : CbrWriter) (o : Offer) → placedBytes w o ≡ bytesOf (partOf w o) ++ tail (o .last)
+placed-part : (w : CbrWriter) (o : Offer) → placedBytes w o ≡ bytesOf (partOf w o) ++ endCode (o .last)
 unfolding placedBytes
-placed-part w o = part-then (partOf w o) (tail (o .last))
+placed-part w o = part-then (partOf w o) (endCode (o .last))
 
-placed-length : (w : CbrWriter) (o : Offer) → length (placedBytes w o) ≡ length (bytesOf (partOf w o)) + length (tail (o .last))
-placed-length w o = rw (placed-part w o) (length-append (bytesOf (partOf w o)) (tail (o .last)))
-
-tail-last : (o : Offer) → o .last ≡ true → tail (o .last) ≡ sequenceEnd
-unfolding tail
-tail-last o e = rw e
-
-tail-other : (o : Offer) → o .last ≡ false → tail (o .last) ≡ []
-unfolding tail
-tail-other o e = rw e
+placed-length : (w : CbrWriter) (o : Offer) → length (placedBytes w o) ≡ length (bytesOf (partOf w o)) + length (endCode (o .last))
+placed-length w o = rw (placed-part w o) (length-append (bytesOf (partOf w o)) (endCode (o .last)))
 
 -- ---- all of them
 
@@ -75,13 +68,13 @@ coded-front n e x [] t l z h =
     rw (← h, coded-none, coded-last, c)
 coded-front n e x (y ∷ ys) t l z h = rw (← h, ← l) (coded-more n x y ys t)
 
--- a picture before others; none behind the last
+-- a picture before others; none after the last
 module _ {p : VbvParams} {placed : Bool} (n : ℕ) (w : CbrWriter) (o : Offer) {xs : List Sent} (f : PartFits p placed (partOf w o))
     (s : Sending p true (n + length (placedBytes w o)) xs) (z : o .last ≡ true → xs ≡ []) where
   last-sending : o .last ≡ true → Sending p placed n (sentOf n w o ∷ xs)
-  unfolding codedBy codedOf sentOf endToEnd positionOf
+  unfolding codedBy codedSent sentOf endToEnd positionOf
   last-sending e =
-      let t = tail-last o e in
+      let t = end-code-last (o .last) e in
       let c : n + (length (bytesOf (partOf w o)) + length sequenceEnd) ≡ n + length (placedBytes w o) = omega (arith, placed-length w o, ap length t) in
       record {
         parts = partOf w o ∷ [];
@@ -94,9 +87,9 @@ module _ {p : VbvParams} {placed : Bool} (n : ℕ) (w : CbrWriter) (o : Offer) {
       }
 
   other-sending : o .last ≡ false → Sending p placed n (sentOf n w o ∷ xs)
-  unfolding codedBy codedOf sentOf endToEnd positionOf
+  unfolding codedBy codedSent sentOf endToEnd positionOf
   other-sending e =
-      let t = tail-other o e in
+      let t = end-code-none (o .last) e in
       let c : length (bytesOf (partOf w o)) ≡ length (placedBytes w o) = omega (arith, placed-length w o, ap length t) in
       record {
         parts = partOf w o ∷ s .parts;
@@ -129,21 +122,21 @@ same-sending {p} {q} {a} {c} {n} {xs} e f s =
     subst (λ (z : Bool). Sending q z n xs) f (subst (λ (z : VbvParams). Sending z a n xs) e s)
 
 outcome-sending : {m : ℕ} {w : CbrWriter} {o : Offer} {a : Answer Given} (n : ℕ) (l : List Call) → Inv m w → Bytes (o .layer)
-    → Outcome w o a → ((k : ℕ) → Sending (leftBy w o a .model .params) (leftBy w o a .model .started) k (sent k (run (leftBy w o a) l)))
-    → Sending (w .model .params) (w .model .started) n (sentBy n o a (outOf a (placedBytes w o) (o .out)) (λ j. sent j (run (leftBy w o a) l)))
+    → Outcome w o a → ((k : ℕ) → Sending (leftBy w o a .model .params) (leftBy w o a .model .started) k (sent k (stepsOf (leftBy w o a) l)))
+    → Sending (w .model .params) (w .model .started) n (sentBy n o a (outOf a (placedBytes w o) (o .out)) (λ j. sent j (stepsOf (leftBy w o a) l)))
 unfolding withPending withPlaced sentOf pick
 outcome-sending n l h b (stays e) s = let d = rw e at (s n) in rw e d
 outcome-sending n l h b (closes g) s = s n
 outcome-sending n l h b (retries g) s = s n
-outcome-sending {w = w} {o = o} n l h b (places g) s =
+outcome-sending {w = w} {o = o} n l h b (hands-out g) s =
     let a = model-after (w .model) (end w o) (deliveredNext w o) in
     rw (over-take (placedBytes w o) (o .out))
     (place-sending n w o (place-fit g b) (same-sending (a .params-kept) (a .is-started) (s (n + length (placedBytes w o))))
-    (λ e. finished-none _ _ l (outcome-inv h (places g)) e))
+    (λ e. finished-none _ _ l (outcome-inv h (hands-out g)) e))
 
 pub sending : {m : ℕ} (n : ℕ) (w : CbrWriter) (l : List Call) → Inv m w → AllBytes l
-    → Sending (w .model .params) (w .model .started) n (sent n (run w l))
-unfolding run stepOf after endToEnd sent codedBy withPending
+    → Sending (w .model .params) (w .model .started) n (sent n (stepsOf w l))
+unfolding stepsOf stepOf leftByCall endToEnd sent codedBy withPending
 sending n w [] h b = record {
   parts = [];
   follows = [];

@@ -4,38 +4,48 @@ use mathlib.Core.Path.{_≡_, refl, sym, _∙_}
 use mathlib.Core.Bool.{Bool, true, false, _&&_}
 use mathlib.Core.List.{List, [], _∷_}
 use mathlib.Core.Logic.{⊎-elim}
-use Prim.Native.Nat.{ℕ, _*_, _/_, _%_, _^_, _≤_, _<_}
+use Prim.Native.Nat.{ℕ, _*_, _/_, _%_, _≤_, _<_}
 use native.Mathlib.Omega.{arith}
 use lib.Dec.{leb, eqb}
 use lib.ListN.{length, getD}
 use borrow.Author.Tests.{le-leb, lt-leb}
 use Rattle.bits.specs.Bits.{pick}
 use Rattle.bits.proofs.Appending.{lt-or-le}
-use Rattle.vbv.specs.Model.{modelFits}
+use Rattle.vbv.specs.Model.{farthest, modelFits}
 use Rattle.layers.specs.declared.PictureKind.{PictureKind}
-use Rattle.rate_control.specs.Writer.{every, quantiser, pendingFits, writerFits}
+use Rattle.rate_control.specs.Writer.{allFit, quantiserFits, pendingFits, writerFits}
 use Rattle.bits.specs.Refusals.{value, refused, orElse}
 use Rattle.rate_control.specs.Offer.{withPending, withdraw}
 use Rattle.rate_control.specs.declared.Pending.{Pending}
 use Rattle.rate_control.specs.declared.Pending.the-variants.{Nothing, Waits}
 use Rattle.rate_control.specs.declared.CbrWriter.{CbrWriter}
 
--- a test of each of three
-pub every-three : (f : ℕ → Bool) (s : List ℕ) → length s ≡ 3 → (f (getD s 0 0) && (f (getD s 1 0) && f (getD s 2 0))) ≡ every f s
-unfolding every
-every-three f [] e = absurd (omega arith)
-every-three f (a ∷ []) e = absurd (omega arith)
-every-three f (a ∷ b ∷ []) e = absurd (omega arith)
-every-three f (a ∷ b ∷ d ∷ []) e = rw (and-true (f d))
+-- three numbers
+pub data Three : List ℕ → Type 0 where
+  of-three : (a b c : ℕ) → Three (a ∷ b ∷ c ∷ [])
+
+pub is-three : (s : List ℕ) → length s ≡ 3 → Three s
+is-three [] e = absurd (omega arith)
+is-three (a ∷ []) e = absurd (omega arith)
+is-three (a ∷ b ∷ []) e = absurd (omega arith)
+is-three (a ∷ b ∷ c ∷ []) e = of-three a b c
+is-three (a ∷ b ∷ c ∷ d ∷ s) e = absurd (omega arith)
+
+-- a test of each of them
+pub all-fit-three : (f : ℕ → Bool) (s : List ℕ) → length s ≡ 3 → (f (getD s 0 0) && (f (getD s 1 0) && f (getD s 2 0))) ≡ allFit f s
+unfolding allFit
+all-fit-three f s e = go (is-three s e)
   where
     and-true : (t : Bool) → (t && true) ≡ t
     and-true true = refl
     and-true false = refl
-every-three f (a ∷ b ∷ d ∷ w ∷ s) e = absurd (omega arith)
 
-pub quantisers-told : (s : List ℕ) (a b d : Bool) → length s ≡ 3 → a ≡ quantiser (getD s 0 0) → b ≡ quantiser (getD s 1 0) → d ≡ quantiser (getD s 2 0)
-    → (a && (b && d)) ≡ every quantiser s
-quantisers-told s a b d l e f g = rw (e, f, g) (every-three quantiser s l)
+    go : {s : List ℕ} → Three s → (f (getD s 0 0) && (f (getD s 1 0) && f (getD s 2 0))) ≡ allFit f s
+    go (of-three a b d) = rw (and-true (f d))
+
+pub quantisers-told : (s : List ℕ) (a b d : Bool) → length s ≡ 3 → a ≡ quantiserFits (getD s 0 0) → b ≡ quantiserFits (getD s 1 0) → d ≡ quantiserFits (getD s 2 0)
+    → (a && (b && d)) ≡ allFit quantiserFits s
+quantisers-told s a b d l e f g = rw (e, f, g) (all-fit-three quantiserFits s l)
 
 -- bytes against bits
 bytes-bits : (n b : ℕ) → leb n (b / 8) ≡ leb (8 * n) b
@@ -45,23 +55,28 @@ bytes-bits n b =
     (λ (h : n ≤ b / 8). le-leb n (b / 8) h ∙ sym (le-leb (8 * n) b (omega arith)))
     (lt-or-le (b / 8) n)
 
-pub writer-fits : (w : CbrWriter) (f t q p : Bool) → f ≡ modelFits (w .model) → t ≡ every (λ x. leb x (2 ^ 48)) (w .«target_bits»)
-    → q ≡ every quantiser (w .q) → p ≡ pendingFits (w .pending)
+pub writer-tested : (w : CbrWriter) (f t q p : Bool) → f ≡ modelFits (w .model) → t ≡ allFit (λ x. leb x farthest) (w .«target_bits»)
+    → q ≡ allFit quantiserFits (w .q) → p ≡ pendingFits (w .pending)
     → (f && (eqb (w .model .«prev_end_bits» % 8) 0
     && (leb (w .model .removed) (w .model .«prev_end_bits» / 8)
     && (leb (w .«stuffing_bytes») (w .model .«prev_end_bits» / 8) && (t && (q && p))))))
     ≡ writerFits w
 unfolding writerFits
-writer-fits w f t q p a b d e =
+writer-tested w f t q p a b d e =
     rw (a, b, d, e, bytes-bits (w .model .removed) (w .model .«prev_end_bits»), bytes-bits (w .«stuffing_bytes») (w .model .«prev_end_bits»))
 
 pub pending-none : (p : Pending) → p ≡ Nothing → true ≡ pendingFits p
 unfolding pendingFits
 pending-none p e = rw e
 
-pub pending-some : (p : Pending) (k : PictureKind) (n : ℕ) (r : Bool) → p ≡ Waits k n → r ≡ quantiser n → r ≡ pendingFits p
+pub pending-some : (p : Pending) (k : PictureKind) (n : ℕ) (r : Bool) → p ≡ Waits k n → r ≡ quantiserFits n → r ≡ pendingFits p
 unfolding pendingFits
 pending-some p k n r e h = rw (e, h)
+
+-- a writer that fits is not refused
+pub withdraw-answer : (w : CbrWriter) → writerFits w ≡ true → withdraw w ≡ value (withPending w Nothing)
+unfolding withdraw pick
+withdraw-answer w f = rw f
 
 -- the ways through a withdrawal
 module _ (w : CbrWriter) (f : Bool) (e : f ≡ writerFits w) where

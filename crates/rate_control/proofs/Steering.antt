@@ -8,9 +8,9 @@ use lib.ListN.{getD, set}
 use borrow.Author.Tests.{lt-ltb, le-ltb, ne-eqb}
 use Rattle.bits.specs.Bits.{pick}
 use Rattle.layers.specs.declared.PictureKind.{PictureKind}
-use Rattle.rate_control.specs.Writer.{index, of, clashes, askedOf, asked, coarser, steered}
+use Rattle.rate_control.specs.Writer.{index, of, clashes, pendingOr, asked, coarser, steered}
 use Rattle.rate_control.specs.Offer.{withPending}
-use Rattle.rate_control.specs.Steps.{placedBy, tooLarge}
+use Rattle.rate_control.specs.Steps.{placedBy, tooLargeInCode}
 use Rattle.rate_control.specs.declared.Pending.{Pending}
 use Rattle.rate_control.specs.declared.Pending.the-variants.{Nothing, Waits}
 use Rattle.rate_control.specs.declared.CbrWriter.{CbrWriter}
@@ -29,11 +29,11 @@ unfolding clashes
 clash-some p k j n a b e f g = rw (e, f, g)
 
 pub asked-none : (w : CbrWriter) (k : PictureKind) (i : ℕ) → w .pending ≡ Nothing → i ≡ index k → getD (w .q) i 0 ≡ asked w k
-unfolding asked askedOf of
+unfolding asked pendingOr of
 asked-none w k i e f = rw (e, f)
 
 pub asked-some : (w : CbrWriter) (k j : PictureKind) (n : ℕ) → w .pending ≡ Waits j n → n ≡ asked w k
-unfolding asked askedOf
+unfolding asked pendingOr
 asked-some w k j n e = rw e
 
 -- the quantiser
@@ -54,13 +54,13 @@ module _ (q target bits aim : ℕ) (e : aim ≡ max 1 target) where
 -- too large
 module _ (w : CbrWriter) (k : PictureKind) (q : ℕ) (e : q ≡ asked w k) where
   pub way-21 : (x : CbrWriter) → q ≡ 31 → x ≡ withPending w Nothing
-      → _≡_ {A = CbrOffered} (record { answer = Refused TooLarge; writer = x }) (tooLarge w k (asked w k))
-  unfolding tooLarge pick
+      → _≡_ {A = CbrOffered} (record { answer = Refused TooLarge; writer = x }) (tooLargeInCode w k (asked w k))
+  unfolding tooLargeInCode pick
   way-21 x h g = rw (← e, h, g)
 
   pub way-again : (n : ℕ) (x : CbrWriter) → (q ≡ 31 → ⊥) → n ≡ coarser q → x ≡ withPending w (Waits k n)
-      → _≡_ {A = CbrOffered} (record { answer = Again n; writer = x }) (tooLarge w k (asked w k))
-  unfolding tooLarge pick
+      → _≡_ {A = CbrOffered} (record { answer = Again n; writer = x }) (tooLargeInCode w k (asked w k))
+  unfolding tooLargeInCode pick
   way-again n x h f g = rw (← e, ne-eqb q 31 h, ← f, g)
 
 -- placed

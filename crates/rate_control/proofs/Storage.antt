@@ -12,7 +12,8 @@ use Rattle.bits.specs.Answers.{over}
 use Rattle.bits.proofs.Over.{over-sets, sets-append}
 use Rattle.vbv.specs.Patch.{patched}
 use Rattle.vbv.proofs.After.{patched-size}
-use Rattle.rate_control.specs.Offer.{tail}
+use Rattle.scan.specs.Codes.{sequenceEnd}
+use Rattle.rate_control.specs.Offer.{endCode}
 
 -- one byte more
 pub put-step : (out bytes : List ℕ) (at k : ℕ) → k < length bytes
@@ -32,18 +33,23 @@ pub zeros-end : (out : List ℕ) (k left : ℕ) → left ≤ 0 → sets out k (r
 zeros-end out k zero h = refl
 zeros-end out k (suc left) h = absurd (omega arith)
 
--- the sequence's end
-pub end-put : (o out : List ℕ) (at : ℕ) (last : Bool) → last ≡ true → o ≡ sets out at (0 ∷ 0 ∷ 1 ∷ 0xB7 ∷ []) → o ≡ sets out at (tail last)
-unfolding tail
-end-put o out at last h e = rw h e
+-- the sequence's end, after the last picture
+pub end-code-last : (last : Bool) → last ≡ true → endCode last ≡ sequenceEnd
+unfolding endCode
+end-code-last last h = rw h
 
-pub end-none : (out : List ℕ) (at : ℕ) (last : Bool) → last ≡ false → out ≡ sets out at (tail last)
-unfolding tail
-end-none out at last h = rw h
+pub end-code-none : (last : Bool) → last ≡ false → endCode last ≡ []
+unfolding endCode
+end-code-none last h = rw h
 
-pub end-size : (last : Bool) → last ≡ true → length (tail last) ≡ 4
-unfolding tail
-end-size last h = rw h
+pub end-put : (o out : List ℕ) (at : ℕ) (last : Bool) → last ≡ true → o ≡ sets out at sequenceEnd → o ≡ sets out at (endCode last)
+end-put o out at last h e = rw (end-code-last last h) e
+
+pub end-none : (out : List ℕ) (at : ℕ) (last : Bool) → last ≡ false → out ≡ sets out at (endCode last)
+end-none out at last h = rw (end-code-none last h)
+
+pub end-size : (last : Bool) → last ≡ true → length (endCode last) ≡ 4
+end-size last h = ap length (end-code-last last h)
 
 -- a run over another one of its length, in its place: what a part lent becomes
 module _ (s x y : List ℕ) (a : ℕ) (h : a + length x ≤ length s) (l : length y ≡ length x) where
@@ -62,13 +68,13 @@ module _ (s x y : List ℕ) (a : ℕ) (h : a + length x ≤ length s) (l : lengt
       (sym (sets-eq y s a (omega arith) ∙ append-assoc (take a s) y (drop (a + length y) s)))
 
 -- all of it
-pub all-put : (out h l : List ℕ) (d z : ℕ) (last : Bool) → length h + length l + z + length (tail last) ≤ length out
-    → sets (sets (sets (sets out 0 h) (length h) (patched l d)) (length h + length l) (replicate z 0)) (length h + length l + z) (tail last)
-    ≡ over (h ++ (patched l d ++ (replicate z 0 ++ tail last))) out
+pub all-put : (out h l : List ℕ) (d z : ℕ) (last : Bool) → length h + length l + z + length (endCode last) ≤ length out
+    → sets (sets (sets (sets out 0 h) (length h) (patched l d)) (length h + length l) (replicate z 0)) (length h + length l + z) (endCode last)
+    ≡ over (h ++ (patched l d ++ (replicate z 0 ++ endCode last))) out
 all-put out h l d z last r =
     let p = patched l d in
     let n : length p ≡ length l = patched-size l d in
-    let t = tail last in
+    let t = endCode last in
     let zs : List ℕ = replicate z 0 in
     let m : length zs ≡ z = length-replicate {A = ℕ} z 0 in
     let all : List ℕ = h ++ (p ++ (zs ++ t)) in
@@ -81,11 +87,11 @@ all-put out h l d z last r =
     (sets-append zs t (sets (sets out 0 h) (length h) p) (length h + length l) ∙ rw m)))
 
 -- the same as the code does it: the layer's part is lent, and comes back with its delay
-pub all-laid : (out h l a b y f g : List ℕ) (d z : ℕ) (last : Bool) → length h + length l + z + length (tail last) ≤ length out
+pub all-laid : (out h l a b y f g : List ℕ) (d z : ℕ) (last : Bool) → length h + length l + z + length (endCode last) ≤ length out
     → a ≡ sets out 0 h → b ≡ sets a (length h) l → y ≡ patched (take (length h + length l - length h) (drop (length h) b)) d
     → f ≡ sets (take (length h) b ++ (y ++ drop (length h + length l - length h) (drop (length h) b))) (length h + length l) (replicate z 0)
-    → g ≡ sets f (length h + length l + z) (tail last)
-    → g ≡ over (h ++ (patched l d ++ (replicate z 0 ++ tail last))) out
+    → g ≡ sets f (length h + length l + z) (endCode last)
+    → g ≡ over (h ++ (patched l d ++ (replicate z 0 ++ endCode last))) out
 all-laid out h l a b y f g d z last r p q u v w =
     let e : length h + length l - length h ≡ length l = omega arith in
     let s = sets out 0 h in

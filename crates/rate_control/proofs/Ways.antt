@@ -2,7 +2,7 @@
 -- Assumes nothing.
 use mathlib.Core.Path.{_≡_, refl, sym, _∙_}
 use mathlib.Core.Bool.{Bool, true, false}
-use Prim.Native.Nat.{ℕ, _+_, _-_, _*_, _/_, _^_, _≤_, _<_, max}
+use Prim.Native.Nat.{ℕ, _+_, _-_, _*_, _/_, _≤_, _<_, max}
 use native.Mathlib.Omega.{arith}
 use native.Mathlib.Nat.{div-lt-iff-lt-mul}
 use lib.ListN.{length}
@@ -12,7 +12,7 @@ use Rattle.bits.specs.Refusals.{Answer}
 use Rattle.vbv.specs.Answers.{modelAnswer, removalAnswer, delayAnswer, bitsAnswer}
 use Rattle.vbv.proofs.Numbers.{model-case, delay-case, bits-case, removal-case}
 use Rattle.vbv.specs.Steps.{ParamsFit, delayOf, bitsOf, removalOf}
-use Rattle.vbv.specs.Model.{startModel, delayForPicture, removePicture, maxEndBits, minEndBits}
+use Rattle.vbv.specs.Model.{farthest, startModel, delayForPicture, removePicture, maxEndBits, minEndBits}
 use Rattle.vbv.specs.declared.RemovalInterval.{RemovalInterval}
 use Rattle.vbv.specs.declared.VbvParams.{VbvParams}
 use Rattle.vbv.specs.declared.VbvCbrModel.{VbvCbrModel}
@@ -28,16 +28,18 @@ use Rattle.vbv.specs.declared.VbvDelay.{VbvDelay}
 use Rattle.vbv.specs.declared.VbvDelay.the-variants as dl
 use Rattle.vbv.specs.declared.VbvBits.{VbvBits}
 use Rattle.vbv.specs.declared.VbvBits.the-variants as bt
-use Rattle.rate_control.specs.Offer.{firstDelay, tail}
-use Rattle.rate_control.specs.Steps.{startedAt, zeros, byDelay, byEnd, violated, bySize, byMost, withZeros, byLeast, byStart, extentOf, within14, measured}
+use Rattle.rate_control.specs.Offer.{firstDelay, endCode}
+use Rattle.rate_control.specs.Steps.{startedAt, stuffingUpTo, readyBy, byEnd, violated, bySize, byMost, withStuffing, byLeast, byStart, extentOf, within14, measured}
 use Rattle.rate_control.specs.declared.CbrError.the-variants.{Model, Violation, Stuffing}
 use Rattle.rate_control.specs.declared.Extent.{Extent}
-use Rattle.rate_control.specs.declared.Judged.{Judged}
-use Rattle.rate_control.specs.declared.Judged.the-variants.{Refused, TooLarge, Ready}
+use Rattle.rate_control.specs.declared.Tested.{Tested}
+use Rattle.rate_control.specs.declared.Tested.the-variants.{Refused, TooLarge, Ready}
+use Rattle.rate_control.proofs.Storage.{end-code-none, end-size}
 
 -- ---- the first delay
 
-pub first-low : (p : VbvParams) → ParamsFit p → 90000 * p .«buffer_size_bits» * 3 / (4 * p .«bit_rate») < 65536
+pub first-low : (p : VbvParams) → ParamsFit p → firstDelay p < 65536
+unfolding firstDelay
 first-low p f =
     div-lt-iff-lt-mul {k = 4 * p .«bit_rate»} {x = 90000 * p .«buffer_size_bits» * 3} {y = 65536} (omega arith) .1 (omega arith)
 
@@ -53,24 +55,24 @@ module _ (m : VbvCbrModel) (position : ℕ) where
 -- ---- stuffing
 
 module _ (least content : ℕ) (last : Bool) where
-  pub zeros-last : last ≡ true → 0 ≡ zeros least content last
-  unfolding zeros pick
-  zeros-last h = rw h
+  pub up-to-last : last ≡ true → 0 ≡ stuffingUpTo least content last
+  unfolding stuffingUpTo pick
+  up-to-last h = rw h
 
-  pub zeros-to : (r : ℕ) → last ≡ false → r ≡ (least - content + 7) / 8 → r ≡ zeros least content last
-  unfolding zeros pick
-  zeros-to r h e = rw h e
+  pub up-to-least : (r : ℕ) → last ≡ false → r ≡ (least - content + 7) / 8 → r ≡ stuffingUpTo least content last
+  unfolding stuffingUpTo pick
+  up-to-least r h e = rw h e
 
 -- ---- the delay
 
 module _ (next : VbvCbrModel) (x : Extent) (z : ℕ) (r : VbvDelay) (v : Answer ℕ) (e : delayAnswer r ≡ v) where
-  pub delay-no : (error : VbvError) → r ≡ dl.Refused error → Refused (Model error) ≡ byDelay next x z (delayOf v)
-  unfolding byDelay
+  pub delay-no : (error : VbvError) → r ≡ dl.Refused error → Refused (Model error) ≡ readyBy next x z (delayOf v)
+  unfolding readyBy
   delay-no error h = rw (delay-case h e)
 
   pub delay-yes : (d : ℕ) → r ≡ dl.Delay d
-      → Ready (record { model = next; «vbv_delay» = d; bytes = x .bytes + z; «stuffing_bytes» = z }) ≡ byDelay next x z (delayOf v)
-  unfolding byDelay
+      → Ready (record { model = next; «vbv_delay» = d; bytes = x .bytes + z; «stuffing_bytes» = z }) ≡ readyBy next x z (delayOf v)
+  unfolding readyBy
   delay-yes d h = rw (delay-case h e)
 
 -- ---- the stuffed end
@@ -84,7 +86,7 @@ module _ (m : VbvCbrModel) (x : Extent) (z : ℕ) (r : VbvRemoval) (v : Answer V
   unfolding byEnd
   end-under w h = rw (removal-case h e)
 
-  pub end-yes : (next : VbvCbrModel) (j : Judged) → r ≡ rm.Model next → j ≡ byDelay next x z (delayOf (delayForPicture m (x .position))) → j ≡ byEnd m x z (removalOf v)
+  pub end-yes : (next : VbvCbrModel) (j : Tested) → r ≡ rm.Model next → j ≡ readyBy next x z (delayOf (delayForPicture m (x .position))) → j ≡ byEnd m x z (removalOf v)
   unfolding byEnd
   end-yes next j h g = g ∙ rw (removal-case h e)
 
@@ -117,11 +119,11 @@ module _ (m : VbvCbrModel) (x : Extent) (z : ℕ) (i : RemovalInterval) (r : Vbv
       unfolding byMost bySize pick
       size-no error l = rw (bits-case h e, le-ltb _ _ g, removal-case l k)
 
-      pub size-violated : (w : VbvViolation) (j : Judged) → s ≡ rm.Violation w → j ≡ violated w → j ≡ byMost m x z i (bitsOf v)
+      pub size-violated : (w : VbvViolation) (j : Tested) → s ≡ rm.Violation w → j ≡ violated w → j ≡ byMost m x z i (bitsOf v)
       unfolding byMost bySize pick
       size-violated w j l q = q ∙ rw (bits-case h e, le-ltb _ _ g, removal-case l k)
 
-      pub size-yes : (next : VbvCbrModel) (j : Judged) → s ≡ rm.Model next → j ≡ byEnd m x z (removalOf (removePicture m (x .content + 8 * z) i))
+      pub size-yes : (next : VbvCbrModel) (j : Tested) → s ≡ rm.Model next → j ≡ byEnd m x z (removalOf (removePicture m (x .content + 8 * z) i))
           → j ≡ byMost m x z i (bitsOf v)
       unfolding byMost bySize pick
       size-yes next j l q = q ∙ rw (bits-case h e, le-ltb _ _ g, removal-case l k)
@@ -133,48 +135,46 @@ module _ (m : VbvCbrModel) (x : Extent) (i : RemovalInterval) (last : Bool) (r :
   unfolding byLeast
   least-no error h = rw (bits-case h e)
 
-  module _ (least z : ℕ) (h : r ≡ bt.Bits least) (k : z ≡ zeros least (x .content) last) where
-    pub far-zeros : 35184372088832 < z → Refused (Model Range) ≡ byLeast m x i last (bitsOf v)
-    unfolding byLeast withZeros pick
-    far-zeros g = rw (bits-case h e, ← k, lt-ltb (2 ^ 45) z g)
+  module _ (least z : ℕ) (h : r ≡ bt.Bits least) (k : z ≡ stuffingUpTo least (x .content) last) where
+    pub far-stuffing : farthest / 8 < z → Refused (Model Range) ≡ byLeast m x i last (bitsOf v)
+    unfolding byLeast withStuffing pick
+    far-stuffing g = rw (bits-case h e, ← k, lt-ltb (farthest / 8) z g)
 
-    module _ (g : z ≤ 35184372088832) where
-      pub far-end : 281474976710656 < x .content + 8 * z → Refused (Model Range) ≡ byLeast m x i last (bitsOf v)
-      unfolding byLeast withZeros pick
-      far-end l = rw (bits-case h e, ← k, le-ltb (2 ^ 45) z g, lt-ltb (2 ^ 48) (x .content + 8 * z) l)
+    module _ (g : z ≤ farthest / 8) where
+      pub far-end : farthest < x .content + 8 * z → Refused (Model Range) ≡ byLeast m x i last (bitsOf v)
+      unfolding byLeast withStuffing pick
+      far-end l = rw (bits-case h e, ← k, le-ltb (farthest / 8) z g, lt-ltb farthest (x .content + 8 * z) l)
 
-      pub near-end : (j : Judged) → x .content + 8 * z ≤ 281474976710656 → j ≡ byMost m x z i (bitsOf (maxEndBits m)) → j ≡ byLeast m x i last (bitsOf v)
-      unfolding byLeast withZeros pick
-      near-end j l q = q ∙ rw (bits-case h e, ← k, le-ltb (2 ^ 45) z g, le-ltb (2 ^ 48) (x .content + 8 * z) l)
+      pub near-end : (j : Tested) → x .content + 8 * z ≤ farthest → j ≡ byMost m x z i (bitsOf (maxEndBits m)) → j ≡ byLeast m x i last (bitsOf v)
+      unfolding byLeast withStuffing pick
+      near-end j l q = q ∙ rw (bits-case h e, ← k, le-ltb (farthest / 8) z g, le-ltb farthest (x .content + 8 * z) l)
 
 -- ---- all
 
-pub tail-ends : (last : Bool) → last ≡ true → (4 ≡ length (tail last)) × (4 ≤ 4)
-unfolding tail
-tail-ends last h = (rw h, omega arith)
+pub end-code-four : (last : Bool) → last ≡ true → (4 ≡ length (endCode last)) × (4 ≤ 4)
+end-code-four last h = (sym (end-size last h), omega arith)
 
-pub tail-open : (last : Bool) → last ≡ false → (0 ≡ length (tail last)) × (0 ≤ 4)
-unfolding tail
-tail-open last h = (rw h, omega arith)
+pub end-code-empty : (last : Bool) → last ≡ false → (0 ≡ length (endCode last)) × (0 ≤ 4)
+end-code-empty last h = (rw (end-code-none last h), omega arith)
 
 module _ (m : VbvCbrModel) (headers layer : ℕ) (i : RemovalInterval) (last : Bool) (a : ℕ) (e : a ≡ max headers layer) where
-  pub far-bytes : 35184372088832 < a → Refused (Model Range) ≡ measured m headers layer i last
+  pub far-bytes : farthest / 8 < a → Refused (Model Range) ≡ measured m headers layer i last
   unfolding measured pick
-  far-bytes h = rw (← e, lt-ltb (2 ^ 45) a h)
+  far-bytes h = rw (← e, lt-ltb (farthest / 8) a h)
 
-  module _ (h : a ≤ 35184372088832) (t b : ℕ) (k : t ≡ length (tail last))
+  module _ (h : a ≤ farthest / 8) (t b : ℕ) (k : t ≡ length (endCode last))
       (f : b ≡ max (m .«prev_end_bits» + 8 * (headers + 4)) (m .«prev_end_bits» + 8 * (headers + layer + t))) where
-    pub far-position : 281474976710656 < b → Refused (Model Range) ≡ measured m headers layer i last
+    pub far-position : farthest < b → Refused (Model Range) ≡ measured m headers layer i last
     unfolding measured within14 extentOf pick
-    far-position g = rw (← e, le-ltb (2 ^ 45) a h, ← k, ← f, lt-ltb (2 ^ 48) b g)
+    far-position g = rw (← e, le-ltb (farthest / 8) a h, ← k, ← f, lt-ltb farthest b g)
 
-    module _ (g : b ≤ 281474976710656) (s : VbvModel) (q : s ≡ startedAt m (m .«prev_end_bits» + 8 * (headers + 4))) where
+    module _ (g : b ≤ farthest) (s : VbvModel) (q : s ≡ startedAt m (m .«prev_end_bits» + 8 * (headers + 4))) where
       pub not-started : (error : VbvError) → s ≡ md.Refused error → Refused (Model error) ≡ measured m headers layer i last
       unfolding measured within14 extentOf byStart pick
-      not-started error l = rw (← e, le-ltb (2 ^ 45) a h, ← k, ← f, le-ltb (2 ^ 48) b g, ← q, l)
+      not-started error l = rw (← e, le-ltb (farthest / 8) a h, ← k, ← f, le-ltb farthest b g, ← q, l)
 
-      pub is-started : (n : VbvCbrModel) (j : Judged) → s ≡ md.Model n
+      pub is-started : (n : VbvCbrModel) (j : Tested) → s ≡ md.Model n
           → j ≡ byLeast n (record { position = m .«prev_end_bits» + 8 * (headers + 4); content = m .«prev_end_bits» + 8 * (headers + layer + t); bytes = headers + layer + t }) i last (bitsOf (minEndBits n i))
           → j ≡ measured m headers layer i last
       unfolding measured within14 extentOf byStart pick
-      is-started n j l w = w ∙ rw (← e, le-ltb (2 ^ 45) a h, ← k, ← f, le-ltb (2 ^ 48) b g, ← q, l)
+      is-started n j l w = w ∙ rw (← e, le-ltb (farthest / 8) a h, ← k, ← f, le-ltb farthest b g, ← q, l)

@@ -17,16 +17,16 @@ use Rattle.rate_control.specs.declared.CbrWithdrawn.{CbrWithdrawn}
 use Rattle.rate_control.specs.declared.CbrError.{CbrError}
 use Rattle.rate_control.specs.declared.CbrError.the-variants.{Model, Violation, Kind, Headers, Layer, TooLarge, Stuffing, Output}
 
-abbrev pub refusalOf : CbrError → VbvRefusal
-refusalOf (Model e) = plain (modelNumber e)
-refusalOf (Violation v) =
+abbrev pub offerRefusal : CbrError → VbvRefusal
+offerRefusal (Model e) = plain (modelNumber e)
+offerRefusal (Violation v) =
     record { number = violationNumber v; picture = violationPicture v; coded = violationCoded v; expected = violationExpected v }
-refusalOf Kind = plain 17
-refusalOf Headers = plain 18
-refusalOf Output = plain 19
-refusalOf Layer = plain 20
-refusalOf TooLarge = plain 21
-refusalOf Stuffing = plain 22
+offerRefusal Kind = plain 17
+offerRefusal Headers = plain 18
+offerRefusal Output = plain 19
+offerRefusal Layer = plain 20
+offerRefusal TooLarge = plain 21
+offerRefusal Stuffing = plain 22
 
 -- an offer that is not refused: placed with a quantiser, a delay, so many bytes and zero bytes among them; or asked for again with a quantiser
 pub data Given : Type 0 where
@@ -37,7 +37,7 @@ pub data Given : Type 0 where
 abbrev pub offerAnswer : CbrAnswer → Answer Given
 offerAnswer (Placed q d n z) = value (placed q d n z)
 offerAnswer (Again q) = value (again q)
-offerAnswer (Refused e) = refused (refusalOf e .number) (refusalOf e .picture) (refusalOf e .coded) (refusalOf e .expected)
+offerAnswer (Refused e) = refused (offerRefusal e .number) (offerRefusal e .picture) (offerRefusal e .coded) (offerRefusal e .expected)
 
 -- a creation's and a withdrawal's writer stands beside the answer
 abbrev pub creationAnswer : CbrCreation → CbrWriter → Answer CbrWriter

@@ -20,14 +20,14 @@ unfoldable pub stepOf : CbrWriter → Call → Step
 stepOf w (offering o) = offered o (offer w o) (outAfter w o)
 stepOf w withdrawing = withdrawn (number (withdraw w))
 
-unfoldable pub after : CbrWriter → Call → CbrWriter
-after w (offering o) = left w o
-after w withdrawing = orElse w (withdraw w)
+unfoldable pub leftByCall : CbrWriter → Call → CbrWriter
+leftByCall w (offering o) = left w o
+leftByCall w withdrawing = orElse w (withdraw w)
 
-unfoldable pub run : CbrWriter → List Call → List Step
-run w [] = []
-run w (c ∷ cs) = stepOf w c ∷ run (after w c) cs
+unfoldable pub stepsOf : CbrWriter → List Call → List Step
+stepsOf w [] = []
+stepsOf w (c ∷ cs) = stepOf w c ∷ stepsOf (leftByCall w c) cs
 
 unfoldable pub final : CbrWriter → List Call → CbrWriter
 final w [] = w
-final w (c ∷ cs) = final (after w c) cs
+final w (c ∷ cs) = final (leftByCall w c) cs

@@ -1,10 +1,11 @@
 -- Creation of a writer (paper 01, 'A placed picture'): 12 for a range, 6 for the rate code, 12 for the ratio.
 -- Assumes nothing.
-use Prim.Native.Nat.{ℕ, _*_}
+use Prim.Native.Nat.{ℕ}
 use mathlib.Core.List.{[], _∷_}
 use mathlib.Core.Bool.{Bool, false, not, _&&_}
 use lib.Dec.{leb}
 use Rattle.bits.specs.Refusals.{Answer, value, refuse, andThen}
+use Rattle.vbv.specs.Params.{paramsOf}
 use Rattle.vbv.specs.Answers.{frameRate}
 use Rattle.vbv.specs.Model.{newModel}
 use Rattle.vbv.specs.declared.VbvParams.{VbvParams}
@@ -25,10 +26,9 @@ configFits c =
     && (within 1 31 (c .«initial_quantiser_scale_code»)
     && (within 0 15 (c .«b_between») && within 1 255 (c .«anchors_per_gop»))))
 
--- R in units of 400 bits a second, B in units of 16 × 1024 bits
-abbrev pub configParams : CbrConfig → ℕ × ℕ → VbvParams
-configParams c f =
-    record { «bit_rate» = 400 * c .«bit_rate_value»; «buffer_size_bits» = 16384 * c .«vbv_buffer_size_value»; frn = f .0; frd = f .1 }
+-- R and B by the fields, with the frame rate f
+abbrev pub writerParams : CbrConfig → ℕ × ℕ → VbvParams
+writerParams c f = paramsOf (c .«bit_rate_value») (c .«vbv_buffer_size_value») f
 
 -- nothing placed, nothing pending, every kind at the given quantiser
 unfoldable pub freshWriter : CbrConfig → VbvCbrModel → CbrWriter
@@ -45,7 +45,7 @@ unfoldable pub create : CbrConfig → Answer CbrWriter
 create c =
     refuse 12 (not (configFits c))
     (andThen (frameRate (c .«frame_rate_code»)) (λ f.
-    andThen (newModel (configParams c f)) (λ m.
+    andThen (newModel (writerParams c f)) (λ m.
     value (freshWriter c m))))
 
 -- beside a refusal stands a writer of no use: all zeros, so that every call refuses it

@@ -11,10 +11,10 @@ use Rattle.headers.specs.RoundTrips.{Bytes}
 use Rattle.vbv.specs.Answers.{frameRate}
 use Rattle.vbv.specs.declared.VbvParams.{VbvParams}
 use Rattle.rate_control.specs.Answers.{Given, placed, again}
-use Rattle.rate_control.specs.Create.{create}
-use Rattle.rate_control.specs.Calls.{Call, offering, withdrawing, Step, offered, withdrawn, run, final}
-use Rattle.rate_control.specs.Sent.{sent, zerosOf, EachRemoval, InBuffer, Placed, LeastStuffing, Passes}
-use Rattle.rate_control.specs.Due.{Known, atFirst, askedFor, toldBy, known, holding, Answered, paramsOf, targetsOf, CreationDue}
+use Rattle.rate_control.specs.Create.{writerParams, create}
+use Rattle.rate_control.specs.Calls.{Call, offering, withdrawing, Step, offered, withdrawn, stepsOf, final}
+use Rattle.rate_control.specs.Sent.{sent, stuffingOf, EachRemoval, InBuffer, WellPlaced, LeastStuffing, PassesCheck}
+use Rattle.rate_control.specs.Due.{Known, atFirst, askedFor, knownAfterStep, knownAfter, holding, Answered, targetsOf, CreationDue}
 use Rattle.rate_control.specs.declared.CbrConfig.{CbrConfig}
 use Rattle.rate_control.specs.declared.CbrWriter.{CbrWriter}
 
@@ -22,7 +22,7 @@ use Rattle.rate_control.specs.declared.CbrWriter.{CbrWriter}
 
 -- after an answer: a picture's retries count from creation, or from the latest placing, withdrawal or 21
 abbrev pub retriesBy : ℕ → Answer Given → ℕ
-retriesBy n (value (placed q delay bytes zeros)) = 0
+retriesBy n (value (placed q delay bytes stuffing)) = 0
 retriesBy n (value (again q)) = suc n
 retriesBy n (refused k picture coded expected) = pick (eqb k 21) 0 n
 
@@ -37,8 +37,8 @@ AtCoarsest x (withdrawn k) = Unit {0}
 
 -- never more than eleven retries of a picture
 pub data Patient (p : VbvParams) (t : List ℕ) : Known → ℕ → List Step → Type 0 where
-  done : {x : Known} {n : ℕ} → n ≤ 11 → Patient p t x n []
-  then : {x : Known} {n : ℕ} {s : Step} {l : List Step} → n ≤ 11 → AtCoarsest x s → Patient p t (toldBy p t x s) (retriesAfter n s) l → Patient p t x n (s ∷ l)
+  calls-end : {x : Known} {n : ℕ} → n ≤ 11 → Patient p t x n []
+  step-then : {x : Known} {n : ℕ} {s : Step} {l : List Step} → n ≤ 11 → AtCoarsest x s → Patient p t (knownAfterStep p t x s) (retriesAfter n s) l → Patient p t x n (s ∷ l)
 
 -- ---- the demand
 
@@ -47,24 +47,24 @@ pub record Demand (c : CbrConfig) (p : VbvParams) (t : List ℕ) (steps : List S
   -- 'each answer .. is the one that document 01 defines: an offer is placed, sent back coarser or refused'; and what each output part then holds
   pub answers : Answered p t (atFirst c) steps
   -- 'from creation and the calls alone' (paper 01): what the writer holds is what they and their answers told
-  pub state : left ≡ holding p t (known p t (atFirst c) steps)
+  pub state : left ≡ holding p t (knownAfter p t (atFirst c) steps)
   -- 'The bytes handed out by the list neither overflow nor underflow the receiver's buffer.' (The delays and intervals that this counts by are those in the bytes: `pictures`, `check`.)
   pub receiver : EachRemoval p (InBuffer p) (sent 0 steps)
   -- 'Laid end to end, once a picture is placed, they pass the MPEG-2 check, given a record place per picture, with one record for each placed picture, in order. In each record the
   -- coded delay equals the expected one, and the data bits are 8 × the bytes placed for that picture'
-  pub check : Passes p (sent 0 steps)
+  pub check : PassesCheck p (sent 0 steps)
   -- 'headers, layer, stuffing and end code', with the delay that was told
-  pub pictures : EachRemoval p (Placed p) (sent 0 steps)
+  pub pictures : EachRemoval p (WellPlaced p) (sent 0 steps)
   -- 'Stuffing after each picture but the last is the least number of zero bytes that keeps the next removal from overflow.'
   pub stuffing : EachRemoval p (LeastStuffing p) (sent 0 steps)
   -- 'The stuffing total equals the zero bytes appended' (paper 01)
-  pub total : left .«stuffing_bytes» ≡ zerosOf (sent 0 steps)
+  pub total : left .«stuffing_bytes» ≡ stuffingOf (sent 0 steps)
   -- 'Too large is said only at quantiser 31, after at most eleven retries of that picture.'
   pub retries : Patient p t (atFirst c) 0 steps
 
 -- of the calls on the writer w, created with c, the frame rate of its code being f
 abbrev pub DemandOf : CbrConfig → ℕ × ℕ → CbrWriter → List Call → Type 0
-DemandOf c f w calls = Demand c (paramsOf c f) (targetsOf c f) (run w calls) (final w calls)
+DemandOf c f w calls = Demand c (writerParams c f) (targetsOf c f) (stepsOf w calls) (final w calls)
 
 -- every offered layer is of bytes: in the code it is, by its type. (Only a layer's bits are put together anew, by the patched delay.)
 abbrev pub AllBytes : List Call → Type 0
@@ -78,7 +78,7 @@ OwedOfCalls =
     (c : CbrConfig) (f : ℕ × ℕ) (w : CbrWriter) (calls : List Call) → frameRate (c .«frame_rate_code») ≡ value f → create c ≡ value w → AllBytes calls
     → DemandOf c f w calls
 
-pub record Owed : Type 0 where
+pub record Demand3 : Type 0 where
   -- 'each answer, creation's .. too, is the one that document 01 defines'
   pub creation : (c : CbrConfig) → CreationDue c (create c)
   pub no-other : (c : CbrConfig) (a : Answer CbrWriter) → CreationDue c a → a ≡ create c

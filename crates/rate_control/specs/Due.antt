@@ -1,7 +1,7 @@
 -- Which answer is due to creation and to each offer (paper 01, 'A placed picture'), by conditions in ≤ and <, from creation, the calls and their answers: not from the writer's state,
--- nor from the tests, positions, stuffing or bytes of `offer`. The fit tests, `firstDelay`, `tail`, `patched`, `coarser`, `steered`, `askedOf`, `of`, `index`, `frameRate`, `targets`, `periods` and
+-- nor from the tests, positions, stuffing or bytes of `offer`. The fit tests, `firstDelay`, `endCode`, `patched`, `coarser`, `steered`, `pendingOr`, `of`, `index`, `frameRate`, `writerParams`, `targets`, `periods` and
 -- Annex C are the ones that `create` and `offer` compute with: they are to be read against the papers themselves. Assumes nothing.
-use Prim.Native.Nat.{ℕ, suc, _+_, _*_, _/_, _%_, _^_, _≤_, _<_}
+use Prim.Native.Nat.{ℕ, suc, _+_, _*_, _/_, _%_, _≤_, _<_}
 use mathlib.Core.Path.{_≡_}
 use mathlib.Core.List.{List, [], _∷_, _++_}
 use mathlib.Core.Bool.{Bool, true, false}
@@ -9,9 +9,10 @@ use lib.Dec.{eqb, ltb}
 use lib.ListN.{length, take, drop, replicate, set}
 use Rattle.bits.specs.Bits.{pick}
 use Rattle.bits.specs.Refusals.{Answer, value, refused}
+use Rattle.rate_control.specs.Create.{writerParams}
 use Rattle.vbv.specs.Annex.{unit, firstDelivered, gain, expectedDelay}
 use Rattle.vbv.specs.Answers.{frameRate}
-use Rattle.vbv.specs.Model.{periods}
+use Rattle.vbv.specs.Model.{farthest, periods}
 use Rattle.vbv.specs.Patch.{patched}
 use Rattle.vbv.specs.declared.VbvParams.{VbvParams}
 use Rattle.layers.specs.Headers.{headersFit}
@@ -19,8 +20,8 @@ use Rattle.layers.specs.Layer.{layerFits}
 use Rattle.layers.specs.declared.PictureKind.{PictureKind}
 use Rattle.rate_control.specs.Answers.{Given, placed, again}
 use Rattle.rate_control.specs.Targets.{targets}
-use Rattle.rate_control.specs.Writer.{index, of, askedOf, coarser, steered}
-use Rattle.rate_control.specs.Offer.{Offer, firstDelay, tail}
+use Rattle.rate_control.specs.Writer.{index, of, pendingOr, coarser, steered}
+use Rattle.rate_control.specs.Offer.{Offer, firstDelay, endCode}
 use Rattle.rate_control.specs.Calls.{Step, offered, withdrawn}
 use Rattle.rate_control.specs.Sent.{positionOf, contentOf, Stuffs}
 use Rattle.rate_control.specs.declared.Pending.{Pending}
@@ -34,7 +35,7 @@ use Rattle.rate_control.specs.declared.CbrWriter.{CbrWriter}
 -- offered again, and whether the last picture is placed
 pub record Known : Type 0 where
   pub bytes : ℕ
-  pub zeros : ℕ
+  pub stuffing : ℕ
   pub pictures : ℕ
   pub delivered : ℕ
   pub q : List ℕ
@@ -45,7 +46,7 @@ pub record Known : Type 0 where
 abbrev pub atFirst : CbrConfig → Known
 atFirst c = record {
   bytes = 0;
-  zeros = 0;
+  stuffing = 0;
   pictures = 0;
   delivered = 0;
   q = c .«initial_quantiser_scale_code» ∷ c .«initial_quantiser_scale_code» ∷ c .«initial_quantiser_scale_code» ∷ [];
@@ -62,12 +63,12 @@ deliveredFor p x o = pick (anyPlaced x) (x .delivered) (firstDelivered p (positi
 
 -- the quantiser that its layer was to be encoded with
 abbrev pub askedFor : Known → Offer → ℕ
-askedFor x o = askedOf (x .pending) (of (o .kind) (x .q))
+askedFor x o = pendingOr (x .pending) (of (o .kind) (x .q))
 
 abbrev pub pendingNow : Known → Pending → Known
 pendingNow x y = record {
   bytes = x .bytes;
-  zeros = x .zeros;
+  stuffing = x .stuffing;
   pictures = x .pictures;
   delivered = x .delivered;
   q = x .q;
@@ -76,27 +77,27 @@ pendingNow x y = record {
 }
 
 -- after an offer's answer, the targets being t: of a refusal only 21 changes anything
-abbrev pub told : VbvParams → List ℕ → Known → Offer → Answer Given → Known
-told p t x o (value (placed q delay bytes zeros)) = record {
+abbrev pub knownAfterOffer : VbvParams → List ℕ → Known → Offer → Answer Given → Known
+knownAfterOffer p t x o (value (placed q delay bytes stuffing)) = record {
   bytes = x .bytes + bytes;
-  zeros = x .zeros + zeros;
+  stuffing = x .stuffing + stuffing;
   pictures = suc (x .pictures);
   delivered = deliveredFor p x o + gain p (periods (o .interval));
   q = set (x .q) (index (o .kind)) (steered q (of (o .kind) t) (8 * length (o .layer)));
   pending = Nothing;
   finished = o .last;
 }
-told p t x o (value (again q)) = pendingNow x (Waits (o .kind) q)
-told p t x o (refused n picture coded expected) = pick (eqb n 21) (pendingNow x Nothing) x
+knownAfterOffer p t x o (value (again q)) = pendingNow x (Waits (o .kind) q)
+knownAfterOffer p t x o (refused n picture coded expected) = pick (eqb n 21) (pendingNow x Nothing) x
 
 -- after a call
-abbrev pub toldBy : VbvParams → List ℕ → Known → Step → Known
-toldBy p t x (offered o a out) = told p t x o a
-toldBy p t x (withdrawn n) = pendingNow x Nothing
+abbrev pub knownAfterStep : VbvParams → List ℕ → Known → Step → Known
+knownAfterStep p t x (offered o a out) = knownAfterOffer p t x o a
+knownAfterStep p t x (withdrawn n) = pendingNow x Nothing
 
-abbrev pub known : VbvParams → List ℕ → Known → List Step → Known
-known p t x [] = x
-known p t x (s ∷ l) = known p t (toldBy p t x s) l
+abbrev pub knownAfter : VbvParams → List ℕ → Known → List Step → Known
+knownAfter p t x [] = x
+knownAfter p t x (s ∷ l) = knownAfter p t (knownAfterStep p t x s) l
 
 -- the writer that holds this and nothing else
 abbrev pub holding : VbvParams → List ℕ → Known → CbrWriter
@@ -113,7 +114,7 @@ holding p t x = record {
   «target_bits» = t;
   q = x .q;
   pending = x .pending;
-  «stuffing_bytes» = x .zeros;
+  «stuffing_bytes» = x .stuffing;
   finished = x .finished;
 }
 
@@ -131,26 +132,26 @@ pub record Fitting (p : VbvParams) (x : Known) (o : Offer) : Type 0 where
   pub layer-fits : layerFits (o .kind) (o .interval) (o .layer) ≡ true
 
 -- passed: 17, 18, 20, 14; z is the zero bytes due
-pub record InRange (p : VbvParams) (x : Known) (o : Offer) (z : ℕ) : Type 0 where
+pub record Near (p : VbvParams) (x : Known) (o : Offer) (z : ℕ) : Type 0 where
   pub fitting : Fitting p x o
   pub stuffs : Stuffs p (x .bytes) (deliveredFor p x o) o z
-  pub position-near : positionOf (x .bytes) o ≤ 2 ^ 48
-  pub end-near : contentOf (x .bytes) o + 8 * z ≤ 2 ^ 48
+  pub position-near : positionOf (x .bytes) o ≤ farthest
+  pub end-near : contentOf (x .bytes) o + 8 * z ≤ farthest
 
 -- passed: 17, 18, 20, 14, 7, 9
 pub record OnTime (p : VbvParams) (x : Known) (o : Offer) (z : ℕ) : Type 0 where
-  pub in-range : InRange p x o z
+  pub near : Near p x o z
   pub in-time : positionOf (x .bytes) o * unit p ≤ deliveredFor p x o
   pub no-overflow : deliveredFor p x o ≤ (8 * x .bytes + p .«buffer_size_bits») * unit p
 
 -- passed: 17, 18, 20, 14, 7, 9, size, 22
-pub record AllThere (p : VbvParams) (x : Known) (o : Offer) (z : ℕ) : Type 0 where
+pub record AllDelivered (p : VbvParams) (x : Known) (o : Offer) (z : ℕ) : Type 0 where
   pub on-time : OnTime p x o z
-  pub end-there : (contentOf (x .bytes) o + 8 * z) * unit p ≤ deliveredFor p x o
+  pub end-delivered : (contentOf (x .bytes) o + 8 * z) * unit p ≤ deliveredFor p x o
 
 -- the bytes to place, and the delay: the first one, then what Annex C expects
 abbrev pub sizeOf : Offer → ℕ → ℕ
-sizeOf o z = length (o .headers) + length (o .layer) + z + length (tail (o .last))
+sizeOf o z = length (o .headers) + length (o .layer) + z + length (endCode (o .last))
 
 abbrev pub delayFor : VbvParams → Known → Offer → ℕ
 delayFor p x o = pick (anyPlaced x) (expectedDelay p (positionOf (x .bytes) o) (x .delivered)) (firstDelay p)
@@ -162,31 +163,31 @@ pub data Due (p : VbvParams) (x : Known) (o : Offer) : Answer Given → Type 0 w
   bad-headers : (OutOfTurn x o → ⊥) → headersFit p (anyPlaced x) (o .headers) ≡ false → Due p x o (refused 18 0 0 0)
   bad-layer : (OutOfTurn x o → ⊥) → headersFit p (anyPlaced x) (o .headers) ≡ true
       → layerFits (o .kind) (o .interval) (o .layer) ≡ false → Due p x o (refused 20 0 0 0)
-  far-position : Fitting p x o → 2 ^ 48 < positionOf (x .bytes) o → Due p x o (refused 14 0 0 0)
-  far-end : {z : ℕ} → Fitting p x o → Stuffs p (x .bytes) (deliveredFor p x o) o z → 2 ^ 48 < contentOf (x .bytes) o + 8 * z
+  far-position : Fitting p x o → farthest < positionOf (x .bytes) o → Due p x o (refused 14 0 0 0)
+  far-end : {z : ℕ} → Fitting p x o → Stuffs p (x .bytes) (deliveredFor p x o) o z → farthest < contentOf (x .bytes) o + 8 * z
       → Due p x o (refused 14 0 0 0)
   -- the last condition of these two is added: it always holds where they arise, for before a placing the position is always delivered, and after one the stuffing keeps overflow away.
   -- So a 9 names picture 0, and no delay, since none was coded (docs/DECISIONS.md 40)
-  early : {z : ℕ} → InRange p x o z → deliveredFor p x o < positionOf (x .bytes) o * unit p → 1 ≤ x .pictures → Due p x o (refused 7 0 0 0)
-  overflow : {z : ℕ} → InRange p x o z → positionOf (x .bytes) o * unit p ≤ deliveredFor p x o
+  early-position : {z : ℕ} → Near p x o z → deliveredFor p x o < positionOf (x .bytes) o * unit p → 1 ≤ x .pictures → Due p x o (refused 7 0 0 0)
+  overflowing : {z : ℕ} → Near p x o z → positionOf (x .bytes) o * unit p ≤ deliveredFor p x o
       → (8 * x .bytes + p .«buffer_size_bits») * unit p < deliveredFor p x o → x .pictures ≡ 0 → Due p x o (refused 9 0 0 0)
   too-large : {z : ℕ} → OnTime p x o z → deliveredFor p x o < contentOf (x .bytes) o * unit p → askedFor x o < 31
       → Due p x o (value (again (coarser (askedFor x o))))
   largest : {z : ℕ} → OnTime p x o z → deliveredFor p x o < contentOf (x .bytes) o * unit p → askedFor x o ≡ 31 → Due p x o (refused 21 0 0 0)
   no-edge : {z : ℕ} → OnTime p x o z → contentOf (x .bytes) o * unit p ≤ deliveredFor p x o
       → deliveredFor p x o < (contentOf (x .bytes) o + 8 * z) * unit p → Due p x o (refused 22 0 0 0)
-  no-room : {z : ℕ} → AllThere p x o z → length (o .out) < sizeOf o z → Due p x o (refused 19 0 0 0)
-  room : {z : ℕ} → AllThere p x o z → sizeOf o z ≤ length (o .out)
+  no-room : {z : ℕ} → AllDelivered p x o z → length (o .out) < sizeOf o z → Due p x o (refused 19 0 0 0)
+  room : {z : ℕ} → AllDelivered p x o z → sizeOf o z ≤ length (o .out)
       → Due p x o (value (placed (askedFor x o) (delayFor p x o) (sizeOf o z) z))
 
 -- what its output part then holds: headers, the layer with its delay patched, zeros, and after the last picture the sequence's end; the rest of the part keeps its bytes
 pub record PlacedIn (o : Offer) (delay n z : ℕ) (out : List ℕ) : Type 0 where
-  pub bytes : take n out ≡ o .headers ++ (patched (o .layer) delay ++ (replicate z 0 ++ tail (o .last)))
+  pub bytes : take n out ≡ o .headers ++ (patched (o .layer) delay ++ (replicate z 0 ++ endCode (o .last)))
   pub rest : drop n out ≡ drop n (o .out)
 
 -- no byte is written where none is placed
 abbrev pub PartHolds : Offer → Answer Given → List ℕ → Type 0
-PartHolds o (value (placed q delay bytes zeros)) out = PlacedIn o delay bytes zeros out
+PartHolds o (value (placed q delay bytes stuffing)) out = PlacedIn o delay bytes stuffing out
 PartHolds o (value (again q)) out = out ≡ o .out
 PartHolds o (refused n picture coded expected) out = out ≡ o .out
 
@@ -204,33 +205,25 @@ pub record Ranges (c : CbrConfig) : Type 0 where
   pub anchors-low : 1 ≤ c .«anchors_per_gop»
   pub anchors-high : c .«anchors_per_gop» ≤ 255
 
--- R and B of a configuration, in bits a second and bits
-abbrev pub rateOf : CbrConfig → ℕ
-rateOf c = 400 * c .«bit_rate_value»
-
-abbrev pub bufferOf : CbrConfig → ℕ
-bufferOf c = 16384 * c .«vbv_buffer_size_value»
-
--- with the frame rate f of its code, and the targets of a group
-abbrev pub paramsOf : CbrConfig → ℕ × ℕ → VbvParams
-paramsOf c f = record { «bit_rate» = rateOf c; «buffer_size_bits» = bufferOf c; frn = f .0; frd = f .1 }
-
+-- the targets of a group, the frame rate of its code being f
 abbrev pub targetsOf : CbrConfig → ℕ × ℕ → List ℕ
-targetsOf c f = targets (paramsOf c f) (c .«b_between») (c .«anchors_per_gop»)
+targetsOf c f = targets (writerParams c f) (c .«b_between») (c .«anchors_per_gop»)
 
 -- 12 for a range, 6 for the rate code, 12 for the ratio; else a writer that holds what is known at first
 pub data CreationDue (c : CbrConfig) : Answer CbrWriter → Type 0 where
   bad-range : (Ranges c → ⊥) → CreationDue c (refused 12 0 0 0)
   bad-code : Ranges c → (1 ≤ c .«frame_rate_code» → c .«frame_rate_code» ≤ 8 → ⊥) → CreationDue c (refused 6 0 0 0)
-  bad-ratio : Ranges c → 1 ≤ c .«frame_rate_code» → c .«frame_rate_code» ≤ 8 → 65534 * rateOf c < 90000 * bufferOf c → CreationDue c (refused 12 0 0 0)
-  created : {f : ℕ × ℕ} → Ranges c → 1 ≤ c .«frame_rate_code» → c .«frame_rate_code» ≤ 8 → frameRate (c .«frame_rate_code») ≡ value f → 90000 * bufferOf c ≤ 65534 * rateOf c
-      → CreationDue c (value (holding (paramsOf c f) (targetsOf c f) (atFirst c)))
+  bad-ratio : {f : ℕ × ℕ} → Ranges c → 1 ≤ c .«frame_rate_code» → c .«frame_rate_code» ≤ 8 → frameRate (c .«frame_rate_code») ≡ value f
+      → 65534 * writerParams c f .«bit_rate» < 90000 * writerParams c f .«buffer_size_bits» → CreationDue c (refused 12 0 0 0)
+  created : {f : ℕ × ℕ} → Ranges c → 1 ≤ c .«frame_rate_code» → c .«frame_rate_code» ≤ 8 → frameRate (c .«frame_rate_code») ≡ value f
+      → 90000 * writerParams c f .«buffer_size_bits» ≤ 65534 * writerParams c f .«bit_rate»
+      → CreationDue c (value (holding (writerParams c f) (targetsOf c f) (atFirst c)))
 
 -- ---- of a list
 
 -- of all calls: every offer's answer is due and no other is, and no withdrawal is refused
 pub data Answered (p : VbvParams) (t : List ℕ) : Known → List Step → Type 0 where
-  none : {x : Known} → Answered p t x []
+  no-calls : {x : Known} → Answered p t x []
   offer-then : {x : Known} {o : Offer} {a : Answer Given} {out : List ℕ} {l : List Step} → Due p x o a → ((b : Answer Given) → Due p x o b → b ≡ a)
-      → PartHolds o a out → Answered p t (toldBy p t x (offered o a out)) l → Answered p t x (offered o a out ∷ l)
-  withdrawal-then : {x : Known} {l : List Step} → Answered p t (toldBy p t x (withdrawn 0)) l → Answered p t x (withdrawn 0 ∷ l)
+      → PartHolds o a out → Answered p t (knownAfterStep p t x (offered o a out)) l → Answered p t x (offered o a out ∷ l)
+  withdrawal-then : {x : Known} {l : List Step} → Answered p t (knownAfterStep p t x (withdrawn 0)) l → Answered p t x (withdrawn 0 ∷ l)

@@ -15,14 +15,14 @@ unfoldable pub retried : ℕ → ℕ → List ℕ
 retried zero q = []
 retried (suc n) q = coarser q ∷ retried n (coarser q)
 
-pub record Figures : Type 0 where
+pub record WriterFigures : Type 0 where
   pub model : ModelFigures
   pub first-delay : firstDelay (at25 1000000 327680) ≡ 22118
   pub targets-of-three : targets (at25 1000000 327680) 2 4 ≡ 118181 ∷ 47272 ∷ 26590 ∷ []
   pub retries-from-1 : retried 11 1 ≡ 2 ∷ 3 ∷ 4 ∷ 6 ∷ 8 ∷ 11 ∷ 14 ∷ 18 ∷ 23 ∷ 29 ∷ 31 ∷ []
 
 -- figures that no paper has: the target of each kind, and targets at 30,000/1001, where a picture's bits are no whole number
-pub record Shares : Type 0 where
+pub record TargetFigures : Type 0 where
   pub of-i : of I (targets (at25 1000000 327680) 2 4) ≡ 118181
   pub of-p : of P (targets (at25 1000000 327680) 2 4) ≡ 47272
   pub of-b : of B (targets (at25 1000000 327680) 2 4) ≡ 26590

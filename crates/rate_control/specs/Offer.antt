@@ -1,6 +1,6 @@
 -- An offer and a withdrawal (paper 01, 'A placed picture'): in this order 12 for the state, then 17, 18, 20, 14, 7, 9, size, 22, 19; else the picture is placed.
 -- Assumes nothing.
-use Prim.Native.Nat.{ℕ, _+_, _-_, _*_, _/_, _^_}
+use Prim.Native.Nat.{ℕ, _+_, _-_, _*_, _/_}
 use mathlib.Core.List.{List, [], _++_}
 use mathlib.Core.Bool.{Bool, true, false, not, _||_}
 use lib.Dec.{ltb, eqb}
@@ -9,7 +9,7 @@ use Rattle.bits.specs.Bits.{pick}
 use Rattle.bits.specs.Answers.{over}
 use Rattle.bits.specs.Refusals.{Answer, value, refused, refuse, violate}
 use Rattle.vbv.specs.Annex.{firstDelivered, gain, overflows, beyond, expectedDelay, leastEnd}
-use Rattle.vbv.specs.Model.{delivered, periods, afterRemoval}
+use Rattle.vbv.specs.Model.{farthest, delivered, periods, afterRemoval}
 use Rattle.vbv.specs.Patch.{patched}
 use Rattle.vbv.specs.declared.RemovalInterval.{RemovalInterval}
 use Rattle.vbv.specs.declared.VbvParams.{VbvParams}
@@ -39,13 +39,13 @@ unfoldable pub position : CbrWriter → Offer → ℕ
 position w o = w .model .«prev_end_bits» + 8 * (length (o .headers) + 4)
 
 -- the sequence's end follows the last picture
-unfoldable pub tail : Bool → List ℕ
-tail true = sequenceEnd
-tail false = []
+unfoldable pub endCode : Bool → List ℕ
+endCode true = sequenceEnd
+endCode false = []
 
 -- where headers, layer and the sequence's end come to
 unfoldable pub content : CbrWriter → Offer → ℕ
-content w o = w .model .«prev_end_bits» + 8 * (length (o .headers) + length (o .layer) + length (tail (o .last)))
+content w o = w .model .«prev_end_bits» + 8 * (length (o .headers) + length (o .layer) + length (endCode (o .last)))
 
 -- the first delay: three quarters of the buffer
 unfoldable pub firstDelay : VbvParams → ℕ
@@ -77,8 +77,8 @@ unfolding position deliveredAt
 delay w o = expectedDelay (w .model .params) (position w o) (deliveredAt w o)
 
 unfoldable pub placedBytes : CbrWriter → Offer → List ℕ
-unfolding delay stuffing tail
-placedBytes w o = o .headers ++ (patched (o .layer) (delay w o) ++ (replicate (stuffing w o) 0 ++ tail (o .last)))
+unfolding delay stuffing endCode
+placedBytes w o = o .headers ++ (patched (o .layer) (delay w o) ++ (replicate (stuffing w o) 0 ++ endCode (o .last)))
 
 -- ---- the answers
 
@@ -92,7 +92,7 @@ offer w o =
     (refuse 17 (w .finished || clashes (w .pending) (o .kind))
     (refuse 18 (not (headersFit (w .model .params) (w .model .started) (o .headers)))
     (refuse 20 (not (layerFits (o .kind) (o .interval) (o .layer)))
-    (refuse 14 (ltb (2 ^ 48) (position w o) || ltb (2 ^ 48) (end w o))
+    (refuse 14 (ltb farthest (position w o) || ltb farthest (end w o))
     (refuse 7 (beyond (w .model .params) (position w o) (deliveredAt w o))
     (violate 9 (w .model .removed) 0 0 (overflows (w .model .params) (w .model .«prev_end_bits») (deliveredAt w o))
     (pick (beyond (w .model .params) (content w o) (deliveredAt w o)) (tooLarge (asked w (o .kind)))
@@ -123,7 +123,7 @@ withPlaced w o = record {
 
 -- the writer that an answer leaves: a refusal changes nothing, 21 excepted, which closes the pending picture
 abbrev pub leftBy : CbrWriter → Offer → Answer Given → CbrWriter
-leftBy w o (value (placed q delay bytes zeros)) = withPlaced w o
+leftBy w o (value (placed q delay bytes stuffing)) = withPlaced w o
 leftBy w o (value (again q)) = withPending w (Waits (o .kind) q)
 leftBy w o (refused n picture coded expected) = pick (eqb n 21) (withPending w Nothing) w
 
@@ -132,7 +132,7 @@ left w o = leftBy w o (offer w o)
 
 -- what the output part then holds: the bytes placed over its first ones; as it was, where none are placed
 abbrev pub outOf : Answer Given → List ℕ → List ℕ → List ℕ
-outOf (value (placed q delay n zeros)) bytes out = over bytes out
+outOf (value (placed q delay n stuffing)) bytes out = over bytes out
 outOf (value (again q)) bytes out = out
 outOf (refused n picture coded expected) bytes out = out
 

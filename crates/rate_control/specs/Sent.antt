@@ -15,7 +15,7 @@ use Rattle.verify.specs.Check.{accepted, verdict}
 use Rattle.verify.specs.declared.VbvStandard.the-variants.{Mpeg2}
 use Rattle.verify.specs.declared.VbvPictureRecord.{VbvPictureRecord}
 use Rattle.rate_control.specs.Answers.{Given, placed, again}
-use Rattle.rate_control.specs.Offer.{Offer, tail}
+use Rattle.rate_control.specs.Offer.{Offer, endCode}
 use Rattle.rate_control.specs.Calls.{Step, offered, withdrawn}
 
 -- ---- where an offered picture lies, n bytes being handed out before it, in bits
@@ -26,13 +26,13 @@ positionOf n o = 8 * (n + length (o .headers) + 4)
 
 -- the end of headers, layer and, for the last picture, the sequence's end code
 unfoldable pub contentOf : ℕ → Offer → ℕ
-contentOf n o = 8 * (n + length (o .headers) + length (o .layer) + length (tail (o .last)))
+contentOf n o = 8 * (n + length (o .headers) + length (o .layer) + length (endCode (o .last)))
 
 -- d units being delivered at its removal: k zero bytes keep the next removal from overflow exactly if z ≤ k, so z is the least; after the last picture z is 0
 pub record Stuffs (p : VbvParams) (n d : ℕ) (o : Offer) (z : ℕ) : Type 0 where
   pub least : o .last ≡ false
       → (k : ℕ) → (z ≤ k) ↔ (d + gain p (periods (o .interval)) ≤ (contentOf n o + 8 * k + p .«buffer_size_bits») * unit p)
-  pub none : o .last ≡ true → z ≡ 0
+  pub after-last : o .last ≡ true → z ≡ 0
 
 -- ---- what was handed out
 
@@ -41,18 +41,18 @@ pub record Sent : Type 0 where
   pub before : ℕ
   pub offer : Offer
   pub delay : ℕ
-  pub zeros : ℕ
+  pub stuffing : ℕ
   pub bytes : List ℕ
 
-abbrev pub position : Sent → ℕ
-position x = positionOf (x .before) (x .offer)
+abbrev pub sentPosition : Sent → ℕ
+sentPosition x = positionOf (x .before) (x .offer)
 
-abbrev pub end : Sent → ℕ
-end x = 8 * (x .before + length (x .bytes))
+abbrev pub sentEnd : Sent → ℕ
+sentEnd x = 8 * (x .before + length (x .bytes))
 
 abbrev pub sentBy : ℕ → Offer → Answer Given → List ℕ → (ℕ → List Sent) → List Sent
-sentBy n o (value (placed q delay bytes zeros)) out rest =
-    record { before = n; offer = o; delay = delay; zeros = zeros; bytes = take bytes out } ∷ rest (n + length (take bytes out))
+sentBy n o (value (placed q delay bytes stuffing)) out rest =
+    record { before = n; offer = o; delay = delay; stuffing = stuffing; bytes = take bytes out } ∷ rest (n + length (take bytes out))
 sentBy n o (value (again q)) out rest = rest n
 sentBy n o (refused k picture coded expected) out rest = rest n
 
@@ -62,44 +62,44 @@ sent n [] = []
 sent n (offered o a out ∷ l) = sentBy n o a out (λ k. sent k l)
 sent n (withdrawn k ∷ l) = sent n l
 
--- endToEnd end to end
+-- laid end to end
 unfoldable pub endToEnd : List Sent → List ℕ
 endToEnd [] = []
 endToEnd (x ∷ xs) = x .bytes ++ endToEnd xs
 
 -- the zero bytes among them
-unfoldable pub zerosOf : List Sent → ℕ
-zerosOf [] = 0
-zerosOf (x ∷ xs) = x .zeros + zerosOf xs
+unfoldable pub stuffingOf : List Sent → ℕ
+stuffingOf [] = 0
+stuffingOf (x ∷ xs) = x .stuffing + stuffingOf xs
 
 -- ---- one removal after another
 
 -- what holds of each picture as it is removed, with d units delivered and all before `previous` removed
 pub data Removals (p : VbvParams) (Holds : ℕ → ℕ → Sent → Type 0) : ℕ → ℕ → List Sent → Type 0 where
-  none : {d previous : ℕ} → Removals p Holds d previous []
-  next : {d previous : ℕ} {x : Sent} {xs : List Sent} → Holds d previous x
-      → Removals p Holds (d + gain p (periods (x .offer .interval))) (end x) xs → Removals p Holds d previous (x ∷ xs)
+  no-removal : {d previous : ℕ} → Removals p Holds d previous []
+  removal-then : {d previous : ℕ} {x : Sent} {xs : List Sent} → Holds d previous x
+      → Removals p Holds (d + gain p (periods (x .offer .interval))) (sentEnd x) xs → Removals p Holds d previous (x ∷ xs)
 
 -- C.3.1: the first picture's position and delay say what is delivered at its removal
 abbrev pub EachRemoval : VbvParams → (ℕ → ℕ → Sent → Type 0) → List Sent → Type 0
 EachRemoval p Holds [] = Unit {0}
-EachRemoval p Holds (x ∷ xs) = Removals p Holds (firstDelivered p (position x) (x .delay)) 0 (x ∷ xs)
+EachRemoval p Holds (x ∷ xs) = Removals p Holds (firstDelivered p (sentPosition x) (x .delay)) 0 (x ∷ xs)
 
 -- C.5, C.6: what is in the buffer is no more than it holds, and all of the picture is there
 pub record InBuffer (p : VbvParams) (d previous : ℕ) (x : Sent) : Type 0 where
   pub no-overflow : d ≤ (previous + p .«buffer_size_bits») * unit p
-  pub no-underflow : end x * unit p ≤ d
+  pub no-underflow : sentEnd x * unit p ≤ d
 
 -- its bytes are headers, layer with the delay patched, zeros and end code; the delay is the expected one, and no 0xFFFF
-pub record Placed (p : VbvParams) (d previous : ℕ) (x : Sent) : Type 0 where
+pub record WellPlaced (p : VbvParams) (d previous : ℕ) (x : Sent) : Type 0 where
   pub bytes-are : x .bytes
-      ≡ x .offer .headers ++ (patched (x .offer .layer) (x .delay) ++ (replicate (x .zeros) 0 ++ tail (x .offer .last)))
-  pub delay-exact : x .delay ≡ expectedDelay p (position x) d
+      ≡ x .offer .headers ++ (patched (x .offer .layer) (x .delay) ++ (replicate (x .stuffing) 0 ++ endCode (x .offer .last)))
+  pub delay-exact : x .delay ≡ expectedDelay p (sentPosition x) d
   pub delay-told : x .delay ≤ 65534
 
 -- its zeros are the least
 abbrev pub LeastStuffing : VbvParams → ℕ → ℕ → Sent → Type 0
-LeastStuffing p d previous x = Stuffs p (x .before) d (x .offer) (x .zeros)
+LeastStuffing p d previous x = Stuffs p (x .before) d (x .offer) (x .stuffing)
 
 -- ---- the check
 
@@ -115,11 +115,11 @@ sentRecord p d previous x = record {
 -- one record a picture, in order
 unfoldable pub sentRecords : VbvParams → ℕ → ℕ → List Sent → List VbvPictureRecord
 sentRecords p d previous [] = []
-sentRecords p d previous (x ∷ xs) = sentRecord p d previous x ∷ sentRecords p (d + gain p (periods (x .offer .interval))) (end x) xs
+sentRecords p d previous (x ∷ xs) = sentRecord p d previous x ∷ sentRecords p (d + gain p (periods (x .offer .interval))) (sentEnd x) xs
 
 -- once a picture is placed the MPEG-2 check accepts the bytes with these records, given a place for each
-abbrev pub Passes : VbvParams → List Sent → Type 0
-Passes p [] = Unit {0}
-Passes p (x ∷ xs) =
+abbrev pub PassesCheck : VbvParams → List Sent → Type 0
+PassesCheck p [] = Unit {0}
+PassesCheck p (x ∷ xs) =
     (places : ℕ) → length (x ∷ xs) ≤ places
-    → verdict Mpeg2 (endToEnd (x ∷ xs)) places ≡ accepted p (sentRecords p (firstDelivered p (position x) (x .delay)) 0 (x ∷ xs))
+    → verdict Mpeg2 (endToEnd (x ∷ xs)) places ≡ accepted p (sentRecords p (firstDelivered p (sentPosition x) (x .delay)) 0 (x ∷ xs))

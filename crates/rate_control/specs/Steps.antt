@@ -1,6 +1,6 @@
--- The writer as the code goes: the promises of the private functions. proofs/Judging and proofs/Offering say that they come to specs/Offer.
+-- The writer as the code goes: the promises of the private functions. proofs/Testing and proofs/Offering say that they come to specs/Offer.
 -- Assumes nothing.
-use Prim.Native.Nat.{ℕ, _+_, _-_, _*_, _/_, _^_, _≤_, max}
+use Prim.Native.Nat.{ℕ, _+_, _-_, _*_, _/_, _≤_, max}
 use mathlib.Core.Path.{_≡_}
 use mathlib.Core.Bool.{Bool, not, _||_}
 use mathlib.Core.List.{List}
@@ -9,7 +9,7 @@ use lib.ListN.{length, set}
 use Rattle.bits.specs.Bits.{pick}
 use Rattle.bits.specs.Refusals.{Answer, value, andThen, orElse}
 use Rattle.vbv.specs.Annex.{overflows, beyond}
-use Rattle.vbv.specs.Model.{newModel, startModel, delayForPicture, removePicture, maxEndBits, minEndBits}
+use Rattle.vbv.specs.Model.{farthest, newModel, startModel, delayForPicture, removePicture, maxEndBits, minEndBits}
 use Rattle.vbv.specs.Steps.{modelOf, delayOf, bitsOf, removalOf}
 use Rattle.vbv.specs.declared.VbvError.{VbvError}
 use Rattle.vbv.specs.declared.RemovalInterval.{RemovalInterval}
@@ -30,9 +30,9 @@ use Rattle.layers.specs.declared.PictureKind.{PictureKind}
 use Rattle.layers.specs.Headers.{headersFit}
 use Rattle.layers.specs.Layer.{layerFits}
 use Rattle.rate_control.specs.Answers.{createdAnswer}
-use Rattle.rate_control.specs.Create.{configParams, freshWriter, noWriter}
+use Rattle.rate_control.specs.Create.{writerParams, freshWriter, noWriter}
 use Rattle.rate_control.specs.Writer.{writerFits, index, of, clashes, asked, coarser, steered}
-use Rattle.rate_control.specs.Offer.{Offer, position, content, end, deliveredAt, stuffing, delay, placedBytes, firstDelay, tail, withPending, withPlaced}
+use Rattle.rate_control.specs.Offer.{Offer, position, content, end, deliveredAt, stuffing, delay, placedBytes, firstDelay, endCode, withPending, withPlaced}
 use Rattle.rate_control.specs.declared.CbrConfig.{CbrConfig}
 use Rattle.rate_control.specs.declared.CbrCreation.the-variants.{Refused as NotCreated}
 use Rattle.rate_control.specs.declared.CbrCreated.{CbrCreated}
@@ -44,20 +44,13 @@ use Rattle.rate_control.specs.declared.CbrAnswer.the-variants.{Placed, A
 use Rattle.rate_control.specs.declared.CbrOffered.{CbrOffered}
 use Rattle.rate_control.specs.declared.Extent.{Extent}
 use Rattle.rate_control.specs.declared.Placement.{Placement}
-use Rattle.rate_control.specs.declared.Judged.{Judged}
-use Rattle.rate_control.specs.declared.Judged.the-variants.{Refused, TooLarge, Ready}
+use Rattle.rate_control.specs.declared.Tested.{Tested}
+use Rattle.rate_control.specs.declared.Tested.the-variants.{Refused, TooLarge, Ready}
 
 -- ---- creation
 
--- what the ranges say, as bounds
-pub record ConfigFits (c : CbrConfig) : Type 0 where
-  pub rate-high : c .«bit_rate_value» ≤ 262143
-  pub size-high : c .«vbv_buffer_size_value» ≤ 1023
-  pub between-high : c .«b_between» ≤ 15
-  pub anchors-high : c .«anchors_per_gop» ≤ 255
-
 -- the targets are counted in 64 bits
-pub record Shares (p : VbvParams) (between anchors : ℕ) : Type 0 where
+pub record TargetsFit (p : VbvParams) (between anchors : ℕ) : Type 0 where
   pub rate-high : p .«bit_rate» ≤ 104857200
   pub frn-low : 1 ≤ p .frn
   pub frd-high : p .frd ≤ 32032
@@ -74,84 +67,84 @@ Creates r a = (createdAnswer r ≡ a) × (r .writer ≡ orElse noWriter a)
 
 -- once the frame rate is known
 abbrev pub withRate : CbrConfig → ℕ × ℕ → Answer CbrWriter
-withRate c f = andThen (newModel (configParams c f)) (λ m. value (freshWriter c m))
+withRate c f = andThen (newModel (writerParams c f)) (λ m. value (freshWriter c m))
 
 -- ---- the tests of an offer, by what the model answers
 
 -- a picture that ends within the ranges
-pub record ExtentFits (x : Extent) (zeros : ℕ) : Type 0 where
-  pub end-far : x .content + 8 * zeros ≤ 2 ^ 48
-  pub bytes-far : x .bytes ≤ 2 ^ 48
+pub record ExtentFits (x : Extent) (z : ℕ) : Type 0 where
+  pub end-far : x .content + 8 * z ≤ farthest
+  pub bytes-far : x .bytes ≤ farthest
 
 -- the model as it is, or, before the first placing, started with the first delay
 unfoldable pub startedAt : VbvCbrModel → ℕ → VbvModel
 startedAt m position = pick (m .started) (md.Model m) (modelOf (startModel m (firstDelay (m .params)) position))
 
 -- zero bytes up to the least end; none after the last picture
-unfoldable pub zeros : ℕ → ℕ → Bool → ℕ
-zeros least content last = pick last 0 ((least - content + 7) / 8)
+unfoldable pub stuffingUpTo : ℕ → ℕ → Bool → ℕ
+stuffingUpTo least content last = pick last 0 ((least - content + 7) / 8)
 
-unfoldable pub byDelay : VbvCbrModel → Extent → ℕ → VbvDelay → Judged
-byDelay next x z (dl.Delay d) = Ready (record { model = next; «vbv_delay» = d; bytes = x .bytes + z; «stuffing_bytes» = z })
-byDelay next x z (dl.Refused e) = Refused (Model e)
+unfoldable pub readyBy : VbvCbrModel → Extent → ℕ → VbvDelay → Tested
+readyBy next x z (dl.Delay d) = Ready (record { model = next; «vbv_delay» = d; bytes = x .bytes + z; «stuffing_bytes» = z })
+readyBy next x z (dl.Refused e) = Refused (Model e)
 
 -- 22: the stuffed end
-unfoldable pub byEnd : VbvCbrModel → Extent → ℕ → VbvRemoval → Judged
-byEnd m x z (rm.Model next) = byDelay next x z (delayOf (delayForPicture m (x .position)))
+unfoldable pub byEnd : VbvCbrModel → Extent → ℕ → VbvRemoval → Tested
+byEnd m x z (rm.Model next) = readyBy next x z (delayOf (delayForPicture m (x .position)))
 byEnd m x z (rm.Refused e) = Refused (Model e)
 byEnd m x z (rm.Violation v) = Refused Stuffing
 
 -- 9, and the size
-unfoldable pub violated : VbvViolation → Judged
+unfoldable pub violated : VbvViolation → Tested
 violated (Overflow n c e) = Refused (Violation (Overflow n c e))
 violated (Underflow n c e) = TooLarge
 violated (DelayMismatch n c e) = Refused (Violation (DelayMismatch n c e))
 
-unfoldable pub bySize : VbvCbrModel → Extent → ℕ → RemovalInterval → VbvRemoval → Judged
+unfoldable pub bySize : VbvCbrModel → Extent → ℕ → RemovalInterval → VbvRemoval → Tested
 bySize m x z i (rm.Model next) = byEnd m x z (removalOf (removePicture m (x .content + 8 * z) i))
 bySize m x z i (rm.Refused e) = Refused (Model e)
 bySize m x z i (rm.Violation v) = violated v
 
 -- 7
-unfoldable pub byMost : VbvCbrModel → Extent → ℕ → RemovalInterval → VbvBits → Judged
+unfoldable pub byMost : VbvCbrModel → Extent → ℕ → RemovalInterval → VbvBits → Tested
 byMost m x z i (bt.Bits most) = pick (ltb most (x .position)) (Refused (Model Early)) (bySize m x z i (removalOf (removePicture m (x .content) i)))
 byMost m x z i (bt.Refused e) = Refused (Model e)
 
 -- 14 of the end; more than 2^45 zero bytes pass it
-unfoldable pub withZeros : VbvCbrModel → Extent → RemovalInterval → ℕ → Judged
-withZeros m x i z =
-    pick (ltb (2 ^ 45) z) (Refused (Model Range))
-    (pick (ltb (2 ^ 48) (x .content + 8 * z)) (Refused (Model Range)) (byMost m x z i (bitsOf (maxEndBits m))))
+unfoldable pub withStuffing : VbvCbrModel → Extent → RemovalInterval → ℕ → Tested
+withStuffing m x i z =
+    pick (ltb (farthest / 8) z) (Refused (Model Range))
+    (pick (ltb farthest (x .content + 8 * z)) (Refused (Model Range)) (byMost m x z i (bitsOf (maxEndBits m))))
 
-unfoldable pub byLeast : VbvCbrModel → Extent → RemovalInterval → Bool → VbvBits → Judged
-byLeast m x i last (bt.Bits least) = withZeros m x i (zeros least (x .content) last)
+unfoldable pub byLeast : VbvCbrModel → Extent → RemovalInterval → Bool → VbvBits → Tested
+byLeast m x i last (bt.Bits least) = withStuffing m x i (stuffingUpTo least (x .content) last)
 byLeast m x i last (bt.Refused e) = Refused (Model e)
 
-unfoldable pub byStart : Extent → RemovalInterval → Bool → VbvModel → Judged
+unfoldable pub byStart : Extent → RemovalInterval → Bool → VbvModel → Tested
 byStart x i last (md.Model m) = byLeast m x i last (bitsOf (minEndBits m i))
 byStart x i last (md.Refused e) = Refused (Model e)
 
 unfoldable pub extentOf : VbvCbrModel → ℕ → ℕ → Bool → Extent
 extentOf m headers layer last = record {
   position = m .«prev_end_bits» + 8 * (headers + 4);
-  content = m .«prev_end_bits» + 8 * (headers + layer + length (tail last));
-  bytes = headers + layer + length (tail last);
+  content = m .«prev_end_bits» + 8 * (headers + layer + length (endCode last));
+  bytes = headers + layer + length (endCode last);
 }
 
 -- 14 of the position and of the end without stuffing
-unfoldable pub within14 : Extent → RemovalInterval → Bool → VbvModel → Judged
+unfoldable pub within14 : Extent → RemovalInterval → Bool → VbvModel → Tested
 within14 x i last m =
-    pick (ltb (2 ^ 48) (max (x .position) (x .content))) (Refused (Model Range)) (byStart x i last m)
+    pick (ltb farthest (max (x .position) (x .content))) (Refused (Model Range)) (byStart x i last m)
 
 -- more than 2^45 bytes of headers or layer pass these
-unfoldable pub measured : VbvCbrModel → ℕ → ℕ → RemovalInterval → Bool → Judged
+unfoldable pub measured : VbvCbrModel → ℕ → ℕ → RemovalInterval → Bool → Tested
 measured m headers layer i last =
-    pick (ltb (2 ^ 45) (max headers layer)) (Refused (Model Range))
+    pick (ltb (farthest / 8) (max headers layer)) (Refused (Model Range))
     (within14 (extentOf m headers layer last) i last (startedAt m (extentOf m headers layer last .position)))
 
 -- 12 for the state, 17, 18 and 20 before these
-unfoldable pub judged : CbrWriter → List ℕ → PictureKind → RemovalInterval → Bool → List ℕ → Judged
-judged w headers k i last layer =
+unfoldable pub tested : CbrWriter → List ℕ → PictureKind → RemovalInterval → Bool → List ℕ → Tested
+tested w headers k i last layer =
     pick (not (writerFits w)) (Refused (Model Params))
     (pick (w .finished || clashes (w .pending) k) (Refused Kind)
     (pick (not (headersFit (w .model .params) (w .model .started) headers)) (Refused Headers)
@@ -162,9 +155,9 @@ judged w headers k i last layer =
 
 -- the sums of a placing are counted in 64 bits
 pub record Placeable (w : CbrWriter) (k : PictureKind) (layer : ℕ) (p : Placement) : Type 0 where
-  pub layer-far : 8 * layer ≤ 2 ^ 48
-  pub target-far : of k (w .«target_bits») ≤ 2 ^ 48
-  pub total-far : w .«stuffing_bytes» + p .«stuffing_bytes» ≤ 2 ^ 48
+  pub layer-far : 8 * layer ≤ farthest
+  pub target-far : of k (w .«target_bits») ≤ farthest
+  pub total-far : w .«stuffing_bytes» + p .«stuffing_bytes» ≤ farthest
 
 unfoldable pub placedBy : CbrWriter → PictureKind → ℕ → Bool → Placement → CbrOffered
 placedBy w k layer last p = record {
@@ -181,33 +174,33 @@ placedBy w k layer last p = record {
 }
 
 -- nothing changes
-unfoldable pub refused : CbrWriter → CbrError → CbrOffered
-refused w e = record { answer = NotPlaced e; writer = w }
+unfoldable pub refusedInCode : CbrWriter → CbrError → CbrOffered
+refusedInCode w e = record { answer = NotPlaced e; writer = w }
 
 -- too large with the quantiser q: a coarser one, or at 31 a refusal that closes the pending picture
-unfoldable pub tooLarge : CbrWriter → PictureKind → ℕ → CbrOffered
-tooLarge w k q =
+unfoldable pub tooLargeInCode : CbrWriter → PictureKind → ℕ → CbrOffered
+tooLargeInCode w k q =
     pick (eqb q 31)
     (record { answer = NotPlaced Largest; writer = withPending w Nothing })
     (record { answer = Again (coarser q); writer = withPending w (Waits k (coarser q)) })
 
-unfoldable pub placed : CbrWriter → Offer → ℕ → CbrOffered
-placed w o q = record {
+unfoldable pub placedInCode : CbrWriter → Offer → ℕ → CbrOffered
+placedInCode w o q = record {
   answer = Placed q (delay w o) (length (placedBytes w o)) (stuffing w o);
   writer = withPlaced w o;
 }
 
 -- `offer` of specs/Offer.antt with the code's answers
-unfoldable pub offered : CbrWriter → Offer → CbrOffered
-offered w o =
-    pick (not (writerFits w)) (refused w (Model Params))
-    (pick (w .finished || clashes (w .pending) (o .kind)) (refused w Kind)
-    (pick (not (headersFit (w .model .params) (w .model .started) (o .headers))) (refused w Headers)
-    (pick (not (layerFits (o .kind) (o .interval) (o .layer))) (refused w Layer)
-    (pick (ltb (2 ^ 48) (position w o) || ltb (2 ^ 48) (end w o)) (refused w (Model Range))
-    (pick (beyond (w .model .params) (position w o) (deliveredAt w o)) (refused w (Model Early))
-    (pick (overflows (w .model .params) (w .model .«prev_end_bits») (deliveredAt w o)) (refused w (Violation (Overflow (w .model .removed) 0 0)))
-    (pick (beyond (w .model .params) (content w o) (deliveredAt w o)) (tooLarge w (o .kind) (asked w (o .kind)))
-    (pick (beyond (w .model .params) (end w o) (deliveredAt w o)) (refused w Stuffing)
-    (pick (ltb (length (o .out)) (length (placedBytes w o))) (refused w Output)
-    (placed w o (asked w (o .kind))))))))))))
+unfoldable pub offerInCode : CbrWriter → Offer → CbrOffered
+offerInCode w o =
+    pick (not (writerFits w)) (refusedInCode w (Model Params))
+    (pick (w .finished || clashes (w .pending) (o .kind)) (refusedInCode w Kind)
+    (pick (not (headersFit (w .model .params) (w .model .started) (o .headers))) (refusedInCode w Headers)
+    (pick (not (layerFits (o .kind) (o .interval) (o .layer))) (refusedInCode w Layer)
+    (pick (ltb farthest (position w o) || ltb farthest (end w o)) (refusedInCode w (Model Range))
+    (pick (beyond (w .model .params) (position w o) (deliveredAt w o)) (refusedInCode w (Model Early))
+    (pick (overflows (w .model .params) (w .model .«prev_end_bits») (deliveredAt w o)) (refusedInCode w (Violation (Overflow (w .model .removed) 0 0)))
+    (pick (beyond (w .model .params) (content w o) (deliveredAt w o)) (tooLargeInCode w (o .kind) (asked w (o .kind)))
+    (pick (beyond (w .model .params) (end w o) (deliveredAt w o)) (refusedInCode w Stuffing)
+    (pick (ltb (length (o .out)) (length (placedBytes w o))) (refusedInCode w Output)
+    (placedInCode w o (asked w (o .kind))))))))))))

@@ -1,12 +1,12 @@
 -- A writer's state: its ranges, and what it keeps for each kind of picture (paper 01, 'A placed picture').
 -- Assumes nothing.
-use Prim.Native.Nat.{ℕ, _+_, _-_, _*_, _/_, _%_, _^_, min, max}
+use Prim.Native.Nat.{ℕ, _+_, _-_, _*_, _/_, _%_, min, max}
 use mathlib.Core.List.{List, [], _∷_}
 use mathlib.Core.Bool.{Bool, true, false, not, _&&_}
 use lib.Dec.{leb, ltb, eqb}
 use lib.ListN.{getD}
 use Rattle.bits.specs.Bits.{pick}
-use Rattle.vbv.specs.Model.{modelFits}
+use Rattle.vbv.specs.Model.{farthest, modelFits}
 use Rattle.layers.specs.declared.PictureKind.{PictureKind}
 use Rattle.layers.specs.declared.PictureKind.the-variants.{I, P, B}
 use Rattle.rate_control.specs.Create.{within}
@@ -17,17 +17,17 @@ use Rattle.rate_control.specs.declared.CbrWriter.{CbrWriter}
 -- ---- ranges
 
 -- a quantiser_scale_code (6.3.16)
-unfoldable pub quantiser : ℕ → Bool
+unfoldable pub quantiserFits : ℕ → Bool
 unfolding within
-quantiser q = within 1 31 q
+quantiserFits q = within 1 31 q
 
-unfoldable pub every : (ℕ → Bool) → List ℕ → Bool
-every f [] = true
-every f (x ∷ xs) = f x && every f xs
+unfoldable pub allFit : (ℕ → Bool) → List ℕ → Bool
+allFit f [] = true
+allFit f (x ∷ xs) = f x && allFit f xs
 
 unfoldable pub pendingFits : Pending → Bool
 pendingFits Nothing = true
-pendingFits (Waits k n) = quantiser n
+pendingFits (Waits k n) = quantiserFits n
 
 -- the model's ranges; the previous end is whole bytes, at least as many as pictures placed, and as bytes stuffed; targets up to 2^48, quantisers 1 to 31
 unfoldable pub writerFits : CbrWriter → Bool
@@ -36,8 +36,8 @@ writerFits w =
     && (eqb (w .model .«prev_end_bits» % 8) 0
     && (leb (8 * w .model .removed) (w .model .«prev_end_bits»)
     && (leb (8 * w .«stuffing_bytes») (w .model .«prev_end_bits»)
-    && (every (λ t. leb t (2 ^ 48)) (w .«target_bits»)
-    && (every quantiser (w .q) && pendingFits (w .pending))))))
+    && (allFit (λ t. leb t farthest) (w .«target_bits»)
+    && (allFit quantiserFits (w .q) && pendingFits (w .pending))))))
 
 -- ---- by kind
 
@@ -56,13 +56,13 @@ clashes Nothing k = false
 clashes (Waits j n) k = not (eqb (index j) (index k))
 
 -- the quantiser that a layer is asked for with: the pending picture's, or the kind's
-unfoldable pub askedOf : Pending → ℕ → ℕ
-askedOf Nothing q = q
-askedOf (Waits j n) q = n
+unfoldable pub pendingOr : Pending → ℕ → ℕ
+pendingOr Nothing q = q
+pendingOr (Waits j n) q = n
 
 unfoldable pub asked : CbrWriter → PictureKind → ℕ
-unfolding askedOf of
-asked w k = askedOf (w .pending) (of k (w .q))
+unfolding pendingOr of
+asked w k = pendingOr (w .pending) (of k (w .q))
 
 -- ---- the quantiser
 

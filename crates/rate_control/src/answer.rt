@@ -1,7 +1,7 @@
 // The writer after an offer.
 ghost use mathlib.Core.Path.{_≡_};
-ghost use Rattle.rate_control.specs.Writer.{asked as askedOf};
-ghost use Rattle.rate_control.specs.Steps.{Placeable, placedBy, refused as refusedOf, tooLarge};
+ghost use Rattle.rate_control.specs.Writer.{asked};
+ghost use Rattle.rate_control.specs.Steps.{Placeable, placedBy, refusedInCode, tooLargeInCode};
 use crate::CbrAnswer;
 use crate::CbrError;
 use crate::CbrOffered;
@@ -16,7 +16,7 @@ use layers::PictureKind;
 impl CbrWriter {
     // Nothing changes.
     pub(crate) fn refused(self, error: CbrError) -> CbrOffered
-        ensures { λ r. ⌜ r ≡ refusedOf self error ⌝ }
+        ensures { λ r. ⌜ r ≡ refusedInCode self error ⌝ }
     {
         CbrOffered {
             answer: CbrAnswer::Refused(error),
@@ -26,7 +26,7 @@ impl CbrWriter {
 
     // A coarser quantiser, or at 31 a refusal that closes the pending picture.
     pub(crate) fn too_large(self, kind: PictureKind) -> CbrOffered
-        ensures { λ r. ⌜ r ≡ tooLarge self kind (askedOf self kind) ⌝ }
+        ensures { λ r. ⌜ r ≡ tooLargeInCode self kind (asked self kind) ⌝ }
     {
         let q = self.asked(kind);
         if q == 31 {

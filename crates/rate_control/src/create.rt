@@ -2,8 +2,9 @@
 ghost use mathlib.Core.Path.{_≡_};
 ghost use Rattle.bits.specs.Refusals.{orElse};
 ghost use Rattle.rate_control.specs.Answers.{createdAnswer};
-ghost use Rattle.rate_control.specs.Create.{within as withinOf, configFits, freshWriter, noWriter, create as createOf};
-ghost use Rattle.rate_control.specs.Steps.{ConfigFits, Shares, notCreated, Creates, withRate};
+ghost use Rattle.rate_control.specs.Create.{within, configFits, freshWriter, noWriter, create};
+ghost use Rattle.rate_control.specs.Due.{Ranges};
+ghost use Rattle.rate_control.specs.Steps.{TargetsFit, notCreated, Creates, withRate};
 ghost use Rattle.rate_control.specs.Targets.{targets};
 use crate::CbrConfig;
 use crate::CbrCreated;
@@ -17,14 +18,14 @@ use vbv::VbvModel;
 use vbv::VbvParams;
 
 fn within(low: u64, high: u64, value: u64) -> bool
-    ensures { λ r. ⌜ r ≡ withinOf low high value ⌝ }
+    ensures { λ r. ⌜ r ≡ within low high value ⌝ }
 {
     (low <= value) & (value <= high)
 }
 
 // The bits of a group of pictures, shared out by weight.
 fn type_target_bits(params: VbvParams, b_between: u64, anchors_per_gop: u64) -> [u64; 3]
-    requires { ⌜ Shares params «b_between» «anchors_per_gop» ⌝ }
+    requires { ⌜ TargetsFit params «b_between» «anchors_per_gop» ⌝ }
     ensures { λ r. ⌜ r ≡ targets params «b_between» «anchors_per_gop» ⌝ }
 {
     let pictures = 1 + anchors_per_gop * (b_between + 1);
@@ -89,7 +90,7 @@ impl CbrConfig {
 
     // Nothing placed, nothing pending, every kind at the given quantiser.
     fn fresh(self, model: VbvCbrModel) -> CbrWriter
-        requires { ⌜ Shares (model .params) (self .«b_between») (self .«anchors_per_gop») ⌝ }
+        requires { ⌜ TargetsFit (model .params) (self .«b_between») (self .«anchors_per_gop») ⌝ }
         ensures { λ r. ⌜ r ≡ freshWriter self model ⌝ }
     {
         let params = model.params;
@@ -108,17 +109,11 @@ impl CbrConfig {
     }
 
     fn with_rate(self, frn: u64, frd: u64) -> CbrCreated
-        requires { ⌜ ConfigFits self ⌝ }
+        requires { ⌜ Ranges self ⌝ }
         ensures { λ r. ⌜ Creates r (withRate self (frn, frd)) ⌝ }
     {
-        let rate = self.bit_rate_value as u64;
-        let size = self.vbv_buffer_size_value as u64;
-        let params = VbvParams {
-            bit_rate: 400 * rate,
-            buffer_size_bits: 16384 * size,
-            frn,
-            frd,
-        };
+        let buffer = self.vbv_buffer_size_value as u32;
+        let params = vbv::params_of(self.bit_rate_value, buffer, frn, frd);
         match VbvCbrModel::new(params) {
             VbvModel::Model(model) => CbrCreated {
                 answer: CbrCreation::Created,
@@ -132,8 +127,8 @@ impl CbrConfig {
 impl CbrWriter {
     // Refused in this order: 12 for a range, 6 for the rate code, 12 for the ratio.
     pub fn create(config: CbrConfig) -> CbrCreated
-        ensures { λ r. ⌜ createdAnswer r ≡ createOf config ⌝ }
-        ensures { λ r. ⌜ r .writer ≡ orElse noWriter (createOf config) ⌝ }
+        ensures { λ r. ⌜ createdAnswer r ≡ create config ⌝ }
+        ensures { λ r. ⌜ r .writer ≡ orElse noWriter (create config) ⌝ }
     {
         if config.fits() {
             match vbv::frame_rate_value(config.frame_rate_code) {

@@ -1,6 +1,6 @@
 // The constant-rate writer: creation, offers of pictures and withdrawals (paper 01, 'A placed picture').
 ghost use mathlib.Core.Path.{_≡_};
-ghost use Rattle.rate_control.specs.Answers.{refusalOf};
+ghost use Rattle.rate_control.specs.Answers.{offerRefusal};
 
 mod create; // creation, and the targets
 mod state; // the ranges of a state, and what it keeps for each kind
@@ -11,13 +11,13 @@ mod output; // the bytes placed
 mod offer; // an offer: its tests and its answer
 
 pub use crate::create::no_writer;
+use bits::VbvRefusal;
+use bits::plain;
 use layers::PictureKind;
 use vbv::VbvCbrModel;
 use vbv::VbvError;
 use vbv::VbvViolation;
-use verify::VbvRefusal;
 use verify::VbvVerifyError;
-use verify::plain;
 
 // What a writer is created with: the sequence header's fields, the quantiser that every kind starts from, B pictures between
 // anchors and anchors in a group.
@@ -112,7 +112,7 @@ struct Extent {
     pub bytes: u64,
 }
 
-// What is placed: the model behind it, the delay, all bytes and the zeros among them.
+// What is placed: the model after it, the delay, all bytes and the zeros among them.
 struct Placement {
     pub model: VbvCbrModel,
     pub vbv_delay: u16,
@@ -121,7 +121,7 @@ struct Placement {
 }
 
 // What the tests of an offer come to, but for the room in the output part.
-enum Judged {
+enum Tested {
     Refused(CbrError),
     TooLarge,
     Ready(Placement),
@@ -130,7 +130,7 @@ enum Judged {
 impl CbrError {
     // Paper 01's number, and what the refusal carries (docs/REFUSALS.md).
     pub fn refusal(self) -> VbvRefusal
-        ensures { λ r. ⌜ r ≡ refusalOf self ⌝ }
+        ensures { λ r. ⌜ r ≡ offerRefusal self ⌝ }
     {
         match self {
             CbrError::Model(e) => VbvVerifyError::Model(e).refusal(),

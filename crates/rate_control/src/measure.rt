@@ -1,16 +1,16 @@
 // Where an offered picture lies in the stream, and what the model says to it: 14, 7, 9, the size and 22, in this order.
 ghost use mathlib.Core.Path.{_≡_};
-ghost use Prim.Native.Nat.{_+_, _*_, _^_, _≤_, max};
+ghost use Prim.Native.Nat.{_+_, _*_, _≤_, max};
 ghost use lib.ListN.{length};
-ghost use Rattle.vbv.specs.Steps.{ParamsFit, ModelFits};
-ghost use Rattle.vbv.specs.Model.{delayForPicture, removePicture, maxEndBits, minEndBits};
-ghost use Rattle.vbv.specs.Steps.{delayOf, bitsOf, removalOf};
-ghost use Rattle.rate_control.specs.Offer.{firstDelay, tail};
-ghost use Rattle.rate_control.specs.Steps.{ExtentFits, startedAt, zeros, violated as violatedOf, byDelay, byEnd, byMost, byLeast, measured as measuredOf};
+ghost use Rattle.vbv.specs.Model.{farthest, delayForPicture, removePicture, maxEndBits, minEndBits};
+ghost use Rattle.vbv.specs.Steps.{ParamsFit, ModelFits, delayOf, bitsOf, removalOf};
+ghost use Rattle.rate_control.specs.Offer.{firstDelay, endCode};
+ghost use Rattle.rate_control.specs.Steps.{ExtentFits, startedAt, stuffingUpTo, violated, readyBy, byEnd, byMost, byLeast, measured};
 use crate::CbrError;
 use crate::Extent;
-use crate::Judged;
 use crate::Placement;
+use crate::Tested;
+use vbv::FARTHEST;
 use vbv::RemovalInterval;
 use vbv::VbvBits;
 use vbv::VbvCbrModel;
@@ -20,12 +20,6 @@ use vbv::VbvModel;
 use vbv::VbvParams;
 use vbv::VbvRemoval;
 use vbv::VbvViolation;
-
-// Positions and ends go up to 2^48 bits.
-const FAR: u64 = 281474976710656;
-
-// More bytes than these pass it.
-const FAR_BYTES: u64 = 35184372088832;
 
 // Three quarters of the buffer.
 fn first_delay(params: VbvParams) -> u16
@@ -50,7 +44,7 @@ fn started(model: VbvCbrModel, position: u64) -> VbvModel
 
 // Zero bytes up to the least end; none after the last picture.
 fn stuffing(least: u64, content: u64, last: bool) -> u64
-    ensures { λ r. ⌜ r ≡ zeros least content last ⌝ }
+    ensures { λ r. ⌜ r ≡ stuffingUpTo least content last ⌝ }
 {
     if last {
         return 0;
@@ -63,36 +57,36 @@ fn stuffing(least: u64, content: u64, last: bool) -> u64
 }
 
 // An underflow is a picture too large.
-fn violated(violation: VbvViolation) -> Judged
-    ensures { λ r. ⌜ r ≡ violatedOf violation ⌝ }
+fn violated(violation: VbvViolation) -> Tested
+    ensures { λ r. ⌜ r ≡ violated violation ⌝ }
 {
     match violation {
         VbvViolation::Overflow {
             picture: _,
             coded: _,
             expected: _,
-        } => Judged::Refused(CbrError::Violation(violation)),
+        } => Tested::Refused(CbrError::Violation(violation)),
         VbvViolation::Underflow {
             picture: _,
             coded: _,
             expected: _,
-        } => Judged::TooLarge,
+        } => Tested::TooLarge,
         VbvViolation::DelayMismatch {
             picture: _,
             coded: _,
             expected: _,
-        } => Judged::Refused(CbrError::Violation(violation)),
+        } => Tested::Refused(CbrError::Violation(violation)),
     }
 }
 
-// With the model behind the picture, the delay.
-fn ready(model: VbvCbrModel, next: VbvCbrModel, extent: Extent, zeros: u64) -> Judged
+// With the model after the picture, the delay.
+fn ready(model: VbvCbrModel, next: VbvCbrModel, extent: Extent, zeros: u64) -> Tested
     requires { ⌜ ExtentFits extent zeros ⌝ }
-    ensures { λ r. ⌜ r ≡ byDelay next extent zeros (delayOf (delayForPicture model (extent .position))) ⌝ }
+    ensures { λ r. ⌜ r ≡ readyBy next extent zeros (delayOf (delayForPicture model (extent .position))) ⌝ }
 {
     match model.delay_for_picture(extent.position) {
-        VbvDelay::Refused(error) => Judged::Refused(CbrError::Model(error)),
-        VbvDelay::Delay(vbv_delay) => Judged::Ready(Placement {
+        VbvDelay::Refused(error) => Tested::Refused(CbrError::Model(error)),
+        VbvDelay::Delay(vbv_delay) => Tested::Ready(Placement {
             model: next,
             vbv_delay,
             bytes: extent.bytes + zeros,
@@ -102,30 +96,30 @@ fn ready(model: VbvCbrModel, next: VbvCbrModel, extent: Extent, zeros: u64) -> J
 }
 
 // 22: the stuffed end.
-fn stuffed(model: VbvCbrModel, extent: Extent, zeros: u64, interval: RemovalInterval) -> Judged
+fn stuffed(model: VbvCbrModel, extent: Extent, zeros: u64, interval: RemovalInterval) -> Tested
     requires { ⌜ ExtentFits extent zeros ⌝ }
     ensures { λ r. ⌜ r ≡ byEnd model extent zeros (removalOf (removePicture model (extent .content + 8 * zeros) interval)) ⌝ }
 {
     match model.remove_picture(extent.content + 8 * zeros, interval) {
-        VbvRemoval::Refused(error) => Judged::Refused(CbrError::Model(error)),
-        VbvRemoval::Violation(_) => Judged::Refused(CbrError::Stuffing),
+        VbvRemoval::Refused(error) => Tested::Refused(CbrError::Model(error)),
+        VbvRemoval::Violation(_) => Tested::Refused(CbrError::Stuffing),
         VbvRemoval::Model(next) => ready(model, next, extent, zeros),
     }
 }
 
 // 7, 9 and the size.
-fn removed(model: VbvCbrModel, extent: Extent, zeros: u64, interval: RemovalInterval) -> Judged
+fn removed(model: VbvCbrModel, extent: Extent, zeros: u64, interval: RemovalInterval) -> Tested
     requires { ⌜ ExtentFits extent zeros ⌝ }
     ensures { λ r. ⌜ r ≡ byMost model extent zeros interval (bitsOf (maxEndBits model)) ⌝ }
 {
     match model.max_end_bits() {
-        VbvBits::Refused(error) => Judged::Refused(CbrError::Model(error)),
+        VbvBits::Refused(error) => Tested::Refused(CbrError::Model(error)),
         VbvBits::Bits(most) => {
             if most < extent.position {
-                return Judged::Refused(CbrError::Model(VbvError::Early));
+                return Tested::Refused(CbrError::Model(VbvError::Early));
             }
             match model.remove_picture(extent.content, interval) {
-                VbvRemoval::Refused(error) => Judged::Refused(CbrError::Model(error)),
+                VbvRemoval::Refused(error) => Tested::Refused(CbrError::Model(error)),
                 VbvRemoval::Violation(violation) => violated(violation),
                 VbvRemoval::Model(_) => stuffed(model, extent, zeros, interval),
             }
@@ -134,20 +128,20 @@ fn removed(model: VbvCbrModel, extent: Extent, zeros: u64, interval: RemovalInte
 }
 
 // 14 of the stuffed end, and what follows.
-fn ended(model: VbvCbrModel, extent: Extent, interval: RemovalInterval, last: bool) -> Judged
-    requires { ⌜ extent .content ≤ 2 ^ 48 ⌝ }
-    requires { ⌜ extent .bytes ≤ 2 ^ 48 ⌝ }
+fn ended(model: VbvCbrModel, extent: Extent, interval: RemovalInterval, last: bool) -> Tested
+    requires { ⌜ extent .content ≤ farthest ⌝ }
+    requires { ⌜ extent .bytes ≤ farthest ⌝ }
     ensures { λ r. ⌜ r ≡ byLeast model extent interval last (bitsOf (minEndBits model interval)) ⌝ }
 {
     match model.min_end_bits(interval) {
-        VbvBits::Refused(error) => Judged::Refused(CbrError::Model(error)),
+        VbvBits::Refused(error) => Tested::Refused(CbrError::Model(error)),
         VbvBits::Bits(least) => {
             let zeros = stuffing(least, extent.content, last);
-            if FAR_BYTES < zeros {
-                return Judged::Refused(CbrError::Model(VbvError::Range));
+            if FARTHEST / 8 < zeros {
+                return Tested::Refused(CbrError::Model(VbvError::Range));
             }
-            if FAR < extent.content + 8 * zeros {
-                return Judged::Refused(CbrError::Model(VbvError::Range));
+            if FARTHEST < extent.content + 8 * zeros {
+                return Tested::Refused(CbrError::Model(VbvError::Range));
             }
             removed(model, extent, zeros, interval)
         }
@@ -160,8 +154,8 @@ fn greater(a: u64, b: u64) -> u64
     if a < b { b } else { a }
 }
 
-fn tail_bytes(last: bool) -> u64
-    ensures { λ r. ⌜ (r ≡ length (tail last)) × (r ≤ 4) ⌝ }
+fn end_code_bytes(last: bool) -> u64
+    ensures { λ r. ⌜ (r ≡ length (endCode last)) × (r ≤ 4) ⌝ }
 {
     if last { 4 } else { 0 }
 }
@@ -173,19 +167,19 @@ pub(crate) fn measured(
     layer: u64,
     interval: RemovalInterval,
     last: bool,
-) -> Judged
+) -> Tested
     requires { ⌜ ModelFits model ⌝ }
-    ensures { λ r. ⌜ r ≡ measuredOf model headers layer interval last ⌝ }
+    ensures { λ r. ⌜ r ≡ measured model headers layer interval last ⌝ }
 {
-    if FAR_BYTES < greater(headers, layer) {
-        return Judged::Refused(CbrError::Model(VbvError::Range));
+    if FARTHEST / 8 < greater(headers, layer) {
+        return Tested::Refused(CbrError::Model(VbvError::Range));
     }
     let previous = model.prev_end_bits;
-    let bytes = headers + layer + tail_bytes(last);
+    let bytes = headers + layer + end_code_bytes(last);
     let position = previous + 8 * (headers + 4);
     let content = previous + 8 * bytes;
-    if FAR < greater(position, content) {
-        return Judged::Refused(CbrError::Model(VbvError::Range));
+    if FARTHEST < greater(position, content) {
+        return Tested::Refused(CbrError::Model(VbvError::Range));
     }
     let extent = Extent {
         position,
@@ -193,7 +187,7 @@ pub(crate) fn measured(
         bytes,
     };
     match started(model, position) {
-        VbvModel::Refused(error) => Judged::Refused(CbrError::Model(error)),
+        VbvModel::Refused(error) => Tested::Refused(CbrError::Model(error)),
         VbvModel::Model(begun) => ended(begun, extent, interval, last),
     }
 }

@@ -1,12 +1,12 @@
 // An offer: its tests in paper 01's order, and its answer.
 ghost use mathlib.Core.Path.{_≡_};
 ghost use Rattle.rate_control.specs.Answers.{offerAnswer};
-ghost use Rattle.rate_control.specs.Offer.{offer as offerOf, left, outAfter};
-ghost use Rattle.rate_control.specs.Steps.{judged as judgedOf};
+ghost use Rattle.rate_control.specs.Offer.{offer, left, outAfter};
+ghost use Rattle.rate_control.specs.Steps.{tested};
 use crate::CbrError;
 use crate::CbrOffered;
 use crate::CbrWriter;
-use crate::Judged;
+use crate::Tested;
 use crate::measure::measured;
 use crate::output::put_placed;
 use crate::state::clashes;
@@ -16,21 +16,21 @@ use vbv::VbvError;
 
 impl CbrWriter {
     // 12 for the state, 17, 18 and 20, then what lengths and model say.
-    fn judged(
+    fn tested(
         self,
         headers: &[u8],
         kind: PictureKind,
         interval: RemovalInterval,
         last: bool,
         layer: &[u8],
-    ) -> Judged
-        ensures { λ r. ⌜ r ≡ judgedOf self (now (headers .entry)) kind interval last (now (layer .entry)) ⌝ }
+    ) -> Tested
+        ensures { λ r. ⌜ r ≡ tested self (now (headers .entry)) kind interval last (now (layer .entry)) ⌝ }
     {
         if self.fits() {
             let model = self.model;
             let pending = self.pending;
             if self.finished | clashes(pending, kind) {
-                return Judged::Refused(CbrError::Kind);
+                return Tested::Refused(CbrError::Kind);
             }
             let params = model.params;
             if layers::headers_fit(headers, params, model.started) {
@@ -39,11 +39,11 @@ impl CbrWriter {
                     let bytes = layer.len() as u64;
                     return measured(model, ahead, bytes, interval, last);
                 }
-                return Judged::Refused(CbrError::Layer);
+                return Tested::Refused(CbrError::Layer);
             }
-            return Judged::Refused(CbrError::Headers);
+            return Tested::Refused(CbrError::Headers);
         }
-        Judged::Refused(CbrError::Model(VbvError::Params))
+        Tested::Refused(CbrError::Model(VbvError::Params))
     }
 
     // Places a picture in the output part, asks for it again with a coarser quantiser, or refuses it.
@@ -56,14 +56,14 @@ impl CbrWriter {
         layer: &[u8],
         out: &mut [u8],
     ) -> CbrOffered
-        ensures { λ r. ⌜ offerAnswer (r .answer) ≡ offerOf self (record { headers = now (headers .entry); kind = kind; interval = interval; last = last; layer = now (layer .entry); out = now (out .entry) }) ⌝ }
+        ensures { λ r. ⌜ offerAnswer (r .answer) ≡ offer self (record { headers = now (headers .entry); kind = kind; interval = interval; last = last; layer = now (layer .entry); out = now (out .entry) }) ⌝ }
         ensures { λ r. ⌜ r .writer ≡ left self (record { headers = now (headers .entry); kind = kind; interval = interval; last = last; layer = now (layer .entry); out = now (out .entry) }) ⌝ }
         ensures { λ r. ⌜ now (out .exit) ≡ outAfter self (record { headers = now (headers .entry); kind = kind; interval = interval; last = last; layer = now (layer .entry); out = now (out .entry) }) ⌝ }
     {
-        match self.judged(headers, kind, interval, last, layer) {
-            Judged::Refused(error) => self.refused(error),
-            Judged::TooLarge => self.too_large(kind),
-            Judged::Ready(placement) => {
+        match self.tested(headers, kind, interval, last, layer) {
+            Tested::Refused(error) => self.refused(error),
+            Tested::TooLarge => self.too_large(kind),
+            Tested::Ready(placement) => {
                 let bytes = placement.bytes;
                 let room = out.len() as u64;
                 if room < bytes {

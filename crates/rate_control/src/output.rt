@@ -6,9 +6,8 @@ ghost use lib.ListN.{length, replicate};
 ghost use lib.Seq.{sets};
 ghost use Rattle.bits.specs.Answers.{over};
 ghost use Rattle.vbv.specs.Patch.{patched};
-ghost use Rattle.rate_control.specs.Offer.{tail};
-
-const SEQUENCE_END_CODE: [u8; 4] = *b"\x00\x00\x01\xB7";
+ghost use Rattle.rate_control.specs.Offer.{endCode};
+use bits::start_codes::SEQUENCE_END;
 
 // Bytes from place `at` on.
 fn put(out: &mut [u8], at: usize, bytes: &[u8])
@@ -38,11 +37,11 @@ fn put_zeros(out: &mut [u8], at: usize, zeros: usize)
 
 // The sequence's end at place `at`, after the last picture.
 fn put_end(out: &mut [u8], at: usize, last: bool)
-    requires { ⌜ at + length (tail last) ≤ length (now out) ⌝ }
-    ensures { λ r. ⌜ now (out .exit) ≡ sets (now (out .entry)) at (tail last) ⌝ }
+    requires { ⌜ at + length (endCode last) ≤ length (now out) ⌝ }
+    ensures { λ r. ⌜ now (out .exit) ≡ sets (now (out .entry)) at (endCode last) ⌝ }
 {
     if last {
-        put(out, at, &SEQUENCE_END_CODE);
+        put(out, at, &SEQUENCE_END);
     }
 }
 
@@ -55,14 +54,14 @@ pub(crate) fn put_placed(
     zeros: usize,
     last: bool,
 )
-    requires { ⌜ length (now headers) + length (now layer) + zeros + length (tail last) ≤ length (now out) ⌝ }
-    ensures { λ r. ⌜ now (out .exit) ≡ over (now (headers .entry) ++ (patched (now (layer .entry)) «vbv_delay» ++ (replicate zeros 0 ++ tail last))) (now (out .entry)) ⌝ }
+    requires { ⌜ length (now headers) + length (now layer) + zeros + length (endCode last) ≤ length (now out) ⌝ }
+    ensures { λ r. ⌜ now (out .exit) ≡ over (now (headers .entry) ++ (patched (now (layer .entry)) «vbv_delay» ++ (replicate zeros 0 ++ endCode last))) (now (out .entry)) ⌝ }
 {
     let picture = headers.len();
-    let behind = picture + layer.len();
+    let after = picture + layer.len();
     put(out, 0, headers);
     put(out, picture, layer);
-    vbv::patch_vbv_delay(&mut out[picture..behind], vbv_delay);
-    put_zeros(out, behind, zeros);
-    put_end(out, behind + zeros, last);
+    vbv::patch_vbv_delay(&mut out[picture..after], vbv_delay);
+    put_zeros(out, after, zeros);
+    put_end(out, after + zeros, last);
 }

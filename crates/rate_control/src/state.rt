@@ -1,31 +1,30 @@
 // The ranges of a writer's state, and what it keeps for each kind of picture.
 ghost use mathlib.Core.Path.{_≡_};
-ghost use Prim.Native.Nat.{_+_, _-_, _^_, _≤_, _<_, min, max};
+ghost use Prim.Native.Nat.{_+_, _-_, _≤_, _<_, min, max};
 ghost use lib.Dec.{leb};
-ghost use Rattle.rate_control.specs.Writer.{quantiser as quantiserOf, every, pendingFits, writerFits, index as indexOf, clashes as clashesOf, asked as askedOf, coarser as coarserOf, steered as steeredOf};
+ghost use Rattle.rate_control.specs.Writer.{quantiserFits, allFit, pendingFits, writerFits, index, clashes, asked, coarser, steered};
+ghost use Rattle.vbv.specs.Model.{farthest};
 use crate::CbrWriter;
 use crate::Pending;
 use layers::PictureKind;
-
-// A target is at most 2^48 bits.
-const FAR: u64 = 281474976710656;
+use vbv::FARTHEST;
 
 fn quantiser(q: u8) -> bool
-    ensures { λ r. ⌜ r ≡ quantiserOf q ⌝ }
+    ensures { λ r. ⌜ r ≡ quantiserFits q ⌝ }
 {
     (1 <= q) & (q <= 31)
 }
 
 fn all_quantisers(q: [u8; 3]) -> bool
-    ensures { λ r. ⌜ r ≡ every quantiserOf q ⌝ }
+    ensures { λ r. ⌜ r ≡ allFit quantiserFits q ⌝ }
 {
     quantiser(q[0]) & (quantiser(q[1]) & quantiser(q[2]))
 }
 
 fn all_targets(target_bits: [u64; 3]) -> bool
-    ensures { λ r. ⌜ r ≡ every (λ t. leb t (2 ^ 48)) «target_bits» ⌝ }
+    ensures { λ r. ⌜ r ≡ allFit (λ t. leb t farthest) «target_bits» ⌝ }
 {
-    (target_bits[0] <= FAR) & ((target_bits[1] <= FAR) & (target_bits[2] <= FAR))
+    (target_bits[0] <= FARTHEST) & ((target_bits[1] <= FARTHEST) & (target_bits[2] <= FARTHEST))
 }
 
 fn pending_fits(pending: Pending) -> bool
@@ -38,7 +37,7 @@ fn pending_fits(pending: Pending) -> bool
 }
 
 pub(crate) fn index(kind: PictureKind) -> usize
-    ensures { λ r. ⌜ (r ≡ indexOf kind) × (r < 3) ⌝ }
+    ensures { λ r. ⌜ (r ≡ index kind) × (r < 3) ⌝ }
 {
     match kind {
         PictureKind::I => 0,
@@ -49,7 +48,7 @@ pub(crate) fn index(kind: PictureKind) -> usize
 
 // Whether the pending picture is of another kind.
 pub(crate) fn clashes(pending: Pending, kind: PictureKind) -> bool
-    ensures { λ r. ⌜ r ≡ clashesOf pending kind ⌝ }
+    ensures { λ r. ⌜ r ≡ clashes pending kind ⌝ }
 {
     match pending {
         Pending::Nothing => false,
@@ -59,7 +58,7 @@ pub(crate) fn clashes(pending: Pending, kind: PictureKind) -> bool
 
 // The quantiser with which a picture that is too large is to be encoded again.
 pub(crate) fn coarser(q: u8) -> u8
-    ensures { λ r. ⌜ r ≡ coarserOf q ⌝ }
+    ensures { λ r. ⌜ r ≡ coarser q ⌝ }
 {
     let wide = q as u16;
     let next = wide + 1 + wide / 4;
@@ -86,9 +85,9 @@ fn at_least_one(target: u64) -> u64
 
 // The kind's next quantiser, from the one just placed and the layer's bits; a target of 0 counts as 1.
 pub(crate) fn steered(q: u8, target: u64, bits: u64) -> u8
-    requires { ⌜ target ≤ 2 ^ 48 ⌝ }
-    requires { ⌜ bits ≤ 2 ^ 48 ⌝ }
-    ensures { λ r. ⌜ r ≡ steeredOf q target bits ⌝ }
+    requires { ⌜ target ≤ farthest ⌝ }
+    requires { ⌜ bits ≤ farthest ⌝ }
+    ensures { λ r. ⌜ r ≡ steered q target bits ⌝ }
 {
     let aim = at_least_one(target);
     if 6 * aim < 5 * bits {
@@ -103,7 +102,7 @@ pub(crate) fn steered(q: u8, target: u64, bits: u64) -> u8
 impl CbrWriter {
     // The quantiser that a layer is asked for with: the pending picture's, or the kind's.
     pub(crate) fn asked(self, kind: PictureKind) -> u8
-        ensures { λ r. ⌜ r ≡ askedOf self kind ⌝ }
+        ensures { λ r. ⌜ r ≡ asked self kind ⌝ }
     {
         let pending = self.pending;
         let q = self.q;

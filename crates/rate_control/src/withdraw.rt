@@ -2,7 +2,7 @@
 ghost use mathlib.Core.Path.{_≡_};
 ghost use Rattle.bits.specs.Refusals.{orElse};
 ghost use Rattle.rate_control.specs.Answers.{withdrawnAnswer};
-ghost use Rattle.rate_control.specs.Offer.{withPending, withdraw as withdrawOf};
+ghost use Rattle.rate_control.specs.Offer.{withPending, withdraw};
 use crate::CbrWithdrawal;
 use crate::CbrWithdrawn;
 use crate::CbrWriter;
@@ -28,8 +28,8 @@ impl CbrWriter {
 
     // Closes a pending picture, if there is one.
     pub fn withdraw(self) -> CbrWithdrawn
-        ensures { λ r. ⌜ withdrawnAnswer r ≡ withdrawOf self ⌝ }
-        ensures { λ r. ⌜ r .writer ≡ orElse self (withdrawOf self) ⌝ }
+        ensures { λ r. ⌜ withdrawnAnswer r ≡ withdraw self ⌝ }
+        ensures { λ r. ⌜ r .writer ≡ orElse self (withdraw self) ⌝ }
     {
         if self.fits() {
             CbrWithdrawn {

@@ -20,7 +20,7 @@ use Rattle.verify.proofs.Recording.{records-placed, count-is}
 use Rattle.verify.proofs.Bounds.{records-small}
 use Rattle.rate_control.proofs.Demand.{owed}
 use Rattle.rate_control.proofs.Refusing.{writer-numbers}
-use Rattle.rate_control.proofs.Figures.{figures, shares, rules, steering}
+use Rattle.rate_control.proofs.Figures.{writer-figures, target-figures, rules, steering}
 use Rattle.hipokuta.proofs.FromC.{from-c}
 use Rattle.hipokuta.proofs.Refusals.{refusals}
 use Rattle.hipokuta.proofs.Numbers.{numbers}
@@ -64,8 +64,8 @@ theorems = record {
   from-c = from-c;
   refusals = refusals;
   entry-numbers = numbers;
-  figures = figures;
-  shares = shares;
+  writer-figures = writer-figures;
+  target-figures = target-figures;
   rules = rules;
   steering = steering;
 }

@@ -12,15 +12,15 @@ use Rattle.verify.specs.Accepted.{AcceptedExactly, NothingCut}
 use Rattle.verify.specs.Due.{CheckDue}
 use Rattle.verify.specs.Numbers.{CheckNumbers}
 use Rattle.verify.specs.Recording.{RecordsYielded, RecordsCounted, RecordsSmall}
-use Rattle.rate_control.specs.Demand.{Owed as Demand3}
+use Rattle.rate_control.specs.Demand.{Demand3}
 use Rattle.rate_control.specs.Numbers.{WriterNumbers}
-use Rattle.rate_control.specs.Figures.{Figures, Shares, Rules, Steering}
+use Rattle.rate_control.specs.Figures.{WriterFigures, TargetFigures, Rules, Steering}
 use Rattle.hipokuta.specs.Calls.{OwedFromC, OwedOfRefusals}
-use Rattle.hipokuta.specs.Numbers.{Numbers as EntryNumbers}
+use Rattle.hipokuta.specs.Numbers.{EntryNumbers}
 
 pub record Theorems : Type 0 where
   -- ---- headers
-  -- A written sequence header parses to the fields given, whatever stands behind it.
+  -- A written sequence header parses to the fields given, whatever stands after it.
   pub sequence-written-reads : WrittenReads
   -- A parsed sequence header with constrained flag 0 writes back to its own bytes.
   pub sequence-read-writes : ReadWrites
@@ -33,7 +33,7 @@ pub record Theorems : Type 0 where
   -- A written group header reads as the values given, and the time code of a display index is never refused by its writer.
   pub group-written-reads : GroupWrittenReads
   pub time-code-writes : TimeCodeWrites
-  -- What is answered to a header stays the same when bytes follow, but where they ended in it (1); and what is too short with more behind it is too short without.
+  -- What is answered to a header stays the same when bytes follow, but where they ended in it (1); and what is too short with more after it is too short without.
   pub sequence-header-stays : HeaderStays
   pub extension-stays : ExtensionStays
   pub picture-header-stays : PictureHeaderStays
@@ -42,7 +42,7 @@ pub record Theorems : Type 0 where
   pub extension-cut : ExtensionCut
   pub picture-header-cut : PictureHeaderCut
   pub coding-cut : CodingCut
-  -- A header with the extension behind it that parses, parses the same when bytes follow.
+  -- A header with the extension after it that parses, parses the same when bytes follow.
   pub sequence-stays : SequenceStays
   pub picture-stays : PictureStays
   -- Headers are refused with 1 and 2, writing with 16 and 19.
@@ -50,7 +50,7 @@ pub record Theorems : Type 0 where
   pub picture-numbers : PictureNumbers
   -- ---- the model
   -- What is counted in parts of a bit is what Annex C has in fractions: bits delivered, what a period brings, overflow and underflow; the occupancy is rounded down, the
-  -- expected delay to the nearest tick, halves up; the least end is the least that does not overflow, the greatest the last that is all there.
+  -- expected delay to the nearest tick, halves up; the least end is the least that does not overflow, the greatest the last that is already delivered.
   pub in-fractions : InFractions
   -- The model refuses with 12, 13, 14, 7 and 8 by number alone, and with 9 and 10 by number and picture; a rate code with 6, the patch with 20.
   pub model-numbers : ModelNumbers
@@ -59,7 +59,7 @@ pub record Theorems : Type 0 where
   -- ---- the pictures of a stream
   -- A walk from picture to picture finds the pictures of the stream, in order, and no others.
   pub walk-gives-pictures : WalkGivesPictures
-  -- They lie one behind another, within the stream.
+  -- They lie one after another, within the stream.
   pub pictures-in-order : PicturesInOrder
   -- ---- the check
   -- A stream is accepted, with these records, exactly when it passes the tests before the run and at every removal the start code has come, the coded delay is within one tick of the
@@ -90,9 +90,9 @@ pub record Theorems : Type 0 where
   pub entry-numbers : EntryNumbers
   -- ---- figures
   -- The figures of paper 01 that are marked P.
-  pub figures : Figures
+  pub writer-figures : WriterFigures
   -- The target of each kind, and targets where a picture's bits are no whole number.
-  pub shares : Shares
+  pub target-figures : TargetFigures
   -- The first delay for every rate and buffer; further steps of a retry.
   pub rules : Rules
   -- The edges of the rule by which a quantiser goes up, stays or goes down.

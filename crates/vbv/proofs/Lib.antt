@@ -13,3 +13,4 @@ pub mod Told
 pub mod Named
 pub mod After
 pub mod Cases
+pub mod Units

@@ -1,4 +1,4 @@
--- Text put behind text.
+-- Text put after text.
 -- Assumes nothing.
 use mathlib.Core.Path.{_≡_, refl, _∙_}
 use Prim.Native.Nat.{ℕ, zero, suc, _+_, _-_, _/_, _%_, _^_, _≤_, _<_}
@@ -22,13 +22,13 @@ put-byte out text p at k h l e =
     rw (add-one k, add-suc at k, take-suc-set out (at + k) (getD text k 0) h, take-suc text k 0 l, e)
     (append-assoc p (take k text) (getD text k 0 ∷ []))
 
--- a byte behind a text
+-- a byte after a text
 pub put-end : (out p q : List ℕ) (at b : ℕ) → at < length out → take at out ≡ p ++ q → take (at + 1) (set out at b) ≡ p ++ (q ++ (b ∷ []))
 put-end out p q at b h e = rw (add-one at, take-suc-set out at b h, e) (append-assoc p q (b ∷ []))
 
--- three texts, one behind another
-pub behind : (x y z : List ℕ) {a b c : List ℕ} → c ≡ x → b ≡ c ++ y → a ≡ b ++ z → a ≡ x ++ (y ++ z)
-behind x y z p q r = r ∙ rw (q, p) (append-assoc x y z)
+-- three texts, one after another
+pub three-texts : (x y z : List ℕ) {a b c : List ℕ} → c ≡ x → b ≡ c ++ y → a ≡ b ++ z → a ≡ x ++ (y ++ z)
+three-texts x y z p q r = r ∙ rw (q, p) (append-assoc x y z)
 
 -- ---- a number's digits
 
@@ -65,7 +65,7 @@ digits-most n k h w = go (leb k 20) refl
 
 -- ---- a line
 
--- a number of a line, and what is behind it
+-- a number of a line, and what comes after it
 pub line-step : (ns p : List ℕ) (k : ℕ) {q : List ℕ} → k < length ns → q ≡ p ++ (decimal 20 (getD ns k 0) ++ (ending (drop (k + 1) ns) ∷ []))
     → q ++ line (drop (k + 1) ns) ≡ p ++ line (drop k ns)
 unfolding line

@@ -24,7 +24,7 @@ unfoldable pub decimal : ℕ → ℕ → List ℕ
 decimal zero n = []
 decimal (suc k) n = pick (ltb n 10) ((48 + n) ∷ []) (decimal k (n / 10) ++ ((48 + n % 10) ∷ []))
 
--- numbers, a space between them and a line end behind; 20 digits hold 64 bits
+-- numbers, a space between them and a line end after them; 20 digits hold 64 bits
 abbrev pub ending : List ℕ → ℕ
 ending [] = code "\n"
 ending (n ∷ ns) = code " "

@@ -1,4 +1,4 @@
-// What is printed. Each function puts its text at `at` of a part and answers the place behind it.
+// What is printed. Each function puts its text at `at` of a part and answers the place after it.
 ghost use mathlib.Core.Path.{_≡_};
 ghost use Prim.Native.Nat.{_+_, _*_, _≤_};
 ghost use mathlib.Core.List.{[], _∷_, _++_};
@@ -6,7 +6,7 @@ ghost use lib.ListN.{length, take, drop};
 ghost use Rattle.io.specs.Counts.{Counts};
 ghost use Rattle.vbvcheck.specs.Text.{ascii, decimal, line, reportText, refusalText, printed};
 ghost use Rattle.vbvcheck.specs.Steps.{lineOf, linesOf};
-use verify::VbvRefusal;
+use bits::VbvRefusal;
 use verify::VbvStandard;
 use verify::VbvStreamReport;
 use verify::VbvVerified;
@@ -39,7 +39,7 @@ fn put_number(out: &mut [u8], at: usize, n: u64, end: u8) -> usize
     next + 1
 }
 
-// Numbers, a space between them and a line end behind.
+// Numbers, a space between them and a line end after them.
 fn put_line(out: &mut [u8], at: usize, numbers: &[u64]) -> usize
     requires { ⌜ at + 21 * length (now numbers) ≤ length (now out) ⌝ }
     ensures { λ r. ⌜ r ≤ at + 21 * length (now (numbers .entry)) ⌝ }

@@ -1,4 +1,4 @@
-use Rattle.hipokuta.proofs.Patching.{done, none}
+use Rattle.hipokuta.proofs.Patching.{patched-number, unpatched-number}
 use borrow.Author.Needs.{needs}
 use Rattle.hipokuta.proofs.patch.vbv_patch_delay.Statement.{statement}
 use Rattle.hipokuta.proofs.patch.vbv_patch_delay.Tie as tie
@@ -18,7 +18,7 @@ same-length c = search needs
 returns : tie.Need-returns
 returns c =
     let p = c .before .before .before .before in
-    (done (p .patch-vbv-delay .ensures .0) (c .enum-told .given .1), p .patch-vbv-delay .ensures .1)
+    (patched-number (p .patch-vbv-delay .ensures .0) (c .enum-told .given .1), p .patch-vbv-delay .ensures .1)
 
 same-length-2 : tie.Need-same-length-2
 same-length-2 c = search needs
@@ -26,7 +26,7 @@ same-length-2 c = search needs
 returns-2 : tie.Need-returns-2
 returns-2 c =
     let p = c .before .before .before .before in
-    (none (p .patch-vbv-delay .ensures .0) (c .enum-told2 .given .1), p .patch-vbv-delay .ensures .1)
+    (unpatched-number (p .patch-vbv-delay .ensures .0) (c .enum-told2 .given .1), p .patch-vbv-delay .ensures .1)
 
 pub vbv-patch-delay-spec : {M : Type 1} → statement M
 vbv-patch-delay-spec =

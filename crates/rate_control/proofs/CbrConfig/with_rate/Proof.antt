@@ -1,22 +1,13 @@
-use native.Mathlib.Omega.{arith}
-use mathlib.Core.Path.{sym, ap, _∙_}
-use Rattle.vbv.specs.Answers.{modelAnswer}
-use Rattle.rate_control.proofs.Creation.{shared-out, way-made, way-unmade}
+use Rattle.rate_control.proofs.Creation.{targets-fit, way-made, way-unmade}
 use borrow.Author.Needs.{needs}
 use Rattle.rate_control.proofs.CbrConfig.with_rate.Statement.{statement}
 use Rattle.rate_control.proofs.CbrConfig.with_rate.Tie as tie
 
-cast-rate : tie.Need-cast-rate
-cast-rate c = search needs
+cast-buffer : tie.Need-cast-buffer
+cast-buffer c = search needs
 
-cast-size : tie.Need-cast-size
-cast-size c = search needs
-
-mul-t9 : tie.Need-mul-t9
-mul-t9 c = search needs
-
-mul-t10 : tie.Need-mul-t10
-mul-t10 c = search needs
+params-of-requires : tie.Need-params-of-requires
+params-of-requires c κs = search needs
 
 new-requires : tie.Need-new-requires
 new-requires c κs = search needs
@@ -25,7 +16,7 @@ enum-known-model : tie.Need-enum-known-model
 enum-known-model c = search needs
 
 fresh-requires : tie.Need-fresh-requires
-fresh-requires c κs = shared-out _ _ _ _ (sym (c .before .before .before .new .ensures) ∙ ap modelAnswer (c .before .model .given .1)) (omega arith) (omega arith) (omega arith)
+fresh-requires c κs = search (needs, targets-fit)
 
 enum-known-error : tie.Need-enum-known-error
 enum-known-error c = search needs
@@ -43,10 +34,8 @@ pub with-rate-spec : {M : Type 1} → statement M
 with-rate-spec =
     tie.close
     (tie.spec
-    cast-rate
-    cast-size
-    mul-t9
-    mul-t10
+    cast-buffer
+    params-of-requires
     new-requires
     enum-known-model
     fresh-requires

@@ -1,5 +1,5 @@
 use Rattle.vbv.proofs.Fitting.{told-by}
-use Rattle.rate_control.proofs.Creation.{config-fits, way-12, left-12, way-6, left-6, way-rate, left-rate}
+use Rattle.rate_control.proofs.Creation.{config-ranges, way-12, left-12, way-6, left-6, way-rate, left-rate}
 use borrow.Author.Needs.{needs}
 use Rattle.rate_control.proofs.CbrWriter.create.Statement.{statement}
 use Rattle.rate_control.proofs.CbrWriter.create.Tie as tie
@@ -14,7 +14,7 @@ enum-known-frn : tie.Need-enum-known-frn
 enum-known-frn c = search needs
 
 with-rate-requires : tie.Need-with-rate-requires
-with-rate-requires c κs = config-fits _ (search told-by)
+with-rate-requires c κs = config-ranges _ (search told-by)
 
 enum-known-error : tie.Need-enum-known-error
 enum-known-error c = search needs

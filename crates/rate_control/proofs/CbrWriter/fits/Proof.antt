@@ -1,4 +1,4 @@
-use Rattle.rate_control.proofs.States.{writer-fits}
+use Rattle.rate_control.proofs.States.{writer-tested}
 use borrow.Author.Needs.{needs}
 use Rattle.rate_control.proofs.CbrWriter.fits.Statement.{statement}
 use Rattle.rate_control.proofs.CbrWriter.fits.Tie as tie
@@ -16,7 +16,7 @@ pending-fits-requires : tie.Need-pending-fits-requires
 pending-fits-requires c κs = search needs
 
 returns : tie.Need-returns
-returns c = search (needs, writer-fits)
+returns c = search (needs, writer-tested)
 
 pub fits-spec : {M : Type 1} → statement M
 fits-spec =

@@ -4,8 +4,8 @@ use borrow.Author.Needs.{needs}
 use Rattle.rate_control.proofs.CbrWriter.offer.Statement.{statement}
 use Rattle.rate_control.proofs.CbrWriter.offer.Tie as tie
 
-judged-requires : tie.Need-judged-requires
-judged-requires c κs = search needs
+tested-requires : tie.Need-tested-requires
+tested-requires c κs = search needs
 
 enum-known-error : tie.Need-enum-known-error
 enum-known-error c = search needs
@@ -28,12 +28,12 @@ refused-requires-2 c κs = search needs
 returns : tie.Need-returns
 returns c =
     let p = c .before .before .before in
-    offer-short _ _ _ (p .before .before .judged .ensures) _ _ (p .placement .given .1) (omega arith) (c .refused2 .ensures)
+    offer-short _ _ _ (p .before .before .tested .ensures) _ _ (p .placement .given .1) (omega arith) (c .refused2 .ensures)
 
 put-placed-requires : tie.Need-put-placed-requires
 put-placed-requires c κs =
     let p = c .before .before .before in
-    omega (arith, bytes-are _ _ _ _ _ _ _ (p .before .before .judged .ensures) _ (p .placement .given .1))
+    omega (arith, bytes-are _ _ _ _ _ _ _ (p .before .before .tested .ensures) _ (p .placement .given .1))
 
 placed-requires : tie.Need-placed-requires
 placed-requires c κs = search (needs, placeable)
@@ -41,10 +41,10 @@ placed-requires c κs = search (needs, placeable)
 returns-2 : tie.Need-returns-2
 returns-2 c =
     let p = c .before .before in
-    offer-refused _ _ _ (p .before .before .judged .ensures) _ _ (p .error .given .1) (c .refused .ensures)
+    offer-refused _ _ _ (p .before .before .tested .ensures) _ _ (p .error .given .1) (c .refused .ensures)
 
 returns-3 : tie.Need-returns-3
-returns-3 c = offer-large _ _ _ (c .before .before .before .judged .ensures) _ (c .before .enum-told .given .1) (c .too-large .ensures)
+returns-3 c = offer-large _ _ _ (c .before .before .before .tested .ensures) _ (c .before .enum-told .given .1) (c .too-large .ensures)
 
 same-length : tie.Need-same-length
 same-length c = search needs
@@ -53,13 +53,13 @@ returns-4 : tie.Need-returns-4
 returns-4 c =
     let o = c .before .before .before in
     let p = o .before .before .before .before in
-    offer-placed _ _ _ (p .before .before .judged .ensures) _ _ (p .placement .given .1) _ (omega arith) (c .placed .ensures) (o .put-placed .ensures)
+    offer-placed _ _ _ (p .before .before .tested .ensures) _ _ (p .placement .given .1) _ (omega arith) (c .placed .ensures) (o .put-placed .ensures)
 
 pub offer-spec : {M : Type 1} → statement M
 offer-spec =
     tie.close
     (tie.spec
-    judged-requires
+    tested-requires
     enum-known-error
     refused-requires
     enum-told

@@ -1,4 +1,4 @@
-use Rattle.rate_control.proofs.Ways.{least-no, far-zeros, far-end, near-end}
+use Rattle.rate_control.proofs.Ways.{least-no, far-stuffing, far-end, near-end}
 use borrow.Author.Needs.{needs}
 use Rattle.rate_control.proofs.measure.ended.Statement.{statement}
 use Rattle.rate_control.proofs.measure.ended.Tie as tie
@@ -16,7 +16,7 @@ stuffing-requires : tie.Need-stuffing-requires
 stuffing-requires c κs = search needs
 
 returns : tie.Need-returns
-returns c = search (needs, far-zeros)
+returns c = search (needs, far-stuffing)
 
 mul-if2 : tie.Need-mul-if2
 mul-if2 c = search needs

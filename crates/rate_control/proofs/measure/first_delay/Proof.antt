@@ -17,6 +17,7 @@ div-delay : tie.Need-div-delay
 div-delay c = search needs
 
 cast-result : tie.Need-cast-result
+unfolding firstDelay
 cast-result c = search (needs, first-low)
 
 returns : tie.Need-returns

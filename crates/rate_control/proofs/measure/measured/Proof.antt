@@ -12,8 +12,8 @@ returns c = search (needs, far-bytes)
 add-bytes : tie.Need-add-bytes
 add-bytes c = search needs
 
-tail-bytes-requires : tie.Need-tail-bytes-requires
-tail-bytes-requires c κs = search needs
+end-code-bytes-requires : tie.Need-end-code-bytes-requires
+end-code-bytes-requires c κs = search needs
 
 add-bytes-2 : tie.Need-add-bytes-2
 add-bytes-2 c = search needs
@@ -64,7 +64,7 @@ measured-spec =
     greater-requires
     returns
     add-bytes
-    tail-bytes-requires
+    end-code-bytes-requires
     add-bytes-2
     add-position
     mul-position

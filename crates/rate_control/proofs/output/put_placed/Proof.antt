@@ -3,8 +3,8 @@ use borrow.Author.Needs.{needs}
 use Rattle.rate_control.proofs.output.put_placed.Statement.{statement}
 use Rattle.rate_control.proofs.output.put_placed.Tie as tie
 
-add-behind : tie.Need-add-behind
-add-behind c = search needs
+add-after : tie.Need-add-after
+add-after c = search needs
 
 put-requires : tie.Need-put-requires
 put-requires c κs = search needs
@@ -51,7 +51,7 @@ pub put-placed-spec : {M : Type 1} → statement M
 put-placed-spec =
     tie.close
     (tie.spec
-    add-behind
+    add-after
     put-requires
     put-requires-2
     sub-patch-vbv-delay

@@ -1,4 +1,4 @@
-use Rattle.rate_control.proofs.States.{every-three}
+use Rattle.rate_control.proofs.States.{all-fit-three}
 use borrow.Author.Needs.{needs}
 use Rattle.rate_control.proofs.state.all_targets.Statement.{statement}
 use Rattle.rate_control.proofs.state.all_targets.Tie as tie
@@ -13,7 +13,7 @@ array-read-result-3 : tie.Need-array-read-result-3
 array-read-result-3 c = search needs
 
 returns : tie.Need-returns
-returns c = every-three _ _ (search needs)
+returns c = all-fit-three _ _ (search needs)
 
 pub all-targets-spec : {M : Type 1} → statement M
 all-targets-spec =

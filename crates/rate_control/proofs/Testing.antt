@@ -2,7 +2,7 @@
 -- Assumes nothing.
 use mathlib.Core.Path.{_≡_, refl, sym, ap, _∙_}
 use mathlib.Core.Bool.{Bool, true, false, _||_}
-use Prim.Native.Nat.{ℕ, _+_, _*_, _^_, _≤_, _<_, max}
+use Prim.Native.Nat.{ℕ, _+_, _*_, _≤_, _<_, max, _/_}
 use native.Mathlib.Omega.{arith}
 use lib.Dec.{ltb}
 use lib.ListN.{length}
@@ -11,7 +11,7 @@ use Rattle.bits.proofs.Flags.{pick-elim}
 use Rattle.bits.specs.Bits.{pick}
 use Rattle.vbv.specs.Annex.{firstDelivered, overflows, beyond, expectedDelay, greatestEnd, leastEnd}
 use Rattle.vbv.specs.Steps.{EndFits, delayOf, bitsOf, removalOf}
-use Rattle.vbv.specs.Model.{paramsFit, delivered, modelFits, atDelivered, afterRemoval, nextDelivered, delayForPicture, removePicture, maxEndBits, minEndBits}
+use Rattle.vbv.specs.Model.{farthest, paramsFit, delivered, modelFits, atDelivered, afterRemoval, nextDelivered, delayForPicture, removePicture, maxEndBits, minEndBits}
 use Rattle.vbv.specs.declared.RemovalInterval.{RemovalInterval}
 use Rattle.vbv.specs.declared.VbvParams.{VbvParams}
 use Rattle.vbv.specs.declared.VbvCbrModel.{VbvCbrModel}
@@ -19,58 +19,47 @@ use Rattle.vbv.specs.declared.VbvError.the-variants.{Early, Range}
 use Rattle.vbv.specs.declared.VbvViolation.{VbvViolation}
 use Rattle.vbv.specs.declared.VbvViolation.the-variants.{Overflow, Underflow}
 use Rattle.vbv.specs.declared.VbvModel.the-variants as md
+use Rattle.vbv.specs.declared.VbvRemoval.{VbvRemoval}
 use Rattle.vbv.specs.declared.VbvRemoval.the-variants as rm
 use Rattle.vbv.specs.declared.VbvDelay.the-variants as dl
 use Rattle.vbv.specs.declared.VbvBits.the-variants as bt
+use Rattle.vbv.proofs.Picks.{yes, no}
 use Rattle.vbv.proofs.Fitting.{params-fit, model-fits}
 use Rattle.vbv.proofs.Laws.{beyond-is, delay-most, fits-params, started, starts}
 use Rattle.vbv.proofs.Told.{next-told}
 use Rattle.vbv.proofs.Named.{starts-named, removal-named, delays-named, max-named, min-named}
 use Rattle.vbv.proofs.After.{after-same}
 use Rattle.rate_control.specs.Writer.{writerFits}
-use Rattle.rate_control.specs.Offer.{Offer, position, content, end, firstDelay, deliveredAt, deliveredNext, stuffing, delay, tail, placedBytes}
-use Rattle.rate_control.specs.Steps.{startedAt, zeros, byDelay, byEnd, violated, bySize, byMost, withZeros, byLeast, byStart, extentOf, within14, measured}
+use Rattle.rate_control.specs.Offer.{Offer, position, content, end, firstDelay, deliveredAt, deliveredNext, stuffing, delay, endCode, placedBytes}
+use Rattle.rate_control.specs.Steps.{startedAt, stuffingUpTo, readyBy, byEnd, violated, bySize, byMost, withStuffing, byLeast, byStart, extentOf, within14, measured}
 use Rattle.rate_control.specs.declared.CbrWriter.{CbrWriter}
 use Rattle.rate_control.specs.declared.CbrError.the-variants.{Model, Violation, Stuffing}
 use Rattle.rate_control.specs.declared.Extent.{Extent}
 use Rattle.rate_control.specs.declared.Placement.{Placement}
-use Rattle.rate_control.specs.declared.Judged.{Judged}
-use Rattle.rate_control.specs.declared.Judged.the-variants.{Refused, TooLarge, Ready}
+use Rattle.rate_control.specs.declared.Tested.{Tested}
+use Rattle.rate_control.specs.declared.Tested.the-variants.{Refused, TooLarge, Ready}
 use Rattle.rate_control.proofs.Fitting.{writer-fits}
 use Rattle.rate_control.proofs.Placing.{delivered-later, delivered-first, placed-size}
 use Rattle.rate_control.proofs.Ways.{first-low}
 
 -- ---- chains
 
--- a function of a choice
-pub through : {A B : Type 0} (f : A → B) (t : Bool) (a b : A) (c d : B) → f a ≡ c → (t ≡ false → f b ≡ d) → f (pick t a b) ≡ pick t c d
+-- two choices by one test: what holds between their first sides and, where the test fails, between their second ones
+pub alike : {A B : Type 0} (R : A → B → Type 0) (t : Bool) {a b : A} {c d : B} → R a c → (t ≡ false → R b d) → R (pick t a b) (pick t c d)
 unfolding pick
-through f true a b c d e h = e
-through f false a b c d e h = h refl
-
-pick-no : {A : Type 0} (t : Bool) (x : A) {y z : A} → (t ≡ false → y ≡ z) → pick t x y ≡ pick t x z
-unfolding pick
-pick-no true x h = refl
-pick-no false x h = h refl
-
-one : {A : Type 0} (t : Bool) (x y : A) → t ≡ true → pick t x y ≡ x
-unfolding pick
-one t x y h = rw h
-
-other : {A : Type 0} (t : Bool) (x y : A) → t ≡ false → pick t x y ≡ y
-unfolding pick
-other t x y h = rw h
+alike R true e h = e
+alike R false e h = h refl
 
 -- one of two numbers passes 2^48
-either : (a b : ℕ) → 281474976710656 < max a b → (ltb (2 ^ 48) a || ltb (2 ^ 48) b) ≡ true
-either a b h = go (ltb (2 ^ 48) a) refl
+either : (a b : ℕ) → farthest < max a b → (ltb farthest a || ltb farthest b) ≡ true
+either a b h = go (ltb farthest a) refl
   where
-    go : (t : Bool) → ltb (2 ^ 48) a ≡ t → (ltb (2 ^ 48) a || ltb (2 ^ 48) b) ≡ true
+    go : (t : Bool) → ltb farthest a ≡ t → (ltb farthest a || ltb farthest b) ≡ true
     go true e = rw e
-    go false e = let l = ltb-false (2 ^ 48) a e in rw (e, lt-ltb (2 ^ 48) b (omega arith))
+    go false e = let l = ltb-false farthest a e in rw (e, lt-ltb farthest b (omega arith))
 
-neither : (a b : ℕ) → a ≤ 281474976710656 → b ≤ 281474976710656 → (ltb (2 ^ 48) a || ltb (2 ^ 48) b) ≡ false
-neither a b h g = rw (le-ltb (2 ^ 48) a h, le-ltb (2 ^ 48) b g)
+neither : (a b : ℕ) → a ≤ farthest → b ≤ farthest → (ltb farthest a || ltb farthest b) ≡ false
+neither a b h g = rw (le-ltb farthest a h, le-ltb farthest b g)
 
 -- ---- the answer of the tests, in the offer's own quantities
 
@@ -82,9 +71,9 @@ placement w o = record {
   «stuffing_bytes» = stuffing w o;
 }
 
-unfoldable pub measuredFor : CbrWriter → Offer → Judged
+unfoldable pub measuredFor : CbrWriter → Offer → Tested
 measuredFor w o =
-    pick (ltb (2 ^ 48) (position w o) || ltb (2 ^ 48) (end w o)) (Refused (Model Range))
+    pick (ltb farthest (position w o) || ltb farthest (end w o)) (Refused (Model Range))
     (pick (beyond (w .model .params) (position w o) (deliveredAt w o)) (Refused (Model Early))
     (pick (overflows (w .model .params) (w .model .«prev_end_bits») (deliveredAt w o)) (Refused (Violation (Overflow (w .model .removed) 0 0)))
     (pick (beyond (w .model .params) (content w o) (deliveredAt w o)) TooLarge
@@ -93,7 +82,7 @@ measuredFor w o =
 
 -- ---- the model that the pending picture is removed from
 
-pub record Begun (w : CbrWriter) (o : Offer) (n : VbvCbrModel) : Type 0 where
+pub record StartedFor (w : CbrWriter) (o : Offer) (n : VbvCbrModel) : Type 0 where
   pub fits : modelFits n ≡ true
   pub is-started : n .started ≡ true
   pub same-params : n .params ≡ w .model .params
@@ -101,27 +90,23 @@ pub record Begun (w : CbrWriter) (o : Offer) (n : VbvCbrModel) : Type 0 where
   pub same-count : n .removed ≡ w .model .removed
   pub delivered-is : delivered n ≡ deliveredAt w o
 
-pub record BegunAt (w : CbrWriter) (o : Offer) : Type 0 where
+pub record StartedModel (w : CbrWriter) (o : Offer) : Type 0 where
   pub model : VbvCbrModel
   pub started-is : startedAt (w .model) (position w o) ≡ md.Model model
-  pub begun : Begun w o model
+  pub begun : StartedFor w o model
 
-first-small : (p : VbvParams) → paramsFit p ≡ true → firstDelay p < 65536
-unfolding firstDelay
-first-small p f = first-low p (params-fit f)
-
-begin : (w : CbrWriter) (o : Offer) → writerFits w ≡ true → position w o ≤ 2 ^ 48 → BegunAt w o
+start-model : (w : CbrWriter) (o : Offer) → writerFits w ≡ true → position w o ≤ farthest → StartedModel w o
 unfolding startedAt
-begin w o f h = go (w .model .started) refl
+start-model w o f h = go (w .model .started) refl
   where
     fitted : modelFits (w .model) ≡ true
     fitted = writer-fits f .model-fits
 
-    go : (t : Bool) → w .model .started ≡ t → BegunAt w o
+    go : (t : Bool) → w .model .started ≡ t → StartedModel w o
     go true e =
         record {
           model = w .model;
-          started-is = one _ _ _ e;
+          started-is = sym (yes _ _ _ e refl);
           begun = record { fits = fitted; is-started = e; same-params = refl; same-end = refl; same-count = refl; delivered-is = sym (delivered-later w o e) };
         }
     go false e =
@@ -130,10 +115,10 @@ begin w o f h = go (w .model .started) refl
         let r = started (w .model) d (position w o) _ s in
         record {
           model = atDelivered (w .model) (firstDelivered (w .model .params) (position w o) d);
-          started-is = other _ _ _ e ∙ starts-named (w .model) d (position w o) fitted e h;
+          started-is = sym (no _ _ _ e refl) ∙ starts-named (w .model) d (position w o) fitted e h;
           begun =
               record {
-                fits = r .fits (first-small (w .model .params) (fits-params (w .model) fitted));
+                fits = r .fits (first-low (w .model .params) (params-fit (fits-params (w .model) fitted)));
                 is-started = r .is-started;
                 same-params = r .params-kept;
                 same-end = r .end-kept;
@@ -146,7 +131,7 @@ begin w o f h = go (w .model .started) refl
 
 -- the picture in the stream
 abbrev pub extent : CbrWriter → Offer → Extent
-extent w o = record { position = position w o; content = content w o; bytes = length (o .headers) + length (o .layer) + length (tail (o .last)) }
+extent w o = record { position = position w o; content = content w o; bytes = length (o .headers) + length (o .layer) + length (endCode (o .last)) }
 
 extent-is : (w : CbrWriter) (o : Offer) → extentOf (w .model) (length (o .headers)) (length (o .layer)) (o .last) ≡ extent w o
 unfolding extentOf position content
@@ -159,15 +144,15 @@ end-same w o = refl
 -- the cases of each test
 module _ (m : VbvCbrModel) (x : Extent) (z : ℕ) (i : RemovalInterval) where
   delay-case : (next : VbvCbrModel) (d : ℕ)
-      → byDelay next x z (dl.Delay d) ≡ Ready (record { model = next; «vbv_delay» = d; bytes = x .bytes + z; «stuffing_bytes» = z })
-  unfolding byDelay
+      → readyBy next x z (dl.Delay d) ≡ Ready (record { model = next; «vbv_delay» = d; bytes = x .bytes + z; «stuffing_bytes» = z })
+  unfolding readyBy
   delay-case next d = refl
 
   end-violated : (v : VbvViolation) → byEnd m x z (rm.Violation v) ≡ Refused Stuffing
   unfolding byEnd
   end-violated v = refl
 
-  end-model : (next : VbvCbrModel) → byEnd m x z (rm.Model next) ≡ byDelay next x z (delayOf (delayForPicture m (x .position)))
+  end-model : (next : VbvCbrModel) → byEnd m x z (rm.Model next) ≡ readyBy next x z (delayOf (delayForPicture m (x .position)))
   unfolding byEnd
   end-model next = refl
 
@@ -187,7 +172,7 @@ module _ (m : VbvCbrModel) (x : Extent) (z : ℕ) (i : RemovalInterval) where
   unfolding byMost
   most-case most = refl
 
-module _ (w : CbrWriter) (o : Offer) (f : writerFits w ≡ true) (n : VbvCbrModel) (b : Begun w o n) where
+module _ (w : CbrWriter) (o : Offer) (f : writerFits w ≡ true) (n : VbvCbrModel) (b : StartedFor w o n) where
   abbrev p : VbvParams
   p = w .model .params
 
@@ -207,13 +192,13 @@ module _ (w : CbrWriter) (o : Offer) (f : writerFits w ≡ true) (n : VbvCbrMode
   most-told : bitsOf (maxEndBits n) ≡ bt.Bits (greatestEnd p (deliveredAt w o))
   most-told = max-named n (b .fits) (b .is-started) ∙ rw (b .delivered-is, b .same-params)
 
-  ends : (e : ℕ) → w .model .«prev_end_bits» ≤ e → e ≤ 2 ^ 48 → EndFits n e
+  ends : (e : ℕ) → w .model .«prev_end_bits» ≤ e → e ≤ farthest → EndFits n e
   ends e l h =
       let v = writer-fits f in
       let g = model-fits (v .model-fits) in
       record { end-far = h; end-low = omega (arith, b .same-end); count = omega (arith, b .same-count, v .few, g .end-high) }
 
-  removal : (e : ℕ) → w .model .«prev_end_bits» ≤ e → e ≤ 2 ^ 48
+  removal : (e : ℕ) → w .model .«prev_end_bits» ≤ e → e ≤ farthest
       → removalOf (removePicture n e (o .interval))
       ≡ pick (overflows p (w .model .«prev_end_bits») (deliveredAt w o)) (rm.Violation (Overflow (w .model .removed) 0 0))
       (pick (beyond p e (deliveredAt w o)) (rm.Violation (Underflow (w .model .removed) 0 0))
@@ -233,10 +218,10 @@ module _ (w : CbrWriter) (o : Offer) (f : writerFits w ≡ true) (n : VbvCbrMode
   unfolding content
   inside = omega arith
 
-  -- in time and no overflow: the delay can be measuredFor
-  ready-told : position w o ≤ 2 ^ 48 → beyond p (position w o) (deliveredAt w o) ≡ false
+  -- in time and no overflow: the delay can be told
+  ready-told : position w o ≤ farthest → beyond p (position w o) (deliveredAt w o) ≡ false
       → overflows p (w .model .«prev_end_bits») (deliveredAt w o) ≡ false
-      → byDelay (afterRemoval (w .model) (end w o) (deliveredNext w o)) x (stuffing w o) (delayOf (delayForPicture n (position w o))) ≡ Ready (placement w o)
+      → readyBy (afterRemoval (w .model) (end w o) (deliveredNext w o)) x (stuffing w o) (delayOf (delayForPicture n (position w o))) ≡ Ready (placement w o)
   unfolding placement delay
   ready-told h t g =
       let e : beyond (n .params) (position w o) (delivered n) ≡ false = rw (b .delivered-is, b .same-params) t in
@@ -245,14 +230,14 @@ module _ (w : CbrWriter) (o : Offer) (f : writerFits w ≡ true) (n : VbvCbrMode
       rw (delays-named n (position w o) (b .fits) (b .is-started) h e k, b .delivered-is, b .same-params)
       (delay-case n x (stuffing w o) (o .interval) _ _ ∙ rw sizes)
 
-  module _ (near : position w o ≤ 2 ^ 48) (far : end w o ≤ 2 ^ 48) where
+  module _ (near : position w o ≤ farthest) (far : end w o ≤ farthest) where
     end-told : beyond p (position w o) (deliveredAt w o) ≡ false → overflows p (w .model .«prev_end_bits») (deliveredAt w o) ≡ false
         → byEnd n x (stuffing w o) (removalOf (removePicture n (end w o) (o .interval)))
         ≡ pick (beyond p (end w o) (deliveredAt w o)) (Refused Stuffing) (Ready (placement w o))
     end-told t g =
         let i = o .interval in
-        ap (byEnd n x (stuffing w o)) (removal (end w o) (omega (arith, inside, end-same w o)) far ∙ other _ _ _ g)
-        ∙ through (byEnd n x (stuffing w o)) _ _ _ _ _ (end-violated n x (stuffing w o) i _)
+        ap (byEnd n x (stuffing w o)) (removal (end w o) (omega (arith, inside, end-same w o)) far ∙ sym (no _ _ _ g refl))
+        ∙ alike (λ (r : VbvRemoval) (j : Tested). byEnd n x (stuffing w o) r ≡ j) _ (end-violated n x (stuffing w o) i _)
         (λ h22. end-model n x (stuffing w o) i _ ∙ ready-told near t g)
 
     size-told : beyond p (position w o) (deliveredAt w o) ≡ false
@@ -264,8 +249,8 @@ module _ (w : CbrWriter) (o : Offer) (f : writerFits w ≡ true) (n : VbvCbrMode
         let i = o .interval in
         let z = stuffing w o in
         ap (bySize n x z i) (removal (content w o) inside (omega (arith, end-same w o)))
-        ∙ through (bySize n x z i) _ _ _ _ _ (size-over n x z i _ _ _)
-        (λ h9. through (bySize n x z i) _ _ _ _ _ (size-under n x z i _ _ _)
+        ∙ alike (λ (r : VbvRemoval) (j : Tested). bySize n x z i r ≡ j) _ (size-over n x z i _ _ _)
+        (λ h9. alike (λ (r : VbvRemoval) (j : Tested). bySize n x z i r ≡ j) _ (size-under n x z i _ _ _)
         (λ size. size-model n x z i _ ∙ rw (end-same w o) (end-told t h9)))
 
     pub position-told : byMost n x (stuffing w o) (o .interval) (bitsOf (maxEndBits n)) ≡ measuredFor w o
@@ -274,34 +259,34 @@ module _ (w : CbrWriter) (o : Offer) (f : writerFits w ≡ true) (n : VbvCbrMode
         rw most-told
         (most-case n x (stuffing w o) (o .interval) _
         ∙ rw (← beyond-is p params-fits (position w o) (deliveredAt w o))
-        (pick-no _ _ (λ h7. size-told h7) ∙ sym (other _ _ _ (neither (position w o) (end w o) near far))))
+        (alike (λ (a b : Tested). a ≡ b) _ refl (λ h7. size-told h7) ∙ no _ _ _ (neither (position w o) (end w o) near far) refl))
 
 -- ---- 14
 
 module _ (w : CbrWriter) (o : Offer) where
-  abbrev Same : Judged → Type 0
+  abbrev Same : Tested → Type 0
   Same j = j ≡ measuredFor w o
 
-  far-told : 281474976710656 < max (position w o) (end w o) → Refused (Model Range) ≡ measuredFor w o
+  far-told : farthest < max (position w o) (end w o) → Refused (Model Range) ≡ measuredFor w o
   unfolding measuredFor
-  far-told h = sym (one _ _ _ (either (position w o) (end w o) h))
+  far-told h = yes _ _ _ (either (position w o) (end w o) h) refl
 
   module _ (f : writerFits w ≡ true) where
-    zeros-told : (n : VbvCbrModel) → Begun w o n → position w o ≤ 2 ^ 48 → withZeros n (extent w o) (o .interval) (stuffing w o) ≡ measuredFor w o
-    unfolding withZeros
-    zeros-told n b near =
-        pick-elim Same _ (λ e. far-told (omega (arith, ltb-true (2 ^ 45) (stuffing w o) e, end-same w o))) λ z.
-        pick-elim Same _ (λ e. far-told (omega (arith, ltb-true (2 ^ 48) (content w o + 8 * stuffing w o) e, end-same w o))) λ e.
-        position-told w o f n b near (omega (arith, ltb-false (2 ^ 48) (content w o + 8 * stuffing w o) e, end-same w o))
+    stuffed-told : (n : VbvCbrModel) → StartedFor w o n → position w o ≤ farthest → withStuffing n (extent w o) (o .interval) (stuffing w o) ≡ measuredFor w o
+    unfolding withStuffing
+    stuffed-told n b near =
+        pick-elim Same _ (λ e. far-told (omega (arith, ltb-true (farthest / 8) (stuffing w o) e, end-same w o))) λ z.
+        pick-elim Same _ (λ e. far-told (omega (arith, ltb-true farthest (content w o + 8 * stuffing w o) e, end-same w o))) λ e.
+        position-told w o f n b near (omega (arith, ltb-false farthest (content w o + 8 * stuffing w o) e, end-same w o))
 
-    start-told : position w o ≤ 2 ^ 48
+    start-told : position w o ≤ farthest
         → byStart (extent w o) (o .interval) (o .last) (startedAt (w .model) (position w o)) ≡ measuredFor w o
-    unfolding byStart byLeast zeros stuffing
+    unfolding byStart byLeast stuffingUpTo stuffing
     start-told near =
-        let g = begin w o f near in
-        rw (g .started-is, least-told w o f (g .model) (g .begun)) (zeros-told (g .model) (g .begun) near)
+        let g = start-model w o f near in
+        rw (g .started-is, least-told w o f (g .model) (g .begun)) (stuffed-told (g .model) (g .begun) near)
 
-    bytes-far : 35184372088832 < max (length (o .headers)) (length (o .layer)) → 281474976710656 < max (position w o) (end w o)
+    bytes-far : farthest / 8 < max (length (o .headers)) (length (o .layer)) → farthest < max (position w o) (end w o)
     unfolding position content
     bytes-far h = omega (arith, end-same w o)
 
@@ -310,5 +295,5 @@ module _ (w : CbrWriter) (o : Offer) where
     measured-is =
         rw (extent-is w o)
         (pick-elim Same _ (λ e. far-told (bytes-far (ltb-true _ _ e))) λ b.
-        pick-elim Same _ (λ e. far-told (omega (arith, ltb-true (2 ^ 48) (max (position w o) (content w o)) e, end-same w o))) λ e.
-        start-told (omega (arith, ltb-false (2 ^ 48) (max (position w o) (content w o)) e)))
+        pick-elim Same _ (λ e. far-told (omega (arith, ltb-true farthest (max (position w o) (content w o)) e, end-same w o))) λ e.
+        start-told (omega (arith, ltb-false farthest (max (position w o) (content w o)) e)))

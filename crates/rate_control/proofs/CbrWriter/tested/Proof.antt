@@ -1,7 +1,7 @@
 use Rattle.rate_control.proofs.Offering.{model-of, way-unfit, way-17, way-18, way-20, way-on}
 use borrow.Author.Needs.{needs}
-use Rattle.rate_control.proofs.CbrWriter.judged.Statement.{statement}
-use Rattle.rate_control.proofs.CbrWriter.judged.Tie as tie
+use Rattle.rate_control.proofs.CbrWriter.tested.Statement.{statement}
+use Rattle.rate_control.proofs.CbrWriter.tested.Tie as tie
 
 fits-requires : tie.Need-fits-requires
 fits-requires c κs = search needs
@@ -33,8 +33,8 @@ returns-4 c = search (needs, way-18)
 returns-5 : tie.Need-returns-5
 returns-5 c = search (needs, way-unfit)
 
-pub judged-spec : {M : Type 1} → statement M
-judged-spec =
+pub tested-spec : {M : Type 1} → statement M
+tested-spec =
     tie.close
     (tie.spec
     fits-requires
