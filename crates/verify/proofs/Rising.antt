@@ -20,6 +20,10 @@ unfolding timed
 timed-rising seen.last = last
 timed-rising (seen.next {x = x} q t) = next {c = codedOf x} q (timed-rising t)
 
+pub timed-none : timed [] ≡ []
+unfolding timed
+timed-none = refl
+
 pub timed-first : (x : SeenPicture) (xs : List SeenPicture) → timed (x ∷ xs) ≡ codedOf x ∷ timed xs
 unfolding timed
 timed-first x xs = refl
