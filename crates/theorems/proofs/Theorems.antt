@@ -16,7 +16,9 @@ use Rattle.scan.proofs.Pictures.{walk-gives, in-order}
 use Rattle.verify.proofs.Accepted.{accepted-exactly, nothing-cut}
 use Rattle.verify.proofs.Due.{check-due}
 use Rattle.verify.proofs.Numbering.{check-numbers}
-use Rattle.verify.proofs.Recording.{records-placed, count-is}
+use Rattle.pictures.proofs.Order.{steps-give, seen-rising}
+use Rattle.pictures.proofs.Due.{front-due}
+use Rattle.pictures.proofs.Numbering.{front-numbers}
 use Rattle.verify.proofs.Bounds.{records-small}
 use Rattle.rate_control.proofs.Demand.{owed}
 use Rattle.rate_control.proofs.Refusing.{writer-numbers}
@@ -52,12 +54,14 @@ theorems = record {
   model-stays = model-stays;
   walk-gives-pictures = walk-gives;
   pictures-in-order = in-order;
+  steps-give-pictures = steps-give;
+  seen-rising = seen-rising;
+  front-is-due = front-due;
+  front-numbers = front-numbers;
   accepted-exactly = accepted-exactly;
   check-due = check-due;
   nothing-cut = nothing-cut;
   check-numbers = check-numbers;
-  records-yielded = records-placed;
-  records-counted = count-is;
   records-small = records-small;
   demand-3 = owed;
   writer-numbers = writer-numbers;

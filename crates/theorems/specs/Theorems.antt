@@ -11,7 +11,10 @@ use Rattle.scan.specs.Walk.{WalkGivesPictures, PicturesInOrder}
 use Rattle.verify.specs.Accepted.{AcceptedExactly, NothingCut}
 use Rattle.verify.specs.Due.{CheckDue}
 use Rattle.verify.specs.Numbers.{CheckNumbers}
-use Rattle.verify.specs.Sizes.{RecordsYielded, RecordsCounted, RecordsSmall}
+use Rattle.pictures.specs.Order.{StepsGivePictures, SeenRising}
+use Rattle.pictures.specs.Due.{FrontIsDue}
+use Rattle.pictures.specs.Numbers.{FrontNumbers}
+use Rattle.verify.specs.Sizes.{RecordsSmall}
 use Rattle.rate_control.specs.Demand.{Demand3}
 use Rattle.rate_control.specs.Numbers.{WriterNumbers}
 use Rattle.rate_control.specs.Figures.{WriterFigures, TargetFigures, Rules, Steering}
@@ -61,6 +64,13 @@ pub record Theorems : Type 0 where
   pub walk-gives-pictures : WalkGivesPictures
   -- They lie one after another, within the stream.
   pub pictures-in-order : PicturesInOrder
+  -- Step by step their headers show the same as all at once, up to the first that is refused.
+  pub steps-give-pictures : StepsGivePictures
+  -- As the headers show them they lie one after another within 2^48 bits, each with a delay of 16 bits.
+  pub seen-rising : SeenRising
+  -- What every report asks first is answered as it is due: 14, 3, 1 or 2, 6, every picture header, 4, or what the headers show.
+  pub front-is-due : FrontIsDue
+  pub front-numbers : FrontNumbers
   -- ---- the check
   -- A stream is accepted, with these records, exactly when it passes the tests before the run and at every removal the start code has come, the coded delay is within one tick of the
   -- expected, which is at most 65,534, and the buffer holds at most B bits, all bits of the picture among them.
@@ -71,10 +81,6 @@ pub record Theorems : Type 0 where
   pub nothing-cut : NothingCut
   -- A refusal is one of paper 01's numbers; only 9 to 11 carry picture, coded and expected.
   pub check-numbers : CheckNumbers
-  -- The first records that a recorder gives are those of an accepted stream, and there are places for them.
-  pub records-yielded : RecordsYielded
-  -- The number of records that an answer tells is the verdict's.
-  pub records-counted : RecordsCounted
   -- In a record the delays have 16 bits, the data bits are at most 2^48 and the occupancy at most the largest buffer.
   pub records-small : RecordsSmall
   -- ---- the writer
