@@ -44,7 +44,7 @@ pub(crate) fn places(
     ensures { λ r. ⌜ r ≡ over (recordsOf (verdict standard (now (stream .entry)) 4)) (replicate 4 filling) ⌝ }
 {
     let mut records = [filling; 4];
-    lent::verify_cbr_stream(stream, standard, &mut records);
+    verify::lent::verify_cbr_stream(stream, standard, &mut records);
     records
 }
 
@@ -53,5 +53,5 @@ pub(crate) fn answer(stream: &[u8], standard: VbvStandard, filling: VbvPictureRe
     ensures { λ r. ⌜ verifiedAnswer r ≡ reported (verdict standard (now (stream .entry)) 4) ⌝ }
 {
     let mut records = [filling; 4];
-    lent::verify_cbr_stream(stream, standard, &mut records)
+    verify::lent::verify_cbr_stream(stream, standard, &mut records)
 }

@@ -60,10 +60,10 @@ use Rattle.pictures.proofs.VbvStandard as N
 use Rattle.pictures.proofs.VbvStandard.Laws as N′
 use Rattle.verify.proofs.VbvVerified as E
 use Rattle.verify.proofs.VbvVerified.Laws as E′
-use Rattle.lent.proofs.verify_cbr_stream as callee
-use Rattle.lent.proofs.verify_cbr_stream.Symbol as callee-def
-use Rattle.lent.proofs.verify_cbr_stream.Symbol.{name as #callee}
-use Rattle.lent.proofs.verify_cbr_stream.Met as callee-thm
+use Rattle.verify.proofs.lent.verify_cbr_stream as callee
+use Rattle.verify.proofs.lent.verify_cbr_stream.Symbol as callee-def
+use Rattle.verify.proofs.lent.verify_cbr_stream.Symbol.{name as #callee}
+use Rattle.verify.proofs.lent.verify_cbr_stream.Met as callee-thm
 use Rattle.forms.proofs.bridge.answer.Key.{name as #fn}
 use Rattle.forms.proofs.bridge.answer as fn′
 use Rattle.forms.proofs.bridge.answer.Statement as stated
@@ -211,4 +211,4 @@ answer-spec 𝓤 H 𝓜 𝓖 𝓡 =
     entered 𝓤 H (tripleOf 𝓤 H (𝓖 .A) fn′.signature (fn′.spec 𝓤 H (𝓖 .A) (𝓜 .mem) (𝓡 .run)))
     (tables 𝓤 H 𝓜 𝓡 code.env .C) (tables 𝓤 H 𝓜 𝓡 code.env .Λ) #fn code.function (code.unfolded 𝓤 H 𝓜 𝓡)
     (meets 𝓤 H (𝓖 .A) (givenOf 𝓤 H 𝓜 𝓖) (𝓜 .mem) (𝓡 .run) (tablesOf 𝓤 H 𝓜 (tables 𝓤 H 𝓜 𝓡 code.env))
-    (cited 𝓤 H (Callee 𝓤 H (𝓖 .A) (𝓜 .mem) (𝓡 .run)) 𝓜 𝓡 code.env #callee callee-def.routine code.calls-lent·verify-cbr-stream (callee-thm.met 𝓤 H 𝓜 𝓖 𝓡)))
+    (cited 𝓤 H (Callee 𝓤 H (𝓖 .A) (𝓜 .mem) (𝓡 .run)) 𝓜 𝓡 code.env #callee callee-def.routine code.calls-verify·lent·verify-cbr-stream (callee-thm.met 𝓤 H 𝓜 𝓖 𝓡)))
