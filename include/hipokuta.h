@@ -30,7 +30,7 @@ enum {
     VBV_EARLY = 7,          /* a picture's start code lies beyond the bits delivered at its removal */
     VBV_DELAY_TOO_LONG = 8, /* an expected delay above 0xFFFE */
     VBV_OVERFLOW = 9,       /* the buffer overflows */
-    VBV_UNDERFLOW = 10,     /* a picture is not all there at its removal */
+    VBV_UNDERFLOW = 10,     /* a picture is not already delivered at its removal */
     VBV_DELAY_MISMATCH = 11, /* coded and expected delay are more than a tick apart */
     VBV_PARAMETER = 12,     /* a parameter out of its range, a buffer of above 65,534 ticks, or state bytes that hold no writer */
     VBV_TOO_FAR = 14,       /* the stream passes 2^48 bits */
@@ -53,7 +53,7 @@ enum {
  * Accepted: report holds bit_rate, buffer_bits, pictures, min_after, max_before; records holds for each picture, in
  * order, delay, expected, data_bits, occupancy_before. refusal is untouched.
  * Refused: refusal holds number, picture, coded, expected; report and records are untouched.
- * Bytes of a place behind what is written stay as they were.
+ * Bytes of a place after what is written stay as they were.
  *
  * standard is VBV_MPEG1 or VBV_MPEG2, else 12. There are records_len / VBV_RECORD_BYTES record places; fewer than pictures is 15.
  * A report_len under VBV_REPORT_BYTES or a refusal_len under VBV_REFUSAL_BYTES is 19, before anything else; a refusal place
@@ -83,13 +83,19 @@ uint64_t vbv_patch_delay(uint8_t *picture, size_t picture_len, uint16_t vbv_dela
 #define CBR_AGAIN 1
 #define CBR_REFUSED 2
 
+/* What a rate field and a buffer field count in, in bits, and the greatest of each that a writer takes. */
+#define CBR_RATE_UNIT 400
+#define CBR_BUFFER_UNIT 16384
+#define CBR_MOST_RATE 262143
+#define CBR_MOST_BUFFER 1023
+
 /* Makes a writer of constant rate in state. Returns 0, or a refusal with state untouched: 19 where state_len is under
  * CBR_STATE_BYTES, 12 where a value is out of range, 6 where frame_rate_code is not 1 to 8, 12 where the buffer lasts longer
  * than 65,534 ticks of 1/90,000 s.
  *
- * The rate is bit_rate_value (1 to 262,143) times 400 bits a second, the buffer vbv_buffer_size_value (1 to 1,023) times
- * 16,384 bits. quantiser (1 to 31) is where all kinds start. b_between (0 to 15) B pictures between anchors and
- * anchors_per_gop (1 to 255) set the targets that the quantisers are steered by, and nothing else.
+ * The rate is bit_rate_value (1 to CBR_MOST_RATE) times CBR_RATE_UNIT bits a second, the buffer vbv_buffer_size_value (1 to
+ * CBR_MOST_BUFFER) times CBR_BUFFER_UNIT bits. quantiser (1 to 31) is where all kinds start. b_between (0 to 15) B pictures
+ * between anchors and anchors_per_gop (1 to 255) set the targets that the quantisers are steered by, and nothing else.
  */
 uint64_t cbr_create(uint32_t bit_rate_value, uint16_t vbv_buffer_size_value, uint8_t frame_rate_code, uint8_t quantiser,
                     uint8_t b_between, uint8_t anchors_per_gop,
@@ -104,7 +110,7 @@ uint64_t cbr_create(uint32_t bit_rate_value, uint16_t vbv_buffer_size_value, uin
  * with. state has gone on.
  * CBR_AGAIN (also 0): too large; encode this picture again with quantiser and offer that, or withdraw it. out is untouched.
  * CBR_REFUSED: number is the value returned. state and out are untouched, but that 21 closes the pending picture.
- * An out_len of 2,048 times vbv_buffer_size_value is always enough.
+ * An out_len of CBR_BUFFER_UNIT / 8 times vbv_buffer_size_value is always enough.
  *
  * State bytes that hold no writer are 12, before anything else; an answer_len under CBR_ANSWER_BYTES is 19; any other kind,
  * interval or last is 12; then 17, 18, 20, 14, 7, 9, too large (21 at quantiser 31), 22, 19. An answer place that is too short

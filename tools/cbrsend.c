@@ -35,7 +35,7 @@ static const char help[] =
 static void print_setting(struct setting at)
 {
     printf("  Asked for: %" PRIu64 " bits a second, a buffer of %" PRIu32 " units (%" PRIu64 " bits).\n",
-           (uint64_t)at.rate * RATE_UNIT, at.buffer, (uint64_t)at.buffer * BUFFER_UNIT);
+           (uint64_t)at.rate * CBR_RATE_UNIT, at.buffer, (uint64_t)at.buffer * CBR_BUFFER_UNIT);
 }
 
 static void print_would_carry(struct source *in, struct setting at)
@@ -52,7 +52,7 @@ static void advise(struct source *in, struct setting at)
 {
     struct setting better = least_rate(in, at);
     if (better.rate != 0) {
-        printf("  With this buffer %" PRIu32 " bits a second (-b)", better.rate * RATE_UNIT);
+        printf("  With this buffer %" PRIu32 " bits a second (-b)", better.rate * CBR_RATE_UNIT);
         print_would_carry(in, better);
         return;
     }
@@ -69,7 +69,7 @@ static void advise(struct source *in, struct setting at)
 static void print_why(const struct source *in, const struct sending *end)
 {
     struct stream headers = headers_of(in, end->picture), layer = layer_of(in, end->picture);
-    if (end->number == 18)
+    if (end->number == CBR_HEADERS)
         print_why_headers(&headers, end->picture == 0);
     else
         print_why_layer(&layer);
@@ -78,7 +78,7 @@ static void print_why(const struct source *in, const struct sending *end)
 /* What is refused, and why. */
 static int refuse(struct source *in, struct setting at, const struct sending *end)
 {
-    int named = end->number >= 7 && end->number != 12;
+    int named = end->number >= VBV_EARLY && end->number != VBV_PARAMETER;
     if (refusal_name(end->number) == NULL)
         return trouble(in->name, "the library gave a refusal that no stream can cause");
     printf("%s: refused", in->name);
@@ -87,11 +87,11 @@ static int refuse(struct source *in, struct setting at, const struct sending *en
     printf("\n  refusal %" PRIu64 ": %s\n  %s\n", end->number, refusal_name(end->number), refusal_meaning(end->number));
     if (is_of_setting(end->number))
         print_setting(at);
-    if (end->number == 21)
+    if (end->number == CBR_TOO_LARGE)
         printf("  The picture is %" PRIu64 " bytes too large.\n", end->bytes_over);
     if (is_of_setting(end->number))
         advise(in, at);
-    if (end->number == 18 || end->number == 20)
+    if (end->number == CBR_HEADERS || end->number == CBR_LAYER)
         print_why(in, end);
     return REFUSED;
 }
@@ -203,9 +203,9 @@ int main(int count, char **words)
     for (int option; (option = getopt(count, words, "b:B:")) != -1;) {
         uint32_t value = 0;
         if (option == 'b')
-            value = at.rate = units(optarg, RATE_UNIT, MAX_RATE);
+            value = at.rate = units(optarg, CBR_RATE_UNIT, CBR_MOST_RATE);
         else if (option == 'B')
-            value = at.buffer = units(optarg, 1, MAX_BUFFER);
+            value = at.buffer = units(optarg, 1, CBR_MOST_BUFFER);
         if (value == 0)
             return bad_use();
     }

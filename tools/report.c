@@ -6,32 +6,38 @@
 static const struct {
     const char *name, *meaning;
 } refusals[] = {
-    [1] = { "bytes end inside a header", "The stream breaks off. A set waits for bytes that do not come; copy or capture it again." },
-    [2] = { "bad header value",
-            "A header holds what its standard forbids. A set may skip it or show nothing. A stream of the other standard\n"
-            "  looks like this too: see -1 and -2." },
-    [3] = { "no sequence header", "A set cannot learn size, rate or buffer from this stream and shows nothing." },
-    [4] = { "no picture", "There is nothing that a set could show." },
-    [5] = { "first delay 0xFFFF",
-            "The stream does not claim a constant rate, so no set can tell from it when to start, and no buffer is promised." },
-    [6] = { "frame rate code", "The frame rate is none that the standard knows. A set cannot tell when to show a picture." },
-    [7] = { "position beyond delivered bits",
-            "A picture begins only after the time at which it is due. A set has run dry: the picture freezes." },
-    [8] = { "delay above 0xFFFE", "A picture waits longer than its delay field can say. A set that tunes in there starts wrong." },
-    [9] = { "overflow", "The set's buffer is more than full before this picture is removed. Bytes are lost and pictures smear." },
-    [10] = { "underflow", "This picture is not whole in the set's buffer when it is due. The picture freezes or breaks up." },
-    [11] = { "delay mismatch",
-             "The picture's delay is not the time at which it is due. A set that tunes in there starts too early or too late,\n"
-             "  and its buffer overflows or runs dry later." },
-    [12] = { "parameter out of range",
-             "The declared rate or buffer is zero, or the buffer takes longer to fill than a delay field can say. No set can be\n"
-             "  held to it." },
-    [14] = { "stream too long", "The stream has more than 2^48 bits. Check it in parts." },
-    [18] = { "headers do not fit", "What stands before this picture cannot be sent as it is." },
-    [20] = { "layer does not fit", "This picture cannot be sent as it is." },
-    [21] = { "too large", "At this rate and buffer the picture is not whole in a set when it is due." },
-    [22] = { "stuffed end beyond delivered bits",
-             "From one picture to the next this rate brings more bits than the buffer holds." },
+    [VBV_SHORT_HEADER] = { "bytes end inside a header",
+        "The stream breaks off. A set waits for bytes that do not come; copy or capture it again." },
+    [VBV_BAD_HEADER] = { "bad header value",
+        "A header holds what its standard forbids. A set may skip it or show nothing. A stream of the other standard\n"
+        "  looks like this too: see -1 and -2." },
+    [VBV_NO_SEQUENCE] = { "no sequence header",
+        "A set cannot learn size, rate or buffer from this stream and shows nothing." },
+    [VBV_NO_PICTURE] = { "no picture", "There is nothing that a set could show." },
+    [VBV_VARIABLE_RATE] = { "first delay 0xFFFF",
+        "The stream does not claim a constant rate, so no set can tell from it when to start, and no buffer is promised." },
+    [VBV_FRAME_RATE] = { "frame rate code",
+        "The frame rate is none that the standard knows. A set cannot tell when to show a picture." },
+    [VBV_EARLY] = { "position beyond delivered bits",
+        "A picture begins only after the time at which it is due. A set has run dry: the picture freezes." },
+    [VBV_DELAY_TOO_LONG] = { "delay above 0xFFFE",
+        "A picture waits longer than its delay field can say. A set that tunes in there starts wrong." },
+    [VBV_OVERFLOW] = { "overflow",
+        "The set's buffer is more than full before this picture is removed. Bytes are lost and pictures smear." },
+    [VBV_UNDERFLOW] = { "underflow",
+        "This picture is not whole in the set's buffer when it is due. The picture freezes or breaks up." },
+    [VBV_DELAY_MISMATCH] = { "delay mismatch",
+        "The picture's delay is not the time at which it is due. A set that tunes in there starts too early or too late,\n"
+        "  and its buffer overflows or runs dry later." },
+    [VBV_PARAMETER] = { "parameter out of range",
+        "The declared rate or buffer is zero, or the buffer takes longer to fill than a delay field can say. No set can be\n"
+        "  held to it." },
+    [VBV_TOO_FAR] = { "stream too long", "The stream has more than 2^48 bits. Check it in parts." },
+    [CBR_HEADERS] = { "headers do not fit", "What stands before this picture cannot be sent as it is." },
+    [CBR_LAYER] = { "layer does not fit", "This picture cannot be sent as it is." },
+    [CBR_TOO_LARGE] = { "too large", "At this rate and buffer the picture is not whole in a set when it is due." },
+    [CBR_STUFFING] = { "stuffed end beyond delivered bits",
+        "From one picture to the next this rate brings more bits than the buffer holds." },
 };
 
 static void print_share(const char *name, uint64_t bits, uint64_t buffer, const char *words)

@@ -1,9 +1,12 @@
-/* The words of the library's report, records and refusals, and what is printed of them. The archive is for x86-64, whose own
- * words are low byte first. */
+/* The words of the library's report, records and refusals (docs/LAYOUT.md), and what is printed of them. The archive is for
+ * x86-64, whose own words are low byte first. */
 #ifndef REPORT_H
 #define REPORT_H
 
-#include <stdint.h>
+#include "hipokuta.h"
+
+/* Does not compile where a struct is not of a layout's bytes. */
+#define OF_BYTES(type, bytes) typedef char type##_of_bytes[sizeof(struct type) == (bytes) ? 1 : -1]
 
 struct report {
     uint64_t bit_rate, buffer_bits, pictures, min_after, max_before;
@@ -16,6 +19,10 @@ struct record {
 struct refusal {
     uint64_t number, picture, coded, expected;
 };
+
+OF_BYTES(report, VBV_REPORT_BYTES);
+OF_BYTES(record, VBV_RECORD_BYTES);
+OF_BYTES(refusal, VBV_REFUSAL_BYTES);
 
 void print_report(const struct report *r);
 

@@ -1,6 +1,7 @@
 #include "sending.h"
 
 #include "hipokuta.h"
+#include "report.h"
 
 /* A writer's state, and its answer to an offer (docs/LAYOUT.md). */
 struct writer {
@@ -11,6 +12,9 @@ struct writer {
 struct answer {
     uint64_t outcome, number, picture, coded, expected, quantiser, delay, bytes, stuffing;
 };
+
+OF_BYTES(writer, CBR_STATE_BYTES);
+OF_BYTES(answer, CBR_ANSWER_BYTES);
 
 static struct stream kept(const struct source *in, size_t from, size_t length)
 {
@@ -28,24 +32,26 @@ struct stream layer_of(const struct source *in, size_t n)
     return part(&in->stream, p->layer, p->layer + p->layer_length);
 }
 
+/* A writer is created with what the header declares, and no entry reads that out of a stream: so it is looked for here, and
+ * what is not there is refused here. Whether the header is a good one the library says, once it is offered. */
 uint64_t find_sequence(struct source *in)
 {
     struct stream all = kept(in, 0, in->pictures.headers_length);
     size_t at = find_code(&all, SEQUENCE);
     if (at == all.length)
-        return 3;
-    if (at + 12 > all.length)
-        return 1;
+        return VBV_NO_SEQUENCE;
+    if (at + SEQUENCE_BYTES > all.length)
+        return VBV_SHORT_HEADER;
     in->header = at;
-    in->extension = next_code(&all, at + 4);
-    if (code_at(&all, in->extension) != EXTENSION || in->extension + 10 > all.length)
+    in->extension = next_code(&all, at + CODE_BYTES);
+    if (code_at(&all, in->extension) != EXTENSION || in->extension + SEQUENCE_EXTENSION_BYTES > all.length)
         in->extension = all.length;
-    return in->pictures.count == 0 ? 4 : 0;
+    return in->pictures.count == 0 ? VBV_NO_PICTURE : 0;
 }
 
 static uint32_t declared(const struct source *in, struct field low, struct field high)
 {
-    struct stream header = kept(in, in->header, 12);
+    struct stream header = kept(in, in->header, SEQUENCE_BYTES);
     struct stream extension = kept(in, in->extension, in->pictures.headers_length - in->extension);
     return field_value(&extension, high) << low.width | field_value(&header, low);
 }
@@ -74,7 +80,7 @@ static void declare(struct source *in, struct setting at)
 /* Nothing can be encoded again here, so steering does not matter: any quantiser and targets will do. */
 static uint64_t create(struct source *in, struct setting at, struct writer *w)
 {
-    struct stream header = kept(in, in->header, 12);
+    struct stream header = kept(in, in->header, SEQUENCE_BYTES);
     uint16_t buffer = at.buffer > UINT16_MAX ? UINT16_MAX : (uint16_t)at.buffer;
     declare(in, at);
     return cbr_create(at.rate, buffer, (uint8_t)field_value(&header, FRAME_RATE_CODE), 31, 2, 5, (uint8_t *)w, sizeof *w);
@@ -83,20 +89,20 @@ static uint64_t create(struct source *in, struct setting at, struct writer *w)
 /* By the structure that the picture coding extension tells. */
 static uint8_t interval_of(const struct stream *layer)
 {
-    struct stream extension = part(layer, next_code(layer, 4), layer->length);
+    struct stream extension = part(layer, next_code(layer, CODE_BYTES), layer->length);
     uint32_t structure = field_value(&extension, PICTURE_STRUCTURE);
-    return structure == 1 || structure == 2 ? CBR_FIELD : CBR_FRAME;
+    return structure == TOP_FIELD || structure == BOTTOM_FIELD ? CBR_FIELD : CBR_FRAME;
 }
 
-/* Types 1, 2, 3 are I, P, B; any other is offered as I, for the library to refuse. */
+/* A type that is none of I, P and B is offered as I, for the library to refuse. */
 static uint8_t kind_of(const struct stream *layer)
 {
     uint32_t type = field_value(layer, PICTURE_CODING_TYPE);
-    return type == 2 ? CBR_P : type == 3 ? CBR_B : CBR_I;
+    return type == P_PICTURE ? CBR_P : type == B_PICTURE ? CBR_B : CBR_I;
 }
 
 /* A placed picture's bytes; none takes more than the buffer. */
-static uint8_t placed[MAX_BUFFER * (BUFFER_UNIT / 8)];
+static uint8_t placed[CBR_MOST_BUFFER * (CBR_BUFFER_UNIT / 8)];
 
 /* Offers a picture; where it is wanted again, offers it again as it is, until the library gives up. */
 static uint64_t offer(const struct source *in, size_t n, struct writer *w, struct answer *a)
@@ -111,14 +117,30 @@ static uint64_t offer(const struct source *in, size_t n, struct writer *w, struc
     return number;
 }
 
-/* Bytes by which picture n ends behind what is delivered when it is due. The first is due when three quarters of the buffer
- * have come behind its start code. */
+/* Bits delivered when the first picture is due, by the library: it places the smallest picture with the same headers, and its
+ * check of that tells what the buffer holds at the removal. */
+static uint64_t first_delivered(const struct source *in, struct writer w)
+{
+    static const uint8_t smallest[] = { 0, 0, 1, PICTURE, 0, 8, 0, 0, 0, 0, 1, EXTENSION, 0x8F, 0xFF, 0xF3, 0x41, 0x80,
+                                        0, 0, 1, 1 };
+    struct stream headers = headers_of(in, 0);
+    struct answer a;
+    struct report report;
+    struct record record = { .occupancy_before = 0 };
+    struct refusal refusal;
+    if (cbr_offer((uint8_t *)&w, sizeof w, headers.bytes, headers.length, CBR_I, CBR_FRAME, 1, smallest, sizeof smallest,
+                  placed, sizeof placed, (uint8_t *)&a, sizeof a) == 0 && a.outcome == CBR_PLACED)
+        vbv_check(placed, a.bytes, VBV_MPEG2, (uint8_t *)&report, sizeof report, (uint8_t *)&record, sizeof record,
+                  (uint8_t *)&refusal, sizeof refusal);
+    return record.occupancy_before;
+}
+
+/* Bytes by which picture n, with the end code after the last, ends beyond what is delivered when it is due. */
 static uint64_t bytes_over(const struct source *in, size_t n, const struct writer *w)
 {
-    uint64_t headers = headers_of(in, n).length, last = n + 1 == in->pictures.count ? 4 : 0;
-    uint64_t end = w->prev_end_bits + 8 * (headers + layer_of(in, n).length + last);
-    uint64_t first_delay = 90000 * w->buffer_bits * 3 / (4 * w->bit_rate);
-    uint64_t delivered = w->started ? w->whole : 8 * (headers + 4) + first_delay * w->bit_rate / 90000;
+    uint64_t end_code = n + 1 == in->pictures.count ? CODE_BYTES : 0;
+    uint64_t end = w->prev_end_bits + 8 * (headers_of(in, n).length + layer_of(in, n).length + end_code);
+    uint64_t delivered = w->started ? w->whole : first_delivered(in, *w);
     return end > delivered ? (end - delivered + 7) / 8 : 0;
 }
 
@@ -135,14 +157,15 @@ struct sending send_all(struct source *in, struct setting at, FILE *to)
             fwrite(placed, 1, a.bytes, to);
         end.picture++;
     }
-    end.bytes_over = end.number == 21 ? bytes_over(in, end.picture, &w) : 0;
+    end.bytes_over = end.number == CBR_TOO_LARGE ? bytes_over(in, end.picture, &w) : 0;
     end.stuffing = end.number == 0 ? w.stuffing_bytes : 0;
     return end;
 }
 
 int is_of_setting(uint64_t number)
 {
-    return number == 7 || number == 9 || number == 12 || number == 21 || number == 22;
+    return number == VBV_EARLY || number == VBV_OVERFLOW || number == VBV_PARAMETER || number == CBR_TOO_LARGE
+        || number == CBR_STUFFING;
 }
 
 /* The least value of a setting's field that carries the stream, found by halves; 0 where none does. Only the refusal
@@ -163,16 +186,16 @@ static uint32_t least(struct source *in, struct setting *at, uint32_t *field, ui
     return found;
 }
 
-/* Too high is only a rate that brings more than the buffer from one picture to the next (22). */
+/* Too high is only a rate that brings more than the buffer from one picture to the next. */
 struct setting least_rate(struct source *in, struct setting at)
 {
-    at.rate = least(in, &at, &at.rate, MAX_RATE, 22);
+    at.rate = least(in, &at, &at.rate, CBR_MOST_RATE, CBR_STUFFING);
     return at;
 }
 
-/* Too large is only a buffer that takes longer to fill than a delay can say (12). */
+/* Too large is only a buffer that takes longer to fill than a delay can say. */
 struct setting least_buffer(struct source *in, struct setting at)
 {
-    at.buffer = least(in, &at, &at.buffer, MAX_BUFFER, 12);
+    at.buffer = least(in, &at, &at.buffer, CBR_MOST_BUFFER, VBV_PARAMETER);
     return at;
 }

@@ -6,9 +6,6 @@
 
 #include <stdio.h>
 
-/* What the library takes, and the units that headers count in. */
-enum { MAX_RATE = 262143, MAX_BUFFER = 1023, RATE_UNIT = 400, BUFFER_UNIT = 16384 };
-
 /* Rate and buffer, in the headers' units; 0 is not given. */
 struct setting {
     uint32_t rate, buffer;

@@ -3,8 +3,6 @@
 #include <stdlib.h>
 #include <string.h>
 
-enum { QUANT_MATRIX_EXTENSION = 3 };
-
 /* Zero bytes that a header or a slice may end in. */
 enum { OWN_ZEROS = 2 };
 
@@ -21,8 +19,8 @@ struct walk {
 /* Where a code's bytes end: at the next code, less the zero bytes before that but for `keep`. */
 static size_t end_of(const struct stream *s, size_t at, size_t keep)
 {
-    size_t next = next_code(s, at + 4), end = next;
-    while (end > at + 4 && s->bytes[end - 1] == 0)
+    size_t next = next_code(s, at + CODE_BYTES), end = next;
+    while (end > at + CODE_BYTES && s->bytes[end - 1] == 0)
         end--;
     return next - end < keep ? next : end + keep;
 }
@@ -30,14 +28,14 @@ static size_t end_of(const struct stream *s, size_t at, size_t keep)
 /* The bits of a sequence header and of its extension that say rate and buffer. */
 static uint8_t rate_and_buffer(const struct stream *unit, size_t i)
 {
-    static const uint8_t header[] = { [8] = 0xFF, [9] = 0xFF, [10] = 0xDF, [11] = 0xF8 };
-    static const uint8_t extension[] = { [6] = 0x1F, [7] = 0xFE, [8] = 0xFF };
     if (code_at(unit, 0) == SEQUENCE)
-        return i < sizeof header ? header[i] : 0;
-    return field_value(unit, EXTENSION_ID) == 1 && i < sizeof extension ? extension[i] : 0;
+        return field_bits(BIT_RATE, i) | field_bits(VBV_BUFFER_SIZE, i);
+    if (field_value(unit, EXTENSION_ID) == SEQUENCE_EXTENSION)
+        return field_bits(BIT_RATE_EXTENSION, i) | field_bits(VBV_BUFFER_SIZE_EXTENSION, i);
+    return 0;
 }
 
-/* A byte of a part, with zeros behind it. */
+/* A byte of a part, with zeros after it. */
 static uint8_t byte_at(const struct stream *s, size_t i)
 {
     return i < s->length ? s->bytes[i] : 0;
@@ -57,7 +55,7 @@ static int same_unit(const struct stream *s, size_t a, size_t b)
 static size_t next_extension(const struct stream *s, size_t at)
 {
     do
-        at = next_code(s, at + 4);
+        at = next_code(s, at + CODE_BYTES);
     while (code_at(s, at) == USER_DATA);
     return code_at(s, at) == EXTENSION ? at : s->length;
 }
@@ -140,7 +138,7 @@ static void take_all(struct pictures *p, const struct stream *s)
     struct walk w = { .s = s, .sequence = s->length };
     *p = (struct pictures){ .of = p->of, .headers = p->headers };
     take_lead(p, s, next_code(s, 0));
-    for (size_t at = next_code(s, 0); at < s->length; at = next_code(s, at + 4)) {
+    for (size_t at = next_code(s, 0); at < s->length; at = next_code(s, at + CODE_BYTES)) {
         if (code_at(s, at) == PICTURE)
             take_picture(&w, p, at);
         else if (belongs(&w, code_at(s, at)))

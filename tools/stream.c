@@ -34,6 +34,15 @@ void set_field(uint8_t *bytes, struct field f, uint32_t value)
     }
 }
 
+uint8_t field_bits(struct field f, size_t byte)
+{
+    unsigned bits = 0;
+    for (size_t i = 0; i < 8; i++)
+        if (f.at <= 8 * byte + i && 8 * byte + i < f.at + f.width)
+            bits |= 0x80u >> i;
+    return (uint8_t)bits;
+}
+
 struct stream part(const struct stream *s, size_t from, size_t to)
 {
     return (struct stream){ s->bytes + from, to - from };
@@ -41,7 +50,7 @@ struct stream part(const struct stream *s, size_t from, size_t to)
 
 size_t next_code(const struct stream *s, size_t at)
 {
-    for (; at + 4 <= s->length; at++)
+    for (; at + CODE_BYTES <= s->length; at++)
         if (s->bytes[at] == 0 && s->bytes[at + 1] == 0 && s->bytes[at + 2] == 1)
             return at;
     return s->length;
@@ -56,7 +65,7 @@ size_t find_code(const struct stream *s, int code)
 {
     size_t at = next_code(s, 0);
     while (at < s->length && code_at(s, at) != code)
-        at = next_code(s, at + 4);
+        at = next_code(s, at + CODE_BYTES);
     return at;
 }
 
@@ -68,7 +77,7 @@ int is_slice(int code)
 size_t picture_codes(const struct stream *s)
 {
     size_t count = 0;
-    for (size_t at = next_code(s, 0); at < s->length; at = next_code(s, at + 4))
+    for (size_t at = next_code(s, 0); at < s->length; at = next_code(s, at + CODE_BYTES))
         count += code_at(s, at) == PICTURE;
     return count;
 }

@@ -22,7 +22,7 @@ static const char help[] =
     "rate, and prints the buffer report, or the first refusal and what it means for the cabin set. Repeated fields, frame\n"
     "rate extensions and later sequence headers are not read (docs/DIFFERENCES.md).\n"
     "\n"
-    "  -1, -2       the stream is MPEG-1, MPEG-2. Without either it is MPEG-2 if the first start code behind the first\n"
+    "  -1, -2       the stream is MPEG-1, MPEG-2. Without either it is MPEG-2 if the first start code after the first\n"
     "               sequence header is that of a sequence extension, else MPEG-1.\n"
     "  -r           lists a record for each picture: coded and expected delay in ticks of 1/90,000 s, bits of data, and\n"
     "               bits in the buffer just before the picture is removed.\n"
@@ -31,12 +31,15 @@ static const char help[] =
     "\n"
     "Exit status: 0 accepted, 1 refused, 2 bad use or a file that cannot be read or written.\n";
 
-/* MPEG-2 has a sequence extension (B5, its first four bits 1) right behind the sequence header (B3), MPEG-1 has none. */
+/* MPEG-2 has a sequence extension right after the sequence header, MPEG-1 has none. */
 static uint8_t told_standard(const struct stream *s)
 {
     size_t at = find_code(s, SEQUENCE);
-    at = next_code(s, at < s->length ? at + 4 : at);
-    return at + 5 <= s->length && code_at(s, at) == EXTENSION && s->bytes[at + 4] >> 4 == 1 ? VBV_MPEG2 : VBV_MPEG1;
+    at = next_code(s, at < s->length ? at + CODE_BYTES : at);
+    if (code_at(s, at) != EXTENSION)
+        return VBV_MPEG1;
+    struct stream extension = part(s, at, s->length);
+    return field_value(&extension, EXTENSION_ID) == SEQUENCE_EXTENSION ? VBV_MPEG2 : VBV_MPEG1;
 }
 
 static void print_records(const struct report *report, const struct record *records)
@@ -50,7 +53,7 @@ static void print_records(const struct report *report, const struct record *reco
 static void print_refusal(const struct refusal *r)
 {
     printf("  refusal %" PRIu64 ": %s\n", r->number, refusal_name(r->number));
-    if (9 <= r->number && r->number <= 11)
+    if (VBV_OVERFLOW <= r->number && r->number <= VBV_DELAY_MISMATCH)
         printf("  picture %" PRIu64 " (the first is 0), coded delay %" PRIu64 ", expected delay %" PRIu64 "\n", r->picture,
                r->coded, r->expected);
     printf("  %s\n", refusal_meaning(r->number));
@@ -90,7 +93,7 @@ static int check(const char *name, const struct stream *s, uint8_t standard, int
             print_records(&report, records);
         if (picture != NULL)
             status = draw(picture, name, &report, records);
-    } else if (refusal.number < 15 && refusal_name(refusal.number) != NULL) {
+    } else if (refusal.number < VBV_RECORD_PLACES && refusal_name(refusal.number) != NULL) {
         print_refusal(&refusal);
         if (picture != NULL)
             fprintf(stderr, "vbvreport: %s: not drawn, since the stream is refused\n", picture);

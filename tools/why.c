@@ -2,9 +2,6 @@
 
 #include <stdio.h>
 
-enum { SEQUENCE_EXTENSION = 1, PICTURE_CODING_EXTENSION = 8 };
-enum { P_PICTURE = 2, B_PICTURE = 3, D_PICTURE = 4 };
-
 static int is_header(int code)
 {
     return code == USER_DATA || code == SEQUENCE || code == EXTENSION || code == GROUP;
@@ -14,9 +11,9 @@ static const char *code_name(int code)
 {
     if (is_slice(code))
         return "a slice outside of a picture";
-    if (code == 0xB4)
+    if (code == SEQUENCE_ERROR)
         return "sequence error";
-    return code < 0xB9 ? "reserved" : "of a system stream, not of video";
+    return code < SYSTEM ? "reserved" : "of a system stream, not of video";
 }
 
 /* The first code that no header has. */
@@ -24,14 +21,14 @@ static int strange_code(const struct stream *headers)
 {
     size_t at = next_code(headers, 0);
     while (at < headers->length && is_header(code_at(headers, at)))
-        at = next_code(headers, at + 4);
+        at = next_code(headers, at + CODE_BYTES);
     return code_at(headers, at);
 }
 
-/* The first extension behind the start code at the front; no bytes where something else follows. */
-static struct stream extension_behind(const struct stream *s, uint32_t id)
+/* The first extension after the start code at the front; no bytes where something else follows. */
+static struct stream extension_after(const struct stream *s, uint32_t id)
 {
-    size_t at = next_code(s, 4);
+    size_t at = next_code(s, CODE_BYTES);
     struct stream extension = part(s, at, s->length);
     int found = code_at(s, at) == EXTENSION && field_value(&extension, EXTENSION_ID) == id;
     return found ? extension : part(s, s->length, s->length);
@@ -39,7 +36,7 @@ static struct stream extension_behind(const struct stream *s, uint32_t id)
 
 static const char *why_first_headers(const struct stream *headers)
 {
-    struct stream extension = extension_behind(headers, SEQUENCE_EXTENSION);
+    struct stream extension = extension_after(headers, SEQUENCE_EXTENSION);
     if (code_at(headers, 0) != SEQUENCE)
         return "No sequence header stands before the first picture.";
     if (extension.length == 0)
@@ -74,14 +71,14 @@ static int has_slice(const struct stream *layer)
 {
     size_t at = next_code(layer, 0);
     while (at < layer->length && !is_slice(code_at(layer, at)))
-        at = next_code(layer, at + 4);
+        at = next_code(layer, at + CODE_BYTES);
     return at < layer->length;
 }
 
 static const char *why_layer(const struct stream *layer)
 {
     uint32_t type = field_value(layer, PICTURE_CODING_TYPE);
-    struct stream extension = extension_behind(layer, PICTURE_CODING_EXTENSION);
+    struct stream extension = extension_after(layer, PICTURE_CODING_EXTENSION);
     if (type == D_PICTURE)
         return "It is a D picture, which MPEG-2 does not have.";
     if (extension.length == 0)

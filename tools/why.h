@@ -1,4 +1,5 @@
-/* Words for why the writer does not take headers (18) or a layer (20). The library has judged; this looks for the cause. */
+/* Words for why the writer does not take headers (18) or a layer (20). The library has judged and tells the number
+ * alone; this looks for the cause, and decides nothing. */
 #ifndef WHY_H
 #define WHY_H
 

@@ -17,8 +17,8 @@ struct Picture {
 fn pictures(standard: VbvStandard, stream: &[u8]) -> Vec<Picture> {
     let codes = oracle_scan_start_codes(stream);
     let mut found = vec![];
-    for (picture, behind) in spans(&codes) {
-        let (at, end) = (codes[picture].0, codes.get(behind).map_or(stream.len(), |&(offset, _)| offset));
+    for (picture, after) in spans(&codes) {
+        let (at, end) = (codes[picture].0, codes.get(after).map_or(stream.len(), |&(offset, _)| offset));
         found.push(Picture { at, end, interval: interval(standard, &stream[at..]) });
     }
     found
@@ -48,7 +48,8 @@ fn stamp(standard: VbvStandard, stream: &mut [u8], first: u16) {
 }
 
 /// A stream of 25 frames a second, over and over up to `size` bytes, and accepted: the rate that it declares is the least
-/// that carries it, each round is padded to that rate, and the delays are the expected ones.
+/// that carries it, each round is padded to that rate, and the delays are the expected ones. It begins with the buffer three
+/// quarters full; any delay would do that lets nothing overflow or starve.
 pub fn repeated(standard: VbvStandard, stream: &[u8], size: usize) -> Vec<u8> {
     let fields: usize =
         pictures(standard, stream).iter().map(|p| if p.interval == RemovalInterval::Frame { 2 } else { 1 }).sum();

@@ -6,10 +6,14 @@ mod buffers;
 #[path = "../../oracle/src/entries/entry.rs"]
 #[allow(dead_code)] // no patch here
 mod entry;
+#[path = "../../oracle/src/layout.rs"]
+#[allow(dead_code)] // not all of them here
+mod layout;
 mod offers;
 #[path = "../../oracle/src/spans.rs"]
 mod spans;
 
+use layout::{VBV_MPEG1, VBV_MPEG2, VBV_RECORD_BYTES, VBV_REFUSAL_BYTES, VBV_REPORT_BYTES};
 use original::vbv::{VbvStandard, VbvVerifyError, verify_cbr_stream};
 use std::alloc::{GlobalAlloc, Layout, System};
 use std::ffi::c_void;
@@ -43,19 +47,19 @@ unsafe extern "C" {
 
 /// Our check: the answer's number, and the report's words.
 fn check(standard: VbvStandard, stream: &[u8], records: &mut [u8]) -> (u64, [u64; 5]) {
-    let (mut report, mut refusal) = ([0u64; 5], [0u64; 4]);
-    let number = if standard == VbvStandard::Mpeg1 { 1 } else { 2 };
+    let (mut report, mut refusal) = ([0u64; VBV_REPORT_BYTES / 8], [0u64; VBV_REFUSAL_BYTES / 8]);
+    let number = if standard == VbvStandard::Mpeg1 { VBV_MPEG1 } else { VBV_MPEG2 };
     let answer = unsafe {
         entry::vbv_check(
             stream.as_ptr(),
             stream.len(),
             number,
             report.as_mut_ptr().cast(),
-            40,
+            VBV_REPORT_BYTES,
             records.as_mut_ptr(),
             records.len(),
             refusal.as_mut_ptr().cast(),
-            32,
+            VBV_REFUSAL_BYTES,
         )
     };
     (answer, report)
@@ -70,16 +74,16 @@ struct Work {
 
 impl Work {
     fn new(standard: VbvStandard, stream: Vec<u8>) -> Self {
-        let pictures = stream.windows(4).filter(|w| w == &[0, 0, 1, 0]).count();
-        Self { stream, standard, records: vec![1; 32 * pictures] }
+        let records = vec![1; VBV_RECORD_BYTES * spans::picture_codes(&stream)];
+        Self { stream, standard, records }
     }
 
     fn ours(&mut self, places: usize) -> (u64, [u64; 5]) {
-        check(self.standard, &self.stream, &mut self.records[..32 * places])
+        check(self.standard, &self.stream, &mut self.records[..VBV_RECORD_BYTES * places])
     }
 
     fn places(&self) -> usize {
-        self.records.len() / 32
+        self.records.len() / VBV_RECORD_BYTES
     }
 
     /// The same answer from both: the report and every record, or a refusal.
@@ -90,7 +94,7 @@ impl Work {
                 let least_greatest = [r.min_occupancy_after_bits as u64, r.max_occupancy_before_bits as u64];
                 let head = [r.bit_rate, r.buffer_size_bits, r.pictures.len() as u64];
                 assert_eq!((answer, &report[..3], &report[3..]), (0, &head[..], &least_greatest[..]));
-                for (p, bytes) in r.pictures.iter().zip(self.records.chunks(32)) {
+                for (p, bytes) in r.pictures.iter().zip(self.records.chunks(VBV_RECORD_BYTES)) {
                     let words =
                         [p.vbv_delay.into(), p.expected_delay.into(), p.data_bits, p.occupancy_before_bits as u64];
                     assert_eq!(words.map(u64::to_le_bytes).concat(), bytes);

@@ -2,6 +2,7 @@
 //! check of what was handed out.
 
 use crate::entry::{cbr_create, cbr_offer, cbr_withdraw};
+use crate::layout::{CBR_ANSWER_BYTES, CBR_FRAME, CBR_STATE_BYTES, VBV_RECORD_BYTES};
 use crate::{buffers, check, run_nothing, seconds, stack_used};
 use original::rate_control::OracleWriter;
 use original::vbv::{RemovalInterval, VbvStandard, verify_cbr_stream};
@@ -94,9 +95,9 @@ impl Work {
 
     /// Ours; there is a record place for each picture.
     fn offer(&self, outs: &mut [Vec<u8>], checked: bool) {
-        let mut records = vec![0; 32 * self.sequences[0].len()];
+        let mut records = vec![0; VBV_RECORD_BYTES * self.sequences[0].len()];
         for (sequence, out) in self.sequences.iter().zip(outs) {
-            let (mut state, mut at) = ([0u8; 152], 0);
+            let (mut state, mut at) = ([0u8; CBR_STATE_BYTES], 0);
             assert_eq!(create(self, &mut state), 0);
             for p in sequence {
                 for layer in &p.layers {
@@ -114,7 +115,7 @@ fn create(work: &Work, state: &mut [u8]) -> u64 {
 
 /// The bytes placed: none where the picture is wanted again.
 fn offer(state: &mut [u8], p: &Picture, layer: &[u8], out: &mut [u8]) -> usize {
-    let mut answer = [0u64; 9];
+    let mut answer = [0u64; CBR_ANSWER_BYTES / 8];
     let number = unsafe {
         cbr_offer(
             state.as_mut_ptr(),
@@ -122,14 +123,14 @@ fn offer(state: &mut [u8], p: &Picture, layer: &[u8], out: &mut [u8]) -> usize {
             p.headers.as_ptr(),
             p.headers.len(),
             p.kind as u8,
-            2,
+            CBR_FRAME,
             p.last.into(),
             layer.as_ptr(),
             layer.len(),
             out.as_mut_ptr(),
             out.len(),
             answer.as_mut_ptr().cast(),
-            72,
+            CBR_ANSWER_BYTES,
         )
     };
     assert_eq!(number, 0);
@@ -180,7 +181,7 @@ fn lines(name: &str, work: &Work) {
 }
 
 /// Withdrawals on a state, with a picture pending or not.
-fn withdrawals(name: &str, state: [u8; 152]) {
+fn withdrawals(name: &str, state: [u8; CBR_STATE_BYTES]) {
     const TIMES: usize = 100_000;
     let mut best = f64::MAX;
     for _ in 0..20 {
@@ -205,12 +206,12 @@ pub fn table(from: &[u8]) {
     // A quantiser of 1 allows three times three retries for each kind.
     let nine = [I, P, B, I, P, B, I, P, B];
     let work = Work::new(from, 34, &nine, 10_000, &[50_000, 50_000, 50_000], 4);
-    lines("306 of 10 KB, each behind three of 50 KB that are too large", &work);
+    lines("306 of 10 KB, each after three of 50 KB that are too large", &work);
 
     println!();
     println!("| withdrawals | this core, million/s |");
     println!("|---|---|");
-    let mut state = [0; 152];
+    let mut state = [0; CBR_STATE_BYTES];
     assert_eq!(create(&work, &mut state), 0);
     withdrawals("nothing pending", state);
     let p = &work.sequences[0][0];

@@ -1,5 +1,7 @@
 //! The original's answer to a case, as FORMAT.md lays it out.
 
+use crate::format::{ACCEPTED, Answer, number, words};
+use crate::lists::{AGAIN, CHECKED, EMITTED, FINISHED, NOT_EMITTED, SET, WITHDRAWN};
 use crate::{check, lists, model};
 use original::gop_header::{Mpeg2Gop, TimeCode, nominal_pictures_per_second, write_gop_header};
 use original::picture_header::{
@@ -35,14 +37,11 @@ pub const KINDS: [(&str, &[u8]); 19] = [
     ("patch_vbv_delay", &[20]),
     ("verify_cbr_stream, MPEG-1", &[1, 2, 3, 4, 5, 6, 7, 8, 9, 10, 11, 12, 15]),
     ("verify_cbr_stream, MPEG-2", &[1, 2, 3, 4, 5, 6, 7, 8, 9, 10, 11, 12, 15]),
-    ("CbrWriter", &[6, 7, 9, 12, 14, 17, 18, 19, 20, 21, 22, 29, 30, 31, 32, 33, 34, 35]),
+    (
+        "CbrWriter",
+        &[6, 7, 9, 12, 14, 17, 18, 19, 20, 21, 22, SET, AGAIN, WITHDRAWN, EMITTED, NOT_EMITTED, CHECKED, FINISHED],
+    ),
 ];
-
-/// The bytes of an answer, and what was met on the way to them: 0, or a refusal with its reason.
-pub struct Answer {
-    pub bytes: Vec<u8>,
-    pub met: Vec<(u8, &'static str)>,
-}
 
 pub fn answer(kind: u8, input: &[u8]) -> Answer {
     match kind {
@@ -62,7 +61,7 @@ pub fn answer(kind: u8, input: &[u8]) -> Answer {
         11 => parsed(6, TimeCode::from_display_index(number(&input[..8]), input[8]), time_code),
         12 => parsed(6, nominal_pictures_per_second(input[0]), |out, rate| put(out, &[rate.into()])),
         13 => parsed(6, Ok(profile_and_level_indication(chroma(input[0]))), |out, byte| put(out, &[byte.into()])),
-        14 => parsed(6, frame_rate_value(input[0]), |out, (frn, frd)| model::words(out, &[frn.into(), frd.into()])),
+        14 => parsed(6, frame_rate_value(input[0]), |out, (frn, frd)| words(out, &[frn.into(), frd.into()])),
         15 => model::calls(input),
         16 => model::patched(input),
         17 => check::checked(VbvStandard::Mpeg1, input),
@@ -70,10 +69,6 @@ pub fn answer(kind: u8, input: &[u8]) -> Answer {
         19 => lists::answer(input),
         _ => unreachable!("no kind {kind}"),
     }
-}
-
-pub fn number(bytes: &[u8]) -> u64 {
-    bytes.iter().rev().fold(0, |value, &b| value << 8 | u64::from(b))
 }
 
 /// Puts numbers of four bytes, the lowest first.
@@ -85,12 +80,12 @@ fn put(out: &mut Vec<u8>, numbers: &[u32]) {
 fn parsed<T>(bad: u8, result: Result<T>, fields: impl Fn(&mut Vec<u8>, T)) -> Answer {
     match result {
         Ok(value) => {
-            let mut bytes = vec![0];
-            fields(&mut bytes, value);
-            Answer { bytes, met: vec![(0, "")] }
+            let mut answer = Answer::of(ACCEPTED);
+            fields(&mut answer.bytes, value);
+            answer
         }
-        Err(Error::ShortHeader) => Answer { bytes: vec![1], met: vec![(1, "ShortHeader")] },
-        Err(Error::InvalidBitstream(reason)) => Answer { bytes: vec![bad], met: vec![(bad, reason)] },
+        Err(Error::ShortHeader) => Answer::of((1, "ShortHeader")),
+        Err(Error::InvalidBitstream(reason)) => Answer::of((bad, reason)),
     }
 }
 
@@ -98,23 +93,23 @@ fn parsed<T>(bad: u8, result: Result<T>, fields: impl Fn(&mut Vec<u8>, T)) -> An
 /// where the part is too short; either leaves the part as it was.
 fn written(unfit: bool, part: &[u8], write: impl Fn(&mut BitWriter)) -> Answer {
     let mut out = part.to_vec();
-    let (number, count, reason) = if unfit {
-        (16, 0, "a field is zero or too wide")
+    let (met, count) = if unfit {
+        ((16, "a field is zero or too wide"), 0)
     } else {
         let mut bw = BitWriter::new();
         write(&mut bw);
         let bytes = bw.finish();
         if part.len() < bytes.len() {
-            (19, 0, "the part is too short")
+            ((19, "the part is too short"), 0)
         } else {
             out[..bytes.len()].copy_from_slice(&bytes);
-            (0, bytes.len(), "")
+            (ACCEPTED, bytes.len())
         }
     };
-    let mut bytes = vec![number];
-    put(&mut bytes, &[count as u32]);
-    bytes.extend_from_slice(&out);
-    Answer { bytes, met: vec![(number, reason)] }
+    let mut answer = Answer::of(met);
+    put(&mut answer.bytes, &[count as u32]);
+    answer.bytes.extend_from_slice(&out);
+    answer
 }
 
 fn sequence_header_written(input: &[u8]) -> Answer {

@@ -1,7 +1,7 @@
 //! Inputs for kinds 14 to 16: lists of model calls, drawn around what the model allows at each step, and headers to patch.
 
 use crate::draw::Draw;
-use crate::model::{Call, FAR, MOST_BUFFER, MOST_FRD, MOST_FRN, MOST_RATE, Model};
+use crate::model::{BUFFER_UNIT, Call, FAR, MOST_BUFFER, MOST_FRD, MOST_FRN, MOST_RATE, Model, RATE_UNIT, widest};
 use crate::streams::FRAME_RATES;
 
 /// One input of a kind.
@@ -49,11 +49,6 @@ fn picture(d: &mut Draw) -> Vec<u8> {
     [&(d.value(16) as u16).to_le_bytes()[..], &part[..n]].concat()
 }
 
-/// The greatest buffer that a rate allows.
-fn widest(rate: u64) -> u64 {
-    (65_534 * rate / 90_000).min(MOST_BUFFER)
-}
-
 fn params(d: &mut Draw) -> [u64; 4] {
     let (frn, frd) = match d.below(4) {
         0 => (1 + d.next() % MOST_FRN, 1 + d.next() % MOST_FRD),
@@ -61,10 +56,10 @@ fn params(d: &mut Draw) -> [u64; 4] {
         _ => FRAME_RATES[d.below(8)],
     };
     let bits = 1 + d.below(39) as u32;
-    let rate = if d.one_in(2) { 400 * d.nonzero(18) } else { d.nonzero(bits).min(MOST_RATE) };
+    let rate = if d.one_in(2) { RATE_UNIT * d.nonzero(18) } else { d.nonzero(bits).min(MOST_RATE) };
     let buffer = match d.below(4) {
         0 => widest(rate) + d.below(2) as u64,
-        1 => (16_384 * d.nonzero(10)).min(widest(rate)),
+        1 => (BUFFER_UNIT * d.nonzero(10)).min(widest(rate)),
         _ => d.next() % (widest(rate) + 1),
     };
     let mut all = [rate, buffer, frn, frd];
@@ -102,7 +97,7 @@ fn list(params: [u64; 4], d: &mut Draw) -> Vec<u8> {
         input.push(call.which);
         input.extend(call.place.to_le_bytes());
         input.extend(call.small.to_le_bytes());
-        // Behind an overflow every removal overflows.
+        // After an overflow every removal overflows.
         if model.as_mut().is_some_and(|m| m.call(call).is_err_and(|((n, _), _)| n == 9)) && !d.one_in(4) {
             break;
         }

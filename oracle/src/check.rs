@@ -1,9 +1,10 @@
 //! Kinds 17 and 18: the check of a stream. The original has no refusal 15, and its 9 and 10 name the picture alone: these
 //! the oracle completes from pictures that it finds itself, run through the original's model.
 
-use crate::answers::{Answer, number};
-use crate::model::{Refusal, refusal};
-use crate::spans::spans;
+use crate::format::{ACCEPTED, Answer, Met, number, pattern, words};
+use crate::layout::VBV_RECORD_BYTES;
+use crate::model::{BUFFER_UNIT, RATE_UNIT, refusal};
+use crate::spans::{picture_codes, spans};
 use original::picture_header::{Mpeg2PictureHeader, PictureStructure};
 use original::sequence_extension::Mpeg2Sequence;
 use original::sequence_header::Mpeg2SequenceHeader;
@@ -12,7 +13,7 @@ use original::vbv::{
     frame_rate_value, oracle_scan_start_codes, verify_cbr_stream,
 };
 
-const PLACES: Refusal = (15, "fewer record places than pictures");
+const PLACES: Met = (15, "fewer record places than pictures");
 
 struct Picture {
     position: u64,
@@ -25,8 +26,8 @@ struct Picture {
 fn pictures(standard: VbvStandard, stream: &[u8]) -> Vec<Picture> {
     let codes = oracle_scan_start_codes(stream);
     let mut found = vec![];
-    for (at, behind) in spans(&codes) {
-        let end = match codes.get(behind) {
+    for (at, after) in spans(&codes) {
+        let end = match codes.get(after) {
             Some(&(offset, 0xB7)) => offset + 4,
             Some(&(offset, _)) => offset,
             None => stream.len(),
@@ -61,10 +62,10 @@ fn params(standard: VbvStandard, stream: &[u8]) -> VbvParams {
         }
     };
     let frame_rate = frame_rate_value(header.frame_rate_code).unwrap();
-    VbvParams::new(400 * u64::from(rate), 16_384 * u64::from(buffer), frame_rate)
+    VbvParams::new(RATE_UNIT * u64::from(rate), BUFFER_UNIT * u64::from(buffer), frame_rate)
 }
 
-/// The delay that the original's model expects of a picture behind others that it has removed.
+/// The delay that the original's model expects of a picture after others that it has removed.
 fn expected(standard: VbvStandard, stream: &[u8], all: &[Picture], picture: usize) -> u16 {
     let params = params(standard, stream);
     let mut model = VbvCbrModel::new(&params).unwrap();
@@ -76,7 +77,7 @@ fn expected(standard: VbvStandard, stream: &[u8], all: &[Picture], picture: usiz
 }
 
 /// The refusal of a violation, with its picture, coded and expected delay.
-fn violation(standard: VbvStandard, stream: &[u8], all: &[Picture], v: VbvViolation) -> (Refusal, [u64; 5]) {
+fn violation(standard: VbvStandard, stream: &[u8], all: &[Picture], v: VbvViolation) -> (Met, [u64; 5]) {
     let (refusal, picture) = match v {
         VbvViolation::Overflow { picture } => ((9, "overflow"), picture),
         VbvViolation::Underflow { picture } => ((10, "underflow"), picture),
@@ -92,7 +93,7 @@ fn violation(standard: VbvStandard, stream: &[u8], all: &[Picture], v: VbvViolat
 
 /// The report's values, with the records stored in the part.
 fn report(report: &VbvStreamReport, part: &mut [u8]) -> [u64; 5] {
-    for (record, place) in report.pictures.iter().zip(part.chunks_mut(32)) {
+    for (record, place) in report.pictures.iter().zip(part.chunks_mut(VBV_RECORD_BYTES)) {
         let words = [
             record.vbv_delay.into(),
             record.expected_delay.into(),
@@ -109,7 +110,7 @@ fn report(report: &VbvStreamReport, part: &mut [u8]) -> [u64; 5] {
 }
 
 /// What the original makes of a stream: its number and five words, the records stored in the part.
-pub fn judged(standard: VbvStandard, stream: &[u8], part: &mut [u8]) -> (Refusal, [u64; 5]) {
+pub fn judged(standard: VbvStandard, stream: &[u8], part: &mut [u8]) -> (Met, [u64; 5]) {
     let result = verify_cbr_stream(stream, standard);
     let run = match &result {
         Err(VbvVerifyError::Parse(e)) => matches!(refusal(*e).0, 7 | 8),
@@ -117,10 +118,10 @@ pub fn judged(standard: VbvStandard, stream: &[u8], part: &mut [u8]) -> (Refusal
     };
     let all = if run { pictures(standard, stream) } else { vec![] };
     match result {
-        _ if part.len() / 32 < all.len() => (PLACES, [0; 5]),
+        _ if part.len() / VBV_RECORD_BYTES < all.len() => (PLACES, [0; 5]),
         Ok(r) => {
             assert_eq!(r.pictures.len(), all.len(), "the oracle's own pictures are not the original's");
-            ((0, ""), report(&r, part))
+            (ACCEPTED, report(&r, part))
         }
         Err(VbvVerifyError::Parse(e)) => (refusal(e), [0; 5]),
         Err(VbvVerifyError::Violation(v)) => violation(standard, stream, &all, v),
@@ -130,26 +131,25 @@ pub fn judged(standard: VbvStandard, stream: &[u8], part: &mut [u8]) -> (Refusal
 
 /// The number, five words, and the record part.
 pub fn checked(standard: VbvStandard, input: &[u8]) -> Answer {
-    let mut part: Vec<u8> = (0..number(&input[..2])).map(|i| (i % 251) as u8).collect();
-    let (met, words) = judged(standard, &input[2..], &mut part);
-    let mut bytes = vec![met.0];
-    bytes.extend(words.iter().flat_map(|w| w.to_le_bytes()));
-    bytes.extend(part);
-    Answer { bytes, met: vec![met] }
+    let mut part = pattern(number(&input[..2]) as usize);
+    let (met, five) = judged(standard, &input[2..], &mut part);
+    let mut answer = Answer::of(met);
+    words(&mut answer.bytes, &five);
+    answer.bytes.extend(part);
+    answer
 }
 
 /// The answer for a stream with places for all of its pictures, in the lines of `vbvcheck`.
 pub fn lines(standard: VbvStandard, stream: &[u8]) -> String {
-    let mut part = vec![0; 32 * stream.windows(4).filter(|w| w == &[0, 0, 1, 0]).count()];
-    let ((number, _), words) = judged(standard, stream, &mut part);
+    let mut part = vec![0; VBV_RECORD_BYTES * picture_codes(stream)];
+    let ((refused, _), words) = judged(standard, stream, &mut part);
     let line = |words: &[u64]| words.iter().map(u64::to_string).collect::<Vec<_>>().join(" ") + "\n";
-    if number != 0 {
-        return "refused picture coded expected\n".to_string() + &line(&[&[number.into()], &words[..3]].concat());
+    if refused != 0 {
+        return "refused picture coded expected\n".to_string() + &line(&[&[refused.into()], &words[..3]].concat());
     }
-    let word = |bytes: &[u8]| u64::from_le_bytes(bytes.try_into().unwrap());
-    let records = part.chunks(32).take(words[2] as usize);
+    let records = part.chunks(VBV_RECORD_BYTES).take(words[2] as usize);
     "bit_rate buffer_bits pictures min_after max_before\n".to_string()
         + &line(&words)
         + "delay expected data_bits occupancy_before\n"
-        + &records.map(|r| line(&r.chunks(8).map(word).collect::<Vec<_>>())).collect::<String>()
+        + &records.map(|r| line(&r.chunks(8).map(number).collect::<Vec<_>>())).collect::<String>()
 }

@@ -2,6 +2,8 @@
 
 use crate::draw::Draw;
 use crate::headers::damage;
+use crate::layout::VBV_RECORD_BYTES;
+use crate::spans::picture_codes;
 use crate::streams::{self, Fault};
 use original::vbv::{VbvStandard, verify_cbr_stream};
 
@@ -16,19 +18,19 @@ pub fn drawn(kind: u8, d: &mut Draw) -> Vec<u8> {
             damage(&mut stream, d);
         }
     }
-    let n = pictures(&stream);
+    let n = picture_codes(&stream);
     let places = match d.below(8) {
         0 => d.below(n + 1),
         1 => n + d.below(3),
         _ => n,
     };
-    let more = if d.one_in(4) { d.below(32) } else { 0 };
-    input(32 * places + more, &stream)
+    let more = if d.one_in(4) { d.below(VBV_RECORD_BYTES) } else { 0 };
+    input(VBV_RECORD_BYTES * places + more, &stream)
 }
 
 /// A stream with room for its records, and for three at least.
 pub fn with_room(stream: &[u8]) -> Vec<u8> {
-    input(32 * pictures(stream).max(3), stream)
+    input(VBV_RECORD_BYTES * picture_codes(stream).max(3), stream)
 }
 
 /// What the original answers, in words.
@@ -54,12 +56,7 @@ fn a_stream(mpeg2: bool, d: &mut Draw) -> Vec<u8> {
 }
 
 fn input(part: usize, stream: &[u8]) -> Vec<u8> {
-    [&(part.min(32 * MOST_PLACES) as u16).to_le_bytes()[..], stream].concat()
-}
-
-/// At least as many pictures as the original finds.
-fn pictures(stream: &[u8]) -> usize {
-    stream.windows(4).filter(|w| w == &[0, 0, 1, 0]).count()
+    [&(part.min(VBV_RECORD_BYTES * MOST_PLACES) as u16).to_le_bytes()[..], stream].concat()
 }
 
 /// Bytes at random, many of them 00 or 01, and start codes.
@@ -81,24 +78,24 @@ fn noise(d: &mut Draw) -> Vec<u8> {
 pub fn edges(kind: u8, d: &mut Draw, put: &mut impl FnMut(&[u8])) {
     for _ in 0..8 {
         let stream = short(kind == 18, d);
-        let n = pictures(&stream);
-        for part in 0..32 * (n + 1) {
+        let n = picture_codes(&stream);
+        for part in 0..VBV_RECORD_BYTES * (n + 1) {
             put(&input(part, &stream));
         }
         for i in 0..stream.len() {
-            put(&input(32 * n, &stream[..i]));
+            put(&input(VBV_RECORD_BYTES * n, &stream[..i]));
             for bit in 0..8 {
                 let mut other = stream.clone();
                 other[i] ^= 1 << bit;
-                put(&input(32 * (n + 1), &other));
+                put(&input(VBV_RECORD_BYTES * (n + 1), &other));
             }
             let mut other = stream.clone();
             let byte = other.remove(i);
-            put(&input(32 * n, &other));
+            put(&input(VBV_RECORD_BYTES * n, &other));
             other.splice(i..i, [byte, byte]);
-            put(&input(32 * n, &other));
+            put(&input(VBV_RECORD_BYTES * n, &other));
             other[i + 1] = 0;
-            put(&input(32 * n, &other));
+            put(&input(VBV_RECORD_BYTES * n, &other));
         }
     }
 }
@@ -107,7 +104,7 @@ pub fn edges(kind: u8, d: &mut Draw, put: &mut impl FnMut(&[u8])) {
 fn short(mpeg2: bool, d: &mut Draw) -> Vec<u8> {
     loop {
         let stream = streams::drawn(mpeg2, Fault::None, d);
-        if stream.len() <= 150 && 2 <= pictures(&stream) {
+        if stream.len() <= 150 && 2 <= picture_codes(&stream) {
             return stream;
         }
     }

@@ -1,4 +1,4 @@
-// `oracle/build` puts this behind the original's `emit`: a writer that the oracle can see.
+// `oracle/build` puts this after the original's `emit`: a writer that the oracle can see.
 
 pub struct OracleWriter(CbrWriter);
 

@@ -110,6 +110,19 @@ pub fn picture_coding_extension(d: &mut Draw) -> Vec<Field> {
     f
 }
 
+/// Bytes in which no start code can be.
+pub fn filler(n: usize, d: &mut Draw) -> Vec<u8> {
+    (0..n).map(|_| 2 + d.below(254) as u8).collect()
+}
+
+pub fn group(d: &mut Draw) -> Vec<u8> {
+    [&[0, 0, 1, 0xB8][..], &filler(4, d)].concat()
+}
+
+pub fn user_data(n: usize, d: &mut Draw) -> Vec<u8> {
+    [&[0, 0, 1, 0xB2][..], &filler(n, d)].concat()
+}
+
 /// A shape to draw from.
 fn shape(d: &mut Draw) -> Shape {
     let extra = match d.below(4) {
@@ -184,7 +197,7 @@ pub fn damage(bytes: &mut Vec<u8>, d: &mut Draw) {
     }
 }
 
-/// Puts another code behind the last start code prefix, unless that is the first.
+/// Puts another code after the last start code prefix, unless that is the first.
 fn another_code(bytes: &mut [u8], d: &mut Draw) {
     let at = bytes.windows(3).rposition(|w| w == [0, 0, 1]).unwrap_or(0);
     if 0 < at && at + 3 < bytes.len() {
@@ -192,7 +205,7 @@ fn another_code(bytes: &mut [u8], d: &mut Draw) {
     }
 }
 
-/// All inputs of at most two bytes, alone and behind the start code.
+/// All inputs of at most two bytes, alone and after the start code.
 pub fn short(kind: u8, put: &mut impl FnMut(&[u8])) {
     for front in [&[][..], &start_code(kind)[..]] {
         put(front);
@@ -239,7 +252,7 @@ pub fn edges(kind: u8, d: &mut Draw, put: &mut impl FnMut(&[u8])) {
     }
 }
 
-/// A copy with a zero field, cut at each of the four bytes behind the fields before it: which refusal comes first?
+/// A copy with a zero field, cut at each of the four bytes after the fields before it: which refusal comes first?
 fn each_cut_from(bytes: &[u8], before: &[Field], put: &mut impl FnMut(&[u8])) {
     let at = whole_bytes(before);
     for n in at..(at + 4).min(bytes.len()) {

@@ -1,24 +1,24 @@
 //! Kind 19: lists of calls of the constant-rate writer. The answer is the model's (writer.rs); on the way the original's `emit`
 //! runs beside it, and then the original's check over what was handed out.
 
-use crate::answers::{Answer, number};
-use crate::model::{interval, words};
+use crate::format::{ACCEPTED, Answer, Met, number, pattern, words};
+use crate::model::interval;
 use crate::writer::{Config, Offer, Told, Writer};
 use original::rate_control::OracleWriter;
 use original::vbv::{VbvStandard, verify_cbr_stream};
 
-/// Answers that are no refusals, and what else is counted.
-const SET: u8 = 29;
-const AGAIN: u8 = 30;
-const WITHDRAWN: u8 = 31;
-const EMITTED: u8 = 32;
-const NOT_EMITTED: u8 = 33;
-const CHECKED: u8 = 34;
-const FINISHED: u8 = 35;
+/// Answers that are no refusals, and what else is counted: above all numbers that a refusal may have.
+pub const SET: u8 = 129;
+pub const AGAIN: u8 = 130;
+pub const WITHDRAWN: u8 = 131;
+pub const EMITTED: u8 = 132;
+pub const NOT_EMITTED: u8 = 133;
+pub const CHECKED: u8 = 134;
+pub const FINISHED: u8 = 135;
 
 /// What the answers are called.
-const REASONS: [(u8, &str); 19] = [
-    (0, ""),
+const REASONS: [Met; 19] = [
+    ACCEPTED,
     (6, "rate code not 1 to 8"),
     (7, "position beyond delivered bits"),
     (9, "the first delay overflows"),
@@ -39,7 +39,7 @@ const REASONS: [(u8, &str); 19] = [
     (FINISHED, "of these finished"),
 ];
 
-fn met(number: u8) -> (u8, &'static str) {
+fn met(number: u8) -> Met {
     *REASONS.iter().find(|r| r.0 == number).unwrap()
 }
 
@@ -79,7 +79,7 @@ pub enum Call {
     State(u64, u64),
 }
 
-/// A call, the length of its output part, and the bytes behind it.
+/// A call, the length of its output part, and the bytes after it.
 pub fn call(s: &[u8]) -> (Call, usize, &[u8]) {
     let length = |at: usize| number(&s[at..at + 2]) as usize;
     let (middle, end) = (10 + length(4), 10 + length(4) + length(6));
@@ -97,27 +97,27 @@ pub fn call(s: &[u8]) -> (Call, usize, &[u8]) {
     (call, length(8), &s[end..])
 }
 
-/// What an output part holds before its offer.
-pub fn pattern(n: usize) -> Vec<u8> {
-    (0..n).map(|i| (i % 251) as u8).collect()
-}
-
 /// The original beside the model, and all that was handed out.
 struct Beside {
     original: OracleWriter,
     /// The offers of the pending picture.
     tries: Vec<Offer>,
-    /// False behind a picture that `emit` cannot have seen so: one whose offers are not alike but for their layers.
+    /// False after a picture that `emit` cannot have seen so: one whose offers are not alike but for their layers.
     compared: bool,
-    /// False behind a state set by hand.
+    /// False after a state set by hand.
     whole: bool,
     handed_out: Vec<u8>,
     pictures: Vec<(u16, u64)>,
     quantisers: Vec<u8>,
-    met: Vec<(u8, &'static str)>,
+    met: Vec<Met>,
 }
 
 impl Beside {
+    fn new(original: OracleWriter) -> Self {
+        let (tries, handed_out, pictures, quantisers, met) = (vec![], vec![], vec![], vec![], vec![]);
+        Self { original, tries, compared: true, whole: true, handed_out, pictures, quantisers, met }
+    }
+
     /// Runs `emit` with the tries' layers, in turn.
     fn emit(&self, original: &mut OracleWriter, qs: &mut Vec<u8>) -> bool {
         let o = &self.tries[0];
@@ -131,6 +131,16 @@ impl Beside {
     fn alike(&self) -> bool {
         let first = &self.tries[0];
         self.tries.iter().all(|t| Offer { layer: vec![], ..t.clone() } == Offer { layer: vec![], ..first.clone() })
+    }
+
+    /// After a state set by hand.
+    fn set(&mut self) {
+        (self.compared, self.whole) = (false, false);
+    }
+
+    /// After a withdrawal.
+    fn withdrawn(&mut self) {
+        self.tries.clear();
     }
 
     /// After an offer that was placed, asked for again or refused.
@@ -151,12 +161,7 @@ impl Beside {
             }
             Told::Refused(n @ (7 | 9 | 21 | 22)) => {
                 if self.compared && self.alike() {
-                    let (mut copy, mut qs) = (self.original.copy(), vec![]);
-                    assert!(!self.emit(&mut copy, &mut qs), "emit does not refuse where the answer is {n}");
-                    // It finds 7 before it asks for a layer, and 9 only where the size lets it.
-                    let asked = if n == 7 { 0 } else { self.tries.len() };
-                    assert!(n == 9 || qs.len() == asked, "emit refuses for another reason than {n}");
-                    self.met.push(met(NOT_EMITTED));
+                    self.refused(n);
                 }
                 self.tries.pop();
                 if n == 21 {
@@ -165,6 +170,15 @@ impl Beside {
             }
             _ => {}
         }
+    }
+
+    fn refused(&mut self, n: u8) {
+        let (mut copy, mut qs) = (self.original.copy(), vec![]);
+        assert!(!self.emit(&mut copy, &mut qs), "emit does not refuse where the answer is {n}");
+        // It finds 7 before it asks for a layer, and 9 only where the size lets it.
+        let asked = if n == 7 { 0 } else { self.tries.len() };
+        assert!(n == 9 || qs.len() == asked, "emit refuses for another reason than {n}");
+        self.met.push(met(NOT_EMITTED));
     }
 
     fn placed(&mut self, after: &Writer, q: u8) {
@@ -225,49 +239,44 @@ pub fn configured(input: &[u8]) -> Config {
     }
 }
 
+/// Makes a call on the model, with the original beside it: the answer's number and words.
+fn called(call: Call, w: &mut Writer, beside: &mut Beside, part: &mut [u8]) -> (u8, [u64; 4]) {
+    match call {
+        Call::Withdrawal => {
+            w.withdraw();
+            beside.withdrawn();
+            (WITHDRAWN, [0; 4])
+        }
+        Call::State(end, whole) => {
+            w.set(end, whole);
+            beside.set();
+            (SET, [0; 4])
+        }
+        Call::Offer(o) => {
+            let told = w.offer(&o, part);
+            beside.offered(w, &o, told, part);
+            in_words(told)
+        }
+    }
+}
+
 pub fn answer(input: &[u8]) -> Answer {
     let c = configured(input);
     let mut w = match Writer::create(c) {
         Ok(w) => w,
-        Err(n) => return Answer { bytes: vec![n], met: vec![met(n)] },
+        Err(n) => return Answer::of(met(n)),
     };
     let original = OracleWriter::new(c.rate, c.buffer, c.rate_code, c.q, c.between, c.anchors);
     assert_eq!(original.targets(), w.targets);
-    let mut beside = Beside {
-        original,
-        tries: vec![],
-        compared: true,
-        whole: true,
-        handed_out: vec![],
-        pictures: vec![],
-        quantisers: vec![],
-        met: vec![],
-    };
+    let mut beside = Beside::new(original);
     let mut answer = Answer { bytes: vec![0], met: vec![] };
     words(&mut answer.bytes, &w.targets);
     let mut rest = &input[11..];
     while !rest.is_empty() {
-        let (call, part, behind) = call(rest);
-        rest = behind;
+        let (call, part, after) = call(rest);
+        rest = after;
         let mut part = pattern(part);
-        let (number, told) = match call {
-            Call::Withdrawal => {
-                w.withdraw();
-                beside.tries.clear();
-                (WITHDRAWN, [0; 4])
-            }
-            Call::State(end, whole) => {
-                w.set(end, whole);
-                beside.whole = false;
-                beside.compared = false;
-                (SET, [0; 4])
-            }
-            Call::Offer(o) => {
-                let told = w.offer(&o, &mut part);
-                beside.offered(&w, &o, told, &part);
-                in_words(told)
-            }
-        };
+        let (number, told) = called(call, &mut w, &mut beside, &mut part);
         answer.met.push(met(number));
         answer.bytes.push(number);
         words(&mut answer.bytes, &told);

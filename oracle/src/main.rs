@@ -12,7 +12,7 @@
 
 use oracle::answers::{KINDS, answer};
 use oracle::draw::Draw;
-use oracle::{calls, check, checks, headers, known, sends, writers};
+use oracle::{calls, check, checks, headers, known, lists, sends, writers};
 use original::vbv::VbvStandard;
 use std::collections::BTreeMap;
 use std::io::{BufWriter, Stdout, Write, stdout};
@@ -77,7 +77,7 @@ impl Cases {
             for &number in refusals {
                 for ((_, _, reason), n) in of(number) {
                     match number {
-                        29.. => eprintln!("    {n} {reason}"),
+                        lists::SET.. => eprintln!("    {n} {reason}"),
                         _ => eprintln!("    {n} refused {number}: {reason}"),
                     }
                 }
@@ -111,56 +111,72 @@ fn stream(standard: &str, file: &str) {
     print!("{}", check::lines(standard, &bytes));
 }
 
+/// What the command line asks for.
+struct Asked {
+    known: bool,
+    short: bool,
+    edges: bool,
+    small: bool,
+    seed: u64,
+    count: u64,
+    kinds: Vec<u8>,
+}
+
+fn asked(mut words: Vec<String>) -> Option<Asked> {
+    let mut flag = |name: &str| {
+        let at = words.iter().position(|w| w == name);
+        at.map(|i| words.remove(i)).is_some()
+    };
+    let (known, short, edges, small) = (flag("known"), flag("short"), flag("edges"), flag("small"));
+    let numbers = words.iter().map(|w| w.parse().ok()).collect::<Option<Vec<u64>>>()?;
+    let [seed, count, kinds @ ..] = &numbers[..] else { return None };
+    let mut kinds: Vec<u8> = kinds.iter().map(|&k| k as u8).collect();
+    if small {
+        kinds.push(19);
+    }
+    let some = !kinds.is_empty() && kinds.iter().all(|k| (1..=19).contains(k));
+    let alone = !kinds.contains(&19) || kinds.len() == 1;
+    (some && alone).then_some(Asked { known, short, edges, small, seed: *seed, count: *count, kinds })
+}
+
+/// Writes all cases that are asked for.
+fn write(asked: &Asked) -> Cases {
+    let mut d = Draw(asked.seed);
+    let mut cases = Cases { out: BufWriter::new(stdout()), seen: BTreeMap::new(), count: 0 };
+    for &kind in &asked.kinds {
+        if asked.known {
+            cases.known(kind);
+        }
+        if asked.short {
+            cases.short(kind);
+        }
+        if asked.edges {
+            cases.edges(kind, &mut d);
+        }
+    }
+    let lots: Vec<u8> = asked.kinds.iter().flat_map(|&k| vec![k; WEIGHTS[k as usize - 1]]).collect();
+    for _ in 0..asked.count {
+        let kind = lots[d.below(lots.len())];
+        let input = if asked.small { sends::small(&mut d) } else { drawn(kind, &mut d) };
+        cases.put(kind, &input);
+    }
+    cases.out.flush().unwrap_or_else(|_| exit(1));
+    cases
+}
+
 fn main() {
-    let mut words: Vec<String> = std::env::args().skip(1).collect();
+    let words: Vec<String> = std::env::args().skip(1).collect();
     if let [mode, standard @ ("1" | "2"), file] = &words.iter().map(String::as_str).collect::<Vec<_>>()[..] {
         if *mode == "stream" {
             return stream(standard, file);
         }
     }
-    let mut flag = |name: &str| {
-        let at = words.iter().position(|w| w == name);
-        at.map(|i| words.remove(i)).is_some()
-    };
-    let (known, short, edges) = (flag("known"), flag("short"), flag("edges"));
-    let small = flag("small");
-    let numbers: Vec<u64> = words.iter().filter_map(|w| w.parse().ok()).collect();
-    let mut kinds: Vec<u8> = numbers.iter().skip(2).map(|&k| k as u8).collect();
-    if small {
-        kinds.push(19);
-    }
-    if numbers.len() < 2
-        || numbers.len() != words.len()
-        || kinds.is_empty()
-        || kinds.iter().any(|k| !(1..=19).contains(k))
-        || kinds.contains(&19) && 1 < kinds.len()
-    {
+    let Some(asked) = asked(words) else {
         eprintln!("usage: cases [known] [short] [edges] SEED COUNT KIND..|19|small");
         eprintln!("       cases stream 1|2 FILE");
         exit(2);
-    }
-
-    let mut d = Draw(numbers[0]);
-    let mut cases = Cases { out: BufWriter::new(stdout()), seen: BTreeMap::new(), count: 0 };
-    for &kind in &kinds {
-        if known {
-            cases.known(kind);
-        }
-        if short {
-            cases.short(kind);
-        }
-        if edges {
-            cases.edges(kind, &mut d);
-        }
-    }
-    let lots: Vec<u8> = kinds.iter().flat_map(|&k| vec![k; WEIGHTS[k as usize - 1]]).collect();
-    for _ in 0..numbers[1] {
-        let kind = lots[d.below(lots.len())];
-        let input = if small { sends::small(&mut d) } else { drawn(kind, &mut d) };
-        cases.put(kind, &input);
-    }
-    cases.out.flush().unwrap_or_else(|_| exit(1));
-    if !cases.report(&kinds) {
+    };
+    if !write(&asked).report(&asked.kinds) {
         exit(1);
     }
 }

@@ -1,7 +1,7 @@
 //! Kinds 14 to 16: the frame rates, calls of the buffer model, and the delay in a picture header.
 //! The original has no refusal 13 or 14 and no upper limit of a parameter: these the oracle decides by the rule of paper 01.
 
-use crate::answers::{Answer, number};
+use crate::format::{ACCEPTED, Answer, Met, number, words};
 use original::Error;
 use original::vbv::{RemovalInterval, VbvCbrModel, VbvParams, VbvViolation, patch_vbv_delay};
 
@@ -11,15 +11,20 @@ pub const MOST_FRN: u64 = 240_000;
 pub const MOST_FRD: u64 = 32_032;
 /// The greatest position and end.
 pub const FAR: u64 = 1 << 48;
+/// Bits that the rate and buffer fields of a sequence header count in.
+pub const RATE_UNIT: u64 = 400;
+pub const BUFFER_UNIT: u64 = 16_384;
 
-/// A refusal: its number and the reason.
-pub type Refusal = (u8, &'static str);
+/// The greatest buffer that a rate allows.
+pub fn widest(rate: u64) -> u64 {
+    (65_534 * u128::from(rate) / 90_000).min(MOST_BUFFER.into()) as u64
+}
 
-const PARAMETER: Refusal = (12, "a parameter above its range");
-const NOT_STARTED: Refusal = (13, "not started");
-const STARTED_TWICE: Refusal = (13, "started twice");
-const FAR_OUT: Refusal = (14, "a position or an end above 2^48");
-const BACK: Refusal = (14, "an end below the previous one");
+const PARAMETER: Met = (12, "a parameter above its range");
+const NOT_STARTED: Met = (13, "not started");
+const STARTED_TWICE: Met = (13, "started twice");
+const FAR_OUT: Met = (14, "a position or an end above 2^48");
+const BACK: Met = (14, "an end below the previous one");
 
 /// A call: which (1 to 6), its position or end, its delay or its interval.
 #[derive(Clone, Copy)]
@@ -40,7 +45,7 @@ pub fn interval(code: u16) -> RemovalInterval {
 }
 
 /// The number of the original's refusal of a model or of a stream.
-pub fn refusal(error: Error) -> Refusal {
+pub fn refusal(error: Error) -> Met {
     let Error::InvalidBitstream(reason) = error else { return (1, "ShortHeader") };
     let number = match reason {
         "VBV verify: no sequence header" => 3,
@@ -57,7 +62,7 @@ pub fn refusal(error: Error) -> Refusal {
 }
 
 impl Model {
-    pub fn new([rate, buffer, frn, frd]: [u64; 4]) -> Result<Self, Refusal> {
+    pub fn new([rate, buffer, frn, frd]: [u64; 4]) -> Result<Self, Met> {
         if rate > MOST_RATE || buffer > MOST_BUFFER || frn > MOST_FRN || frd > MOST_FRD {
             return Err(PARAMETER);
         }
@@ -71,8 +76,8 @@ impl Model {
     }
 
     /// The words of the answer, or the refusal with its words (the picture of 9 and 10).
-    pub fn call(&mut self, c: Call) -> Result<Vec<u64>, (Refusal, Vec<u64>)> {
-        let plain = |r: Refusal| Err((r, vec![]));
+    pub fn call(&mut self, c: Call) -> Result<Vec<u64>, (Met, Vec<u64>)> {
+        let plain = |r: Met| Err((r, vec![]));
         if c.which == 1 && self.started {
             return plain(STARTED_TWICE);
         }
@@ -106,26 +111,22 @@ impl Model {
     }
 }
 
-pub fn words(out: &mut Vec<u8>, words: &[u64]) {
-    out.extend(words.iter().flat_map(|w| w.to_le_bytes()));
-}
-
 /// Kind 15: the answer of `new`, then of each call.
 pub fn calls(input: &[u8]) -> Answer {
     let params = [0, 8, 16, 24].map(|at| number(&input[at..at + 8]));
     let mut model = match Model::new(params) {
         Ok(model) => model,
-        Err(r) => return Answer { bytes: vec![r.0], met: vec![r] },
+        Err(refused) => return Answer::of(refused),
     };
-    let mut answer = Answer { bytes: vec![0], met: vec![(0, "")] };
+    let mut answer = Answer::of(ACCEPTED);
     for c in input[32..].chunks(11) {
         let call = Call { which: c[0], place: number(&c[1..9]), small: number(&c[9..11]) as u16 };
-        let ((number, reason), value) = match model.call(call) {
-            Ok(value) => ((0, ""), value),
+        let (met, value) = match model.call(call) {
+            Ok(value) => (ACCEPTED, value),
             Err(refused) => refused,
         };
-        answer.met.push((number, reason));
-        answer.bytes.push(number);
+        answer.met.push(met);
+        answer.bytes.push(met.0);
         words(&mut answer.bytes, &value);
     }
     answer
@@ -135,11 +136,11 @@ pub fn calls(input: &[u8]) -> Answer {
 pub fn patched(input: &[u8]) -> Answer {
     let mut picture = input[2..].to_vec();
     let met = match patch_vbv_delay(&mut picture, number(&input[..2]) as u16) {
-        Ok(()) => (0, ""),
+        Ok(()) => ACCEPTED,
         Err(Error::InvalidBitstream(reason)) => (20, reason),
         Err(Error::ShortHeader) => unreachable!("patch_vbv_delay reads no header"),
     };
-    let mut bytes = vec![met.0];
-    bytes.extend(picture);
-    Answer { bytes, met: vec![met] }
+    let mut answer = Answer::of(met);
+    answer.bytes.extend(picture);
+    answer
 }

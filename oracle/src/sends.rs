@@ -1,8 +1,9 @@
 //! Inputs for kind 19: lists of calls, drawn call by call with the model at hand, so that sizes lie around the limits.
 
 use crate::draw::Draw;
-use crate::headers::{self, Field, damage, pack};
+use crate::headers::{self, Field, damage, filler, pack, user_data};
 use crate::lists::{add_offer, add_state, add_withdrawal, answer, config};
+use crate::model::{BUFFER_UNIT, FAR};
 use crate::streams::least_rate;
 use crate::writer::{Config, Offer, Told, Writer};
 
@@ -41,15 +42,6 @@ fn a_config(d: &mut Draw) -> Config {
     c
 }
 
-/// Bytes in which no start code can be, but for zeros at the end.
-fn filler(n: usize, d: &mut Draw) -> Vec<u8> {
-    (0..n).map(|_| 2 + d.below(254) as u8).collect()
-}
-
-fn user_data(n: usize, d: &mut Draw) -> Vec<u8> {
-    [&[0, 0, 1, 0xB2][..], &filler(n, d)].concat()
-}
-
 fn sequence(c: &Config, d: &mut Draw) -> Vec<u8> {
     let matrices = if d.one_in(16) { d.below(4) } else { 0 };
     let mut header = headers::sequence_header(matrices, d);
@@ -75,7 +67,7 @@ fn some_headers(w: &Writer, c: &Config, d: &mut Draw) -> Vec<u8> {
         h.extend(sequence(c, d));
     }
     if d.one_in(3) {
-        h.extend([&[0, 0, 1, 0xB8][..], &filler(4, d)].concat());
+        h.extend(headers::group(d));
     }
     if d.one_in(6) {
         let n = d.below(12);
@@ -163,9 +155,9 @@ fn a_layer(kind: usize, field: bool, length: u64, d: &mut Draw) -> Vec<u8> {
         damage(&mut l, d);
     }
     if d.one_in(24) {
-        let behind = l.split_off(l.len().min(30));
+        let rest = l.split_off(l.len().min(30));
         damage(&mut l, d);
-        l.extend(behind);
+        l.extend(rest);
     }
     if d.one_in(64) {
         l.extend([vec![0, 0, 1], vec![0, 0, 1, d.byte(), 5], vec![0, 0, 1, 0xB5, 0x80]][d.below(3)].clone());
@@ -173,17 +165,18 @@ fn a_layer(kind: usize, field: bool, length: u64, d: &mut Draw) -> Vec<u8> {
     l
 }
 
-/// A layer's length: small, around the greatest, around the bounds of the quantiser's steps, or beyond; behind a state set by
+/// A layer's length: small, around the greatest, around the bounds of the quantiser's steps, or beyond; after a state set by
 /// hand also around 2^48.
 fn length(w: &Writer, o: &Offer, d: &mut Draw) -> u64 {
     let tail = if o.last { 4 } else { 0 };
     let most = w.room(o.headers.len()).saturating_sub(o.headers.len() as u64 + tail);
     let target = w.targets[o.kind] / 8;
     let near = |n: u64, d: &mut Draw| (n + d.below(4) as u64).saturating_sub(2);
-    let before = (1 << 47) < w.end && w.end <= 1 << 48;
+    let end = w.end as u64;
+    let before = FAR / 2 < end && end <= FAR;
     match d.below(12) {
         _ if before && d.one_in(2) => {
-            let left = ((1 << 48) - w.end as u64) / 8;
+            let left = (FAR - end) / 8;
             near(left.saturating_sub(o.headers.len() as u64 + tail), d)
         }
         0 | 1 => 0,
@@ -234,10 +227,10 @@ fn a_part(w: &Writer, o: &Offer, d: &mut Draw) -> usize {
     }
 }
 
-/// An end, and bits delivered in the buffer's range behind it, near 2^48.
+/// An end, and bits delivered in the buffer's range after it, near 2^48.
 fn a_far_state(c: &Config, d: &mut Draw) -> (u64, u64) {
-    let end = (1 << 48) - 8 * [d.below(40), d.below(400), d.below(4000)][d.below(3)] as u64;
-    let most = 16_384 * u64::from(c.buffer);
+    let end = FAR - 8 * [d.below(40), d.below(400), d.below(4000)][d.below(3)] as u64;
+    let most = BUFFER_UNIT * u64::from(c.buffer);
     (end, end + [most, d.next() % (most + 1), most - d.next() % (most.min(64) + 1)][d.below(3)])
 }
 

@@ -1,10 +1,10 @@
 //! A writer's state as bytes, read and written by docs/LAYOUT.md and docs/DECISIONS.md alone.
 
-use crate::model::{FAR, MOST_BUFFER, MOST_FRD, MOST_FRN, MOST_RATE};
+use crate::layout::CBR_STATE_BYTES;
+use crate::model::{FAR, MOST_FRD, MOST_FRN, MOST_RATE, widest};
 use crate::writer::Writer;
 
-pub const WORDS: usize = 19;
-pub const BYTES: usize = 8 * WORDS;
+pub const WORDS: usize = CBR_STATE_BYTES / 8;
 
 /// The words of a writer.
 pub fn words(w: &Writer) -> [u64; WORDS] {
@@ -20,13 +20,13 @@ pub fn words(w: &Writer) -> [u64; WORDS] {
 
 /// The words that bytes begin with.
 pub fn words_of(bytes: &[u8]) -> Option<[u64; WORDS]> {
-    let bytes = bytes.get(..BYTES)?;
+    let bytes = bytes.get(..CBR_STATE_BYTES)?;
     Some(std::array::from_fn(|k| u64::from_le_bytes(bytes[8 * k..8 * k + 8].try_into().unwrap())))
 }
 
 /// The greatest value of each word, beside the others.
 pub fn limits(s: &[u64; WORDS]) -> [u64; WORDS] {
-    let buffer = (65_534 * u128::from(s[0]) / 90_000).min(MOST_BUFFER.into()) as u64;
+    let buffer = widest(s[0]);
     let rest = (180_000 * u128::from(s[2])).saturating_sub(1) as u64;
     let bytes = s[6] / 8;
     let q = if s[15] == 0 { 0 } else { 31 };

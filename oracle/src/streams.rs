@@ -1,8 +1,8 @@
 //! Streams for kinds 17 and 18, made picture by picture with the original's model: valid ones, and ones with a fault.
 
 use crate::draw::Draw;
-use crate::headers::{self, pack};
-use crate::model::{Call, Model};
+use crate::headers::{self, filler, pack};
+use crate::model::{BUFFER_UNIT, Call, Model, RATE_UNIT};
 
 pub const FRAME_RATES: [(u64, u64); 8] =
     [(24_000, 1001), (24, 1), (25, 1), (30_000, 1001), (30, 1), (50, 1), (60_000, 1001), (60, 1)];
@@ -30,7 +30,7 @@ pub enum Fault {
     Ratio,
     /// The low 18 bits of the rate are zero.
     LowRate,
-    /// The sequence header stands behind a picture.
+    /// The sequence header stands after a picture.
     Late,
     NoSequence,
     NoPicture,
@@ -80,7 +80,7 @@ struct Stream {
 
 /// The least rate field that allows a buffer field.
 pub fn least_rate(buffer: u64) -> u64 {
-    (90_000 * 16_384 * buffer).div_ceil(65_534 * 400)
+    (90_000 * BUFFER_UNIT * buffer).div_ceil(65_534 * RATE_UNIT)
 }
 
 /// None in half of the cases.
@@ -129,7 +129,7 @@ fn plan(mpeg2: bool, fault: Fault, d: &mut Draw) -> Plan {
 pub fn drawn(mpeg2: bool, fault: Fault, d: &mut Draw) -> Vec<u8> {
     let plan = plan(mpeg2, fault, d);
     let (frn, frd) = FRAME_RATES[plan.rate_code.clamp(1, 8) as usize - 1];
-    let model = Model::new([400 * plan.rate, 16_384 * plan.buffer, frn, frd]).ok();
+    let model = Model::new([RATE_UNIT * plan.rate, BUFFER_UNIT * plan.buffer, frn, frd]).ok();
     let mut stream = Stream { plan, model, bytes: vec![] };
     let late = stream.plan.fault == Fault::Late;
     if !late && stream.plan.fault != Fault::NoSequence {
@@ -143,11 +143,6 @@ pub fn drawn(mpeg2: bool, fault: Fault, d: &mut Draw) -> Vec<u8> {
         }
     }
     stream.bytes
-}
-
-/// Bytes in which no start code can be.
-fn filler(n: usize, d: &mut Draw) -> Vec<u8> {
-    (0..n).map(|_| 2 + d.below(254) as u8).collect()
 }
 
 fn asked(model: &mut Model, which: u8, small: u16) -> u64 {
@@ -189,12 +184,12 @@ impl Stream {
             (self.plan.rate, self.plan.buffer) = declared;
         }
         if d.one_in(8) {
-            self.put(&[&[0, 0, 1, 0xB8][..], &filler(4, d)].concat());
+            self.put(&headers::group(d));
         }
         if d.one_in(8) || self.faulty(n, Fault::Early) {
             let most = if self.faulty(n, Fault::Early) { 150 } else { 12 };
             let length = d.below(most);
-            self.put(&[&[0, 0, 1, 0xB2][..], &filler(length, d)].concat());
+            self.put(&headers::user_data(length, d));
         }
     }
 
@@ -244,7 +239,7 @@ impl Stream {
         let expected = match &mut self.model {
             None => d.value(16),
             Some(model) if n == 0 => {
-                let (rate, buffer) = (400 * self.plan.rate, 16_384 * self.plan.buffer);
+                let (rate, buffer) = (RATE_UNIT * self.plan.rate, BUFFER_UNIT * self.plan.buffer);
                 let most = (buffer.saturating_sub(position) * 90_000 / rate).min(0xFFFE);
                 let early = self.plan.fault == Fault::Early;
                 let little = 500 * 90_000 / rate + d.below(200) as u64;

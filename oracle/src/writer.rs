@@ -52,6 +52,16 @@ pub struct Writer {
     pub finished: bool,
 }
 
+/// Where an offered picture lies: in bits from the stream's first, its start code's end, its own end, and that with stuffing; in
+/// units, what is delivered at its removal and at the next one.
+struct Spot {
+    position: u128,
+    content: u128,
+    end: u128,
+    delivered: u128,
+    next: u128,
+}
+
 /// Start codes with their places, found left to right.
 fn codes(s: &[u8]) -> Vec<(usize, u8)> {
     let (mut found, mut i) = (vec![], 0);
@@ -203,64 +213,83 @@ impl Writer {
         self.pending = None;
     }
 
-    pub fn offer(&mut self, o: &Offer, part: &mut [u8]) -> Told {
+    /// What an offer is refused for before its place in the stream counts.
+    fn unfit(&self, o: &Offer) -> Option<u8> {
         if self.finished || self.pending.is_some_and(|p| p.0 != o.kind) {
-            return Told::Refused(17);
+            return Some(17);
         }
         if !self.headers_fit(&o.headers) {
-            return Told::Refused(18);
+            return Some(18);
         }
-        if !layer_fits(o) {
-            return Told::Refused(20);
-        }
+        (!layer_fits(o)).then_some(20)
+    }
+
+    fn spot(&self, o: &Offer) -> Spot {
         let units = self.units();
-        let position = self.position(o.headers.len());
         let tail = if o.last { 4 } else { 0 };
         let content = self.end + 8 * (o.headers.len() + o.layer.len() + tail) as u128;
         let delivered = self.delivered(o.headers.len());
-        let period = self.rate * self.frd * if o.field { 90_000 } else { 180_000 };
+        let next = delivered + self.rate * self.frd * if o.field { 90_000 } else { 180_000 };
         let mut end = content;
         if !o.last {
-            let least = (delivered + period).saturating_sub(self.buffer * units).div_ceil(units);
+            let least = next.saturating_sub(self.buffer * units).div_ceil(units);
             end = end.max(8 * least.div_ceil(8));
         }
-        let far = 1 << 48;
-        if position > far || end > far {
-            return Told::Refused(14);
+        Spot { position: self.position(o.headers.len()), content, end, delivered, next }
+    }
+
+    /// What an offer is refused for before its size counts.
+    fn out_of_place(&self, at: &Spot) -> Option<u8> {
+        let (units, far) = (self.units(), 1 << 48);
+        if at.position > far || at.end > far {
+            return Some(14);
         }
-        if position * units > delivered {
-            return Told::Refused(7);
+        if at.position * units > at.delivered {
+            return Some(7);
         }
-        if delivered > (self.end + self.buffer) * units {
-            return Told::Refused(9);
+        (at.delivered > (self.end + self.buffer) * units).then_some(9)
+    }
+
+    pub fn offer(&mut self, o: &Offer, part: &mut [u8]) -> Told {
+        if let Some(number) = self.unfit(o) {
+            return Told::Refused(number);
         }
-        let q = self.asked(o.kind);
-        if content * units > delivered {
-            return self.too_large(o.kind, q);
+        let at = self.spot(o);
+        if let Some(number) = self.out_of_place(&at) {
+            return Told::Refused(number);
         }
-        if end * units > delivered {
+        if at.content * self.units() > at.delivered {
+            return self.too_large(o.kind);
+        }
+        if at.end * self.units() > at.delivered {
             return Told::Refused(22);
         }
-        let bytes = ((end - self.end) / 8) as usize;
-        if part.len() < bytes {
-            return Told::Refused(19);
+        match part.get_mut(..((at.end - self.end) / 8) as usize) {
+            None => Told::Refused(19),
+            Some(part) => self.place(o, &at, part),
         }
-        let (over, whole) = ((delivered - position * units) * 90_000, self.rate * units);
+    }
+
+    /// Places an offered picture in a part of just its bytes.
+    fn place(&mut self, o: &Offer, at: &Spot, part: &mut [u8]) -> Told {
+        let (over, whole) = ((at.delivered - at.position * self.units()) * 90_000, self.rate * self.units());
         let delay = u16::try_from((2 * over + whole) / (2 * whole)).unwrap();
-        let stuffing = ((end - content) / 8) as u64;
-        self.put(o, delay, stuffing as usize, &mut part[..bytes]);
+        let stuffing = ((at.end - at.content) / 8) as u64;
+        let q = self.asked(o.kind);
+        self.put(o, delay, stuffing as usize, part);
         self.steer(o, q);
         self.pending = None;
         self.started = true;
-        self.delivered = delivered + period;
-        self.end = end;
+        self.delivered = at.next;
+        self.end = at.end;
         self.placed += 1;
         self.stuffing += stuffing;
         self.finished = o.last;
-        Told::Placed { q, delay, bytes: bytes as u64, stuffing }
+        Told::Placed { q, delay, bytes: part.len() as u64, stuffing }
     }
 
-    fn too_large(&mut self, kind: usize, q: u8) -> Told {
+    fn too_large(&mut self, kind: usize) -> Told {
+        let q = self.asked(kind);
         if q == 31 {
             self.pending = None;
             return Told::Refused(21);

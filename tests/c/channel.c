@@ -5,7 +5,8 @@
 #include <stdlib.h>
 #include <string.h>
 
-enum { OUT = 2048 * 20 };
+/* Room for any picture of a buffer of 20 units. */
+enum { OUT = 20 * CBR_BUFFER_UNIT / 8 };
 
 uint8_t layers[3][3][MOST_BYTES], later[MOST_BYTES];
 
@@ -120,7 +121,7 @@ static void expect_placed(struct place *out, const struct offer *o, const uint64
         memcpy(next + answer[ZEROS], "\0\0\1\xB7", 4);
 }
 
-/* What was handed out, behind what was before. */
+/* What was handed out, after what was before. */
 static void keep(struct channel *c, const uint64_t *answer, const uint8_t *out)
 {
     if (answer[BYTES] > MOST_SENT - c->length || c->pictures == MOST_PICTURES)
@@ -193,16 +194,16 @@ void withdraw(const char *name, struct channel *c, size_t length)
 void check_sent(const char *name, const struct channel *c)
 {
     uint8_t report[VBV_REPORT_BYTES], refusal[VBV_REFUSAL_BYTES], *records = memory(VBV_RECORD_BYTES * MOST_PICTURES);
-    uint64_t words[5], record[4];
+    uint64_t words[REPORT_WORDS], record[RECORD_WORDS];
     answered(name,
              vbv_check(c->sent, c->length, VBV_MPEG2, report, sizeof report, records, VBV_RECORD_BYTES * MOST_PICTURES,
                        refusal, sizeof refusal),
              0);
-    words_of(report, words, 5);
+    words_of(report, words, REPORT_WORDS);
     is(name, words[0] == c->state[RATE] && words[1] == c->state[BUFFER] && words[2] == c->pictures, 1);
     is(name, words[4] <= words[1], 1);
     for (size_t i = 0; i < c->pictures; i++) {
-        words_of(records + VBV_RECORD_BYTES * i, record, 4);
+        words_of(records + VBV_RECORD_BYTES * i, record, RECORD_WORDS);
         is(name, record[0], c->placed[i][DELAY]);
         is(name, record[1], c->placed[i][DELAY]);
         is(name, record[2], 8 * c->placed[i][BYTES]);
@@ -214,7 +215,7 @@ size_t check_least(const char *name, const struct channel *c)
 {
     uint8_t report[VBV_REPORT_BYTES], refusal[VBV_REFUSAL_BYTES], *records = memory(VBV_RECORD_BYTES * MOST_PICTURES);
     uint8_t *shorter = memory(c->length);
-    uint64_t words[4];
+    uint64_t words[REFUSAL_WORDS];
     size_t end = 0, stuffed = 0;
     for (size_t i = 0; i + 1 < c->pictures; i++) {
         end += c->placed[i][BYTES];
@@ -226,7 +227,7 @@ size_t check_least(const char *name, const struct channel *c)
                  vbv_check(shorter, c->length - 1, VBV_MPEG2, report, sizeof report, records,
                            VBV_RECORD_BYTES * MOST_PICTURES, refusal, sizeof refusal),
                  9);
-        words_of(refusal, words, 4);
+        words_of(refusal, words, REFUSAL_WORDS);
         is(name, words[1], i + 1);
         stuffed++;
     }

@@ -10,7 +10,7 @@
 #include <string.h>
 #include <sys/mman.h>
 
-enum { MOST_PICTURES = 2, WORDS = 4 * MOST_PICTURES };
+enum { MOST_PICTURES = 2, RECORDS = VBV_RECORD_BYTES * MOST_PICTURES };
 
 /* 182,400 bits a second and a buffer of 131,072 bits, 64,673 ticks; 22,800 bits a second and 16,384 bits. */
 #define SLOW "000001B30100101300722040"
@@ -31,7 +31,7 @@ enum { MOST_PICTURES = 2, WORDS = 4 * MOST_PICTURES };
 struct known {
     const char *name, *hex;
     uint8_t standard;
-    uint64_t refusal[4], report[5], records[WORDS];
+    uint64_t refusal[REFUSAL_WORDS], report[REPORT_WORDS], records[RECORD_WORDS * MOST_PICTURES];
 };
 
 /* The answers are the original Rust's. */
@@ -77,10 +77,10 @@ static void check(const struct known *k, size_t report_length, size_t records_le
     struct place report = lend(report_length), records = lend(records_length), refusal = lend(refusal_length);
 
     if (k->refusal[0] == 0) {
-        expect_words(&report, k->report, 5);
-        expect_words(&records, k->records, 4 * k->report[2]);
+        expect_words(&report, k->report, REPORT_WORDS);
+        expect_words(&records, k->records, RECORD_WORDS * k->report[2]);
     } else if (refusal_length >= VBV_REFUSAL_BYTES) {
-        expect_words(&refusal, k->refusal, 4);
+        expect_words(&refusal, k->refusal, REFUSAL_WORDS);
     }
     uint64_t answer = vbv_check(stream, length, k->standard, report.bytes, report.length, records.bytes, records.length,
                                 refusal.bytes, refusal.length);
@@ -106,15 +106,15 @@ static void check_accepted(const struct known *k)
     size_t needed = VBV_RECORD_BYTES * (size_t)k->report[2];
     for (size_t more = 0; more < 70; more += 23)
         check(k, VBV_REPORT_BYTES + more, needed + more, VBV_REFUSAL_BYTES + more);
-    for (size_t records = 0; records < needed; records += records < needed - 32 ? 31 : 1)
+    for (size_t records = 0; records < needed; records += records < needed - VBV_RECORD_BYTES ? VBV_RECORD_BYTES - 1 : 1)
         check_refused(k, 15, VBV_REPORT_BYTES, records, VBV_REFUSAL_BYTES);
 }
 
 /* Refused: with no record places, with enough, and with longer places. */
 static void check_refusal(const struct known *k)
 {
-    check(k, VBV_REPORT_BYTES, VBV_RECORD_BYTES * MOST_PICTURES, VBV_REFUSAL_BYTES);
-    check(k, VBV_REPORT_BYTES + 9, VBV_RECORD_BYTES * MOST_PICTURES + 50, VBV_REFUSAL_BYTES + 13);
+    check(k, VBV_REPORT_BYTES, RECORDS, VBV_REFUSAL_BYTES);
+    check(k, VBV_REPORT_BYTES + 9, RECORDS + 50, VBV_REFUSAL_BYTES + 13);
     if (k->refusal[0] < 7 || k->refusal[0] == 12)
         check(k, VBV_REPORT_BYTES, 0, VBV_REFUSAL_BYTES);
     else
@@ -125,16 +125,16 @@ static void check_refusal(const struct known *k)
 static void check_places(const struct known *k)
 {
     for (size_t report = 0; report < VBV_REPORT_BYTES; report++)
-        check_refused(k, 19, report, 64, VBV_REFUSAL_BYTES + report % 3);
+        check_refused(k, 19, report, RECORDS, VBV_REFUSAL_BYTES + report % 3);
     for (size_t refusal = 0; refusal < VBV_REFUSAL_BYTES; refusal++)
-        check_refused(k, 19, VBV_REPORT_BYTES + refusal % 3, 64, refusal);
+        check_refused(k, 19, VBV_REPORT_BYTES + refusal % 3, RECORDS, refusal);
     check_refused(k, 19, 0, 0, 0);
     for (int standard = 0; standard < 256; standard++) {
         struct known other = *k;
         other.standard = (uint8_t)standard;
         if (standard != 1 && standard != 2) {
-            check_refused(&other, 12, VBV_REPORT_BYTES, 64, VBV_REFUSAL_BYTES);
-            check_refused(&other, 19, VBV_REPORT_BYTES - 1, 64, VBV_REFUSAL_BYTES);
+            check_refused(&other, 12, VBV_REPORT_BYTES, RECORDS, VBV_REFUSAL_BYTES);
+            check_refused(&other, 19, VBV_REPORT_BYTES - 1, RECORDS, VBV_REFUSAL_BYTES);
         }
     }
 }
@@ -148,9 +148,9 @@ static void check_too_long(void)
         printf("entries: no room for addresses of 2^45 bytes, so 14 was not tried in this run\n");
         return;
     }
-    struct place report = lend(VBV_REPORT_BYTES), records = lend(64), refusal = lend(VBV_REFUSAL_BYTES);
-    uint64_t expected[4] = { 14, 0, 0, 0 };
-    expect_words(&refusal, expected, 4);
+    struct place report = lend(VBV_REPORT_BYTES), records = lend(RECORDS), refusal = lend(VBV_REFUSAL_BYTES);
+    uint64_t expected[REFUSAL_WORDS] = { 14 };
+    expect_words(&refusal, expected, REFUSAL_WORDS);
     uint64_t answer = vbv_check(stream, length, VBV_MPEG2, report.bytes, report.length, records.bytes, records.length,
                                 refusal.bytes, refusal.length);
     answered("a stream above 2^48 bits", answer, 14);

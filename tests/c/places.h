@@ -3,10 +3,12 @@
 #ifndef PLACES_H
 #define PLACES_H
 
-#include <stddef.h>
-#include <stdint.h>
+#include "hipokuta.h"
 
 #define COUNT(table) (sizeof(table) / sizeof *(table))
+
+/* Words of a report, of a record and of a refusal. */
+enum { REPORT_WORDS = VBV_REPORT_BYTES / 8, RECORD_WORDS = VBV_RECORD_BYTES / 8, REFUSAL_WORDS = VBV_REFUSAL_BYTES / 8 };
 
 struct place {
     size_t length;

@@ -4,8 +4,6 @@
 
 __extension__ typedef unsigned __int128 wide;
 
-static const uint64_t far = (uint64_t)1 << 48;
-
 static int within(uint64_t low, uint64_t high, uint64_t value)
 {
     return low <= value && value <= high;
@@ -15,14 +13,14 @@ static int model_fits(const uint64_t *s)
 {
     return within(1, 429496729200, s[RATE]) && within(1, 4294950912, s[BUFFER]) && within(1, 240000, s[FRN])
         && within(1, 32032, s[FRD]) && (wide)90000 * s[BUFFER] <= (wide)65534 * s[RATE] && s[WHOLE] <= (uint64_t)1 << 55
-        && s[REST] < 180000 * s[FRN] && s[END] <= far && s[REMOVED] <= far && s[STARTED] <= 1;
+        && s[REST] < 180000 * s[FRN] && s[END] <= FAR && s[REMOVED] <= FAR && s[STARTED] <= 1;
 }
 
 int rules_fit(const uint64_t *s)
 {
     int fits = model_fits(s) && s[END] % 8 == 0 && s[REMOVED] <= s[END] / 8 && s[STUFFING] <= s[END] / 8;
     for (int kind = 0; kind < 3; kind++)
-        fits = fits && s[TARGETS + kind] <= far && within(1, 31, s[QUANTISERS + kind]);
+        fits = fits && s[TARGETS + kind] <= FAR && within(1, 31, s[QUANTISERS + kind]);
     return fits && s[PENDING] <= 3 && s[FINISHED] <= 1
         && (s[PENDING] == 0 ? s[PENDING_Q] == 0 : within(1, 31, s[PENDING_Q]));
 }
@@ -51,20 +49,20 @@ static int headers_fit(const uint64_t *s, const struct offer *o)
     return s[STARTED] ? o->are == PLAIN : o->are == FIRST && memcmp(s, o->declared, sizeof o->declared) == 0;
 }
 
-/* The refusals before and behind the size; 0 where there is none. */
+/* The refusals before the size and after it; 0 where there is none. */
 static uint64_t refused_before(const uint64_t *s, const struct offer *o, const struct places *p)
 {
     return o->kind > 2 || !within(1, 2, o->interval) || o->last > 1                ? 12
         : s[FINISHED] || (s[PENDING] != 0 && s[PENDING] != (uint64_t)o->kind + 1) ? 17
         : !headers_fit(s, o)                                                      ? 18
         : !o->layer_fits                                                          ? 20
-        : p->position > far || p->end > far                                       ? 14
+        : p->position > FAR || p->end > FAR                                       ? 14
         : p->position * p->unit > p->delivered                                    ? 7
         : p->delivered > ((wide)s[END] + s[BUFFER]) * p->unit                     ? 9
                                                                                   : 0;
 }
 
-static uint64_t refused_behind(const uint64_t *s, const struct offer *o, const struct places *p)
+static uint64_t refused_after(const uint64_t *s, const struct offer *o, const struct places *p)
 {
     return p->end * p->unit > p->delivered ? 22 : o->out_length < (p->end - s[END]) / 8 ? 19 : 0;
 }
@@ -125,7 +123,7 @@ struct told rules_offer(const uint64_t *s, const struct offer *o)
         }
         number = 21;
     } else if (number == 0) {
-        number = refused_behind(s, o, &p);
+        number = refused_after(s, o, &p);
     }
     if (number != 0)
         refuse(&t, number);

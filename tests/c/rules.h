@@ -1,5 +1,8 @@
 /* The writer's rules in plain numbers of 128 bits, over the words of docs/LAYOUT.md, apart from the library's code: what a
- * call must answer and leave. Whether headers and layer are such as a writer takes is said by who made them. */
+ * call must answer and leave. Whether headers and layer are such as a writer takes is said by who made them.
+ *
+ * Here, in sender.c and in entries.c ranges, units, refusals by number and their order stand once more, and by figures where
+ * the header has names: a test that took them from the library or its header would not see them change. */
 #ifndef RULES_H
 #define RULES_H
 
@@ -10,6 +13,9 @@
 enum { RATE, BUFFER, FRN, FRD, WHOLE, REST, END, REMOVED, STARTED, TARGETS, QUANTISERS = 12, PENDING = 15, PENDING_Q,
        STUFFING, FINISHED, STATE_WORDS };
 enum { OUTCOME, NUMBER, PICTURE, CODED, EXPECTED, QUANTISER, DELAY, BYTES, ZEROS, ANSWER_WORDS };
+
+/* 2^48, the greatest end. */
+#define FAR ((uint64_t)1 << 48)
 
 /* Headers that fit at no time, after the first picture, and before it. */
 enum headers { UNFIT, PLAIN, FIRST };

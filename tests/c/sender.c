@@ -170,12 +170,12 @@ static void check_last(void)
     is("the end code", memcmp(c->sent + c->length - 4, "\0\0\1\xB7", 4) == 0, 1);
     check_sent("to the last", c);
     for (uint8_t kind = 0; kind < 3; kind++)
-        refused("behind the last", c, frame(c, kind, 23), 17);
+        refused("after the last", c, frame(c, kind, 23), 17);
     o.headers = later + 1;
     o.headers_length = 20;
     o.are = UNFIT;
-    refused("behind the last, with headers that do not fit", c, o, 17);
-    withdraw("behind the last", c, CBR_STATE_BYTES);
+    refused("after the last, with headers that do not fit", c, o, 17);
+    withdraw("after the last", c, CBR_STATE_BYTES);
     free(c);
 }
 
@@ -217,7 +217,7 @@ static void check_steerings(void)
 
 struct unfit {
     const char *name, *hex;
-    int started; /* before the first picture, or behind it */
+    int started; /* before the first picture, or after it */
     uint8_t kind;
 };
 
@@ -257,7 +257,7 @@ static const struct unfit unfit_layers[] = {
     { "no extension", I_FFFF SLICE, 1, 0 },
     { "user data before the extension", I_FFFF "000001B240" FRAME, 1, 0 },
     { "no slice", I_FFFF "000001B58FFFF34180", 1, 0 },
-    { "an extension behind the slice", I_FFFF FRAME "000001B58FFFF34180", 1, 0 },
+    { "an extension after the slice", I_FFFF FRAME "000001B58FFFF34180", 1, 0 },
     { "a sequence end", I_FFFF FRAME "000001B7", 1, 0 },
     { "two pictures", I_FFFF FRAME I_FFFF FRAME, 1, 0 },
     { "a prefix at the end", I_FFFF FRAME "000001", 1, 0 },
@@ -387,7 +387,6 @@ struct bound {
     uint64_t number, outcome, stuffing;
 };
 
-#define FAR ((uint64_t)1 << 48)
 #define UNIT 4500000
 
 static const struct bound bounds[] = {

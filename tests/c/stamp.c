@@ -10,13 +10,8 @@
 #include <stdlib.h>
 #include <string.h>
 
-static uint64_t word(const uint8_t *bytes)
-{
-    uint64_t value = 0;
-    for (int i = 7; i >= 0; i--)
-        value = value << 8 | bytes[i];
-    return value;
-}
+/* Words of a refusal (docs/LAYOUT.md). */
+enum { PICTURE = 1, EXPECTED = 3 };
 
 static uint8_t *whole_file(const char *name, size_t *length)
 {
@@ -63,19 +58,21 @@ int main(int count, char **words)
     uint8_t *stream = count == 4 ? whole_file(words[2], &length) : NULL;
     if (stream == NULL)
         return unusable("FIRST FROM TO, and FROM a file of some bytes");
-    uint8_t *records = malloc(length * 8), report[VBV_REPORT_BYTES], refusal[VBV_REFUSAL_BYTES];
+    uint64_t report[VBV_REPORT_BYTES / 8], refusal[VBV_REFUSAL_BYTES / 8];
+    size_t places = length / 4 * VBV_RECORD_BYTES; /* no picture is shorter than its start code */
+    uint8_t *records = malloc(places);
     if (records == NULL || !patch(stream, length, 0, strtoul(words[1], NULL, 10)))
         return unusable("no memory, or no picture");
 
     uint64_t answer, changed = 1;
-    while ((answer = vbv_check(stream, length, VBV_MPEG2, report, sizeof report, records, length * 8, refusal,
-                               sizeof refusal)) == 11) {
-        if (!patch(stream, length, word(refusal + 8), word(refusal + 24)))
+    while ((answer = vbv_check(stream, length, VBV_MPEG2, (uint8_t *)report, sizeof report, records, places,
+                               (uint8_t *)refusal, sizeof refusal)) == VBV_DELAY_MISMATCH) {
+        if (!patch(stream, length, refusal[PICTURE], refusal[EXPECTED]))
             return unusable("no such picture");
         changed++;
     }
     if (answer != 0) {
-        printf("refused %d at picture %d\n", (int)answer, (int)word(refusal + 8));
+        printf("refused %d at picture %d\n", (int)answer, (int)refusal[PICTURE]);
         return 1;
     }
     FILE *to = fopen(words[3], "wb");

@@ -2,7 +2,7 @@
 """Edits of streams, for ./make.
 
 edit.py set FROM TO OFFSET HEX         other bytes at an offset
-edit.py zeros FROM TO PICTURE COUNT    zero bytes behind a picture's slices (pictures from 0)
+edit.py zeros FROM TO PICTURE COUNT    zero bytes after a picture's slices (pictures from 0)
 edit.py cut FROM TO PICTURE COUNT      only what stands before COUNT bytes of a picture
 edit.py fields FROM TO                 intra frames become fields: half the frame rate, twice the height
 """
@@ -15,7 +15,7 @@ def codes(s):
 
 
 def pictures(s):
-    """Offset of each picture's start code, and of the first code behind its slices."""
+    """Offset of each picture's start code, and of the first code after its slices."""
     found, of = [], codes(s)
     for i, (at, code) in enumerate(of):
         if code == 0:
@@ -30,12 +30,12 @@ def pictures(s):
 
 def fields(s):
     s, second = bytearray(s), False
-    behind = 0
+    after = 0
     for at, code in codes(bytes(s)):
         if code == 0:
             if second:
-                s[behind:at] = bytes(at - behind)  # the headers between two fields of a frame: stuffing
-            behind = next(end for start, end in pictures(bytes(s)) if start == at)
+                s[after:at] = bytes(at - after)  # the headers between two fields of a frame: stuffing
+            after = next(end for start, end in pictures(bytes(s)) if start == at)
         elif code == 0xB3:
             height = ((s[at + 5] & 15) << 8 | s[at + 6]) * 2
             s[at + 5] = s[at + 5] & 0xF0 | height >> 8

@@ -16,7 +16,7 @@ use Rattle.verify.specs.Answers.{refusalOf, verifiedAnswer}
 use Rattle.verify.specs.Check.{Accepted, reported, verdict, records}
 use Rattle.verify.proofs.Storing.{no-records}
 use Rattle.verify.specs.Layout.{recordsBytes}
-use Rattle.verify.specs.declared.VbvStandard.the-variants.{Mpeg1, Mpeg2}
+use Rattle.pictures.specs.declared.VbvStandard.the-variants.{Mpeg1, Mpeg2}
 use Rattle.verify.specs.declared.VbvVerified.{VbvVerified}
 use Rattle.verify.specs.declared.VbvVerified.the-variants.{Report, Refused}
 use Rattle.verify.specs.declared.VbvVerifyError.{VbvVerifyError}

@@ -9,7 +9,7 @@ use Rattle.bits.proofs.Flags.{pick-elim}
 use Rattle.bits.proofs.Numbering.{and-then, wider}
 use Rattle.vbv.proofs.Numbering.{model-numbers}
 use Rattle.verify.specs.Check.{Accepted}
-use Rattle.verify.specs.declared.VbvStandard.the-variants.{Mpeg1, Mpeg2}
+use Rattle.pictures.specs.declared.VbvStandard.the-variants.{Mpeg1, Mpeg2}
 use Rattle.verify.proofs.Numbering.{check-numbers}
 use Rattle.rate_control.specs.declared.CbrConfig.{CbrConfig}
 use Rattle.rate_control.proofs.Refusing.{writer-numbers}

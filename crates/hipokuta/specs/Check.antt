@@ -11,7 +11,7 @@ use Rattle.bits.specs.Answers.{over}
 use Rattle.bits.specs.Refusals.{Answer, value, refused, refuse}
 use Rattle.verify.specs.Check.{Accepted, verdict}
 use Rattle.verify.specs.Layout.{recordsBytes}
-use Rattle.verify.specs.declared.VbvStandard.the-variants.{Mpeg1, Mpeg2}
+use Rattle.pictures.specs.declared.VbvStandard.the-variants.{Mpeg1, Mpeg2}
 use Rattle.verify.specs.declared.VbvStreamReport.{VbvStreamReport}
 use Rattle.words.specs.Words.{wordsBytes, laid}
 use Rattle.layout.specs.Answers.{reportSize, refusalSize, reportWords, refusalWords}

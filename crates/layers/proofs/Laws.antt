@@ -1,5 +1,5 @@
 -- Headers and layers that fit, laid in a stream: the patch keeps a layer's codes, a layer is a piece with one picture, headers before a piece are
--- of that piece, and what the stream's reader is told is what was offered.
+-- of that piece, and what the stream's reader is shown is what was offered.
 -- Assumes nothing.
 use mathlib.Core.Path.{_≡_, refl, sym, ap, _∙_}
 use Prim.Native.Nat.{ℕ, _+_, _*_, _≤_, _<_}
@@ -12,6 +12,8 @@ use lib.Dec.{eqb, lit≤, lit<}
 use lib.ListN.{length, take, drop, take-append-drop}
 use lib.Seq.{take-take}
 use borrow.Author.Tests.{not-true, eqb-true, ne-eqb}
+use Rattle.vbv.specs.Params.{rateUnit, bufferUnit}
+use Rattle.bits.specs.StartCodes.{userDataStartCode, extensionStartCode, sequenceEndCode, lastSliceCode, sequenceHeaderCode, groupStartCode}
 use Rattle.bits.specs.Bits.{bitsAt}
 use Rattle.bits.proofs.Flags.{and-left}
 use Rattle.bits.proofs.Reading.{both-true, same-self}
@@ -27,6 +29,7 @@ use Rattle.picture_header.proofs.OtherDelay.{OtherDelay, delayed, delayed-delay
 use Rattle.vbv.specs.Patch.{startsPicture, patched}
 use Rattle.bits.specs.Refusals.{Answer, value, refused, andThen, orElse}
 use Rattle.vbv.specs.Answers.{frameRate}
+use Rattle.vbv.proofs.Params.{params-are as fields-are}
 use Rattle.vbv.specs.declared.VbvParams.{VbvParams}
 use Rattle.vbv.specs.declared.RemovalInterval.{RemovalInterval}
 use Rattle.vbv.proofs.Patching.{starts-is, patched-length, patched-front, patched-rest, patched-below, patched-delay, patched-before, patched-behind}
@@ -38,16 +41,16 @@ use Rattle.scan.proofs.PictureCodes.{PictureHead, codes-picture, codes-none, co
 use Rattle.scan.proofs.Prefix.{ends-drop, ends-prefix}
 use Rattle.scan.proofs.Search.{every-more}
 use Rattle.scan.proofs.Sorts.{slice-zero, slice-above, not-slice-above, not-picture, every-by, skip-split, every-empty}
-use Rattle.verify.proofs.Telling.{told-parsed, declared-parsed}
-use Rattle.verify.specs.Coded.{told}
-use Rattle.verify.specs.Sequence.{declared}
-use Rattle.verify.specs.declared.VbvStandard.the-variants.{Mpeg2}
+use Rattle.pictures.specs.Seen.{shown}
+use Rattle.pictures.specs.Sequence.{declared}
+use Rattle.pictures.specs.declared.VbvStandard.the-variants.{Mpeg2}
+use Rattle.pictures.proofs.Showing.{shown-parsed, declared-parsed}
 use Rattle.layers.specs.declared.PictureKind.{PictureKind}
 use Rattle.layers.specs.Layer.{slices, isExtension, layerCodes, layerFits}
 use Rattle.layers.specs.Headers.{opensHeaders, headerCode, sameRate, sameParams, declares, sequenceFirst, sequenceFits, headersFit}
-use Rattle.layers.proofs.Layers.{LayerFits, layer-fits, LowBits, picture-head, layer-header, layer-twelve, layer-low}
+use Rattle.layers.proofs.Layers.{LayerFits, layer-fits, factsIn, facts-delayed, LowBits, picture-head, layer-header, layer-twelve, layer-low}
 
--- the bytes that a list begins with, and those behind them
+-- the bytes that a list begins with, and those after them
 begins : (n : ℕ) (s : List ℕ) {a : List ℕ} → take n s ≡ a → s ≡ a ++ drop n s
 begins n s e = sym (take-append-drop n s) ∙ ap (λ (l : List ℕ). l ++ drop n s) e
 
@@ -56,11 +59,11 @@ begins n s e = sym (take-append-drop n s) ∙ ap (λ (l : List ℕ). l ++ drop n
 -- its codes are those of one picture
 extension-no-slice : (c : ℕ) → isExtension c ≡ true → notSlice c ≡ true
 unfolding isExtension
-extension-no-slice c e = case (eqb c 0xB5) (eqb c 0xB2) refl refl e
+extension-no-slice c e = case (eqb c extensionStartCode) (eqb c userDataStartCode) refl refl e
   where
-    case : (a b : Bool) → eqb c 0xB5 ≡ a → eqb c 0xB2 ≡ b → (a || b) ≡ true → notSlice c ≡ true
-    case true b p q e = not-slice-above c (omega (arith, eqb-true c 0xB5 p))
-    case false true p q e = not-slice-above c (omega (arith, eqb-true c 0xB2 q))
+    case : (a b : Bool) → eqb c extensionStartCode ≡ a → eqb c userDataStartCode ≡ b → (a || b) ≡ true → notSlice c ≡ true
+    case true b p q e = not-slice-above c (omega (arith, eqb-true c extensionStartCode p))
+    case false true p q e = not-slice-above c (omega (arith, eqb-true c userDataStartCode q))
     case false false p q e = cc
 
 one-of : (cs : List Code) → layerCodes cs ≡ true → OnePicture cs 0
@@ -165,30 +168,30 @@ module _ (k : PictureKind) (i : RemovalInterval) (s : List ℕ) (fits : layerFit
       one = rw patched-codes (one-of (codes s) (f .codes-fit));
     }
 
-    -- and tells the delay that was put in, and the interval that was offered
-    pub layer-told : (t : List ℕ) → told Mpeg2 (patched s d ++ t) ≡ value (d, i)
-    layer-told t =
+    -- and shows the delay that was put in, and the facts that the layer's headers have
+    pub layer-shown : (t : List ℕ) → shown Mpeg2 (patched s d ++ t) ≡ value (d, factsIn s)
+    layer-shown t =
         let h = delayed (f .header) (bitsAt (patched s d) 45 16) in
         let p : picture (patched s d ++ t) ≡ value (h, f .extension) =
         picture-append (patched s d) t h (f .extension) (picture-delayed s (patched s d) other (f .header) (f .extension) (f .parsed) (f .zeros-behind)) in
-        told-parsed (patched s d ++ t) h (f .extension) p
-        ∙ rw (delayed-delay (f .header) (bitsAt (patched s d) 45 16), patched-delay s d layer-starts small, f .interval)
+        shown-parsed (patched s d ++ t) h (f .extension) p
+        ∙ rw (facts-delayed f (bitsAt (patched s d) 45 16), delayed-delay (f .header) (bitsAt (patched s d) 45 16), patched-delay s d layer-starts small)
 
 -- ---- headers
 
-header-above : (c : ℕ) → headerCode c ≡ true → (0xAF < c) × (c ≡ 0xB7 → ⊥)
+header-above : (c : ℕ) → headerCode c ≡ true → (lastSliceCode < c) × (c ≡ sequenceEndCode → ⊥)
 unfolding headerCode
-header-above c e = case (eqb c 0xB2) (eqb c 0xB3) (eqb c 0xB5) (eqb c 0xB8) refl refl refl refl e
+header-above c e = case (eqb c userDataStartCode) (eqb c sequenceHeaderCode) (eqb c extensionStartCode) (eqb c groupStartCode) refl refl refl refl e
   where
-    by : (n : ℕ) → eqb c n ≡ true → 0xAF < n → (n ≡ 0xB7 → ⊥) → (0xAF < c) × (c ≡ 0xB7 → ⊥)
+    by : (n : ℕ) → eqb c n ≡ true → lastSliceCode < n → (n ≡ sequenceEndCode → ⊥) → (lastSliceCode < c) × (c ≡ sequenceEndCode → ⊥)
     by n q l m = rw (eqb-true c n q) (l, m)
 
-    case : (p q r t : Bool) → eqb c 0xB2 ≡ p → eqb c 0xB3 ≡ q → eqb c 0xB5 ≡ r → eqb c 0xB8 ≡ t → (p || (q || (r || t))) ≡ true
-        → (0xAF < c) × (c ≡ 0xB7 → ⊥)
-    case true q r t a b d g e = by 0xB2 a (lit< tt) (λ z. omega arith)
-    case false true r t a b d g e = by 0xB3 b (lit< tt) (λ z. omega arith)
-    case false false true t a b d g e = by 0xB5 d (lit< tt) (λ z. omega arith)
-    case false false false true a b d g e = by 0xB8 g (lit< tt) (λ z. omega arith)
+    case : (p q r t : Bool) → eqb c userDataStartCode ≡ p → eqb c sequenceHeaderCode ≡ q → eqb c extensionStartCode ≡ r → eqb c groupStartCode ≡ t → (p || (q || (r || t))) ≡ true
+        → (lastSliceCode < c) × (c ≡ sequenceEndCode → ⊥)
+    case true q r t a b d g e = by userDataStartCode a (lit< tt) (λ z. omega arith)
+    case false true r t a b d g e = by sequenceHeaderCode b (lit< tt) (λ z. omega arith)
+    case false false true t a b d g e = by extensionStartCode d (lit< tt) (λ z. omega arith)
+    case false false false true a b d g e = by groupStartCode g (lit< tt) (λ z. omega arith)
     case false false false false a b d g e = absurd (let z : _≡_ {A = ℕ} 0 1 = cc in omega arith)
 
 header-no-picture : (c : ℕ) → headerCode c ≡ true → notPicture c ≡ true
@@ -220,7 +223,7 @@ headers-open f = record {
   rest = f .rest;
   opens = f .opens;
   opens-slice = slice-above (f .first) (header-above (f .first) (f .first-code) .0);
-  opens-end = ne-eqb (f .first) 0xB7 (header-above (f .first) (f .first-code) .1);
+  opens-end = ne-eqb (f .first) sequenceEndCode (header-above (f .first) (f .first-code) .1);
   closed = f .closed;
 }
 
@@ -268,24 +271,24 @@ declares-is p h e = case (sequence h) refl e
     case (refused n k c x) s z = absurd (let y : _≡_ {A = ℕ} 0 1 = cc in omega arith)
 
 record SameParams (p : VbvParams) (q : Mpeg2Sequence) : Type 0 where
-  rate : 400 * q .«bit_rate» ≡ p .«bit_rate»
-  buffer : 16384 * q .«vbv_buffer_size» ≡ p .«buffer_size_bits»
+  rate : rateUnit * q .«bit_rate» ≡ p .«bit_rate»
+  buffer : bufferUnit * q .«vbv_buffer_size» ≡ p .«buffer_size_bits»
   frames : frameRate (q .header .«frame_rate_code») ≡ value (p .frn, p .frd)
 
 params-are : (p : VbvParams) (q : Mpeg2Sequence) → sameParams p q ≡ true → SameParams p q
 unfolding sameParams
 params-are p q e =
-    let a = both-true (eqb (400 * q .«bit_rate») (p .«bit_rate»)) _ e in
-    let b = both-true (eqb (16384 * q .«vbv_buffer_size») (p .«buffer_size_bits»)) _ (a .1) in
+    let a = both-true (eqb (rateUnit * q .«bit_rate») (p .«bit_rate»)) _ e in
+    let b = both-true (eqb (bufferUnit * q .«vbv_buffer_size») (p .«buffer_size_bits»)) _ (a .1) in
     let c = both-true (sameRate p (q .header .«frame_rate_code»)) _ (b .1) in
     record { rate = eqb-true _ _ (a .0); buffer = eqb-true _ _ (b .0); frames = rate-is p _ (c .0) }
 
-sequence-first : (c : Code) (cs : List Code) → sequenceFirst (c ∷ cs) ≡ true → c .code ≡ 0xB3
+sequence-first : (c : Code) (cs : List Code) → sequenceFirst (c ∷ cs) ≡ true → c .code ≡ sequenceHeaderCode
 unfolding sequenceFirst
 sequence-first c cs e =
     let a = both-true (eqb (c .offset) 0) _ e in
-    let b = both-true (eqb (c .code) 0xB3) _ (a .1) in
-    eqb-true (c .code) 0xB3 (b .0)
+    let b = both-true (eqb (c .code) sequenceHeaderCode) _ (a .1) in
+    eqb-true (c .code) sequenceHeaderCode (b .0)
 
 pub headers-declared : (p : VbvParams) (h : List ℕ) → headersFit p false h ≡ true → (x : List ℕ) → declared Mpeg2 (h ++ x) ≡ value p
 unfolding sequenceFits sequenceFirst
@@ -299,8 +302,8 @@ headers-declared p (b ∷ s) e x =
     let d1 = both-true (sequenceFirst (codes (b ∷ s))) _ c in
     let q = declares-is p (b ∷ s) (d1 .1) in
     let o = ap codes (f .opens) ∙ codes-opened (f .first) (f .rest) in
-    let y : f .first ≡ 0xB3 = sequence-first (record { offset = 0; code = f .first }) (codesFrom 4 0 (f .rest)) (rw o at (d1 .0)) in
+    let y : f .first ≡ sequenceHeaderCode = sequence-first (record { offset = 0; code = f .first }) (codesFrom 4 0 (f .rest)) (rw o at (d1 .0)) in
     let m = params-are p (q .0) (q .2) in
-    let z : codes (b ∷ s ++ x) ≡ record { offset = 0; code = 0xB3 } ∷ codesFrom 4 0 (f .rest ++ x) =
+    let z : codes (b ∷ s ++ x) ≡ record { offset = 0; code = sequenceHeaderCode } ∷ codesFrom 4 0 (f .rest ++ x) =
     ap (λ (l : List ℕ). codes (l ++ x)) (f .opens) ∙ codes-opened (f .first) (f .rest ++ x) ∙ rw y in
-    declared-parsed (b ∷ s ++ x) _ z (q .0) (sequence-append (b ∷ s) x (q .0) (q .1)) (p .frn) (p .frd) (m .frames) ∙ rw (m .rate, m .buffer)
+    declared-parsed (b ∷ s ++ x) _ z (q .0) (sequence-append (b ∷ s) x (q .0) (q .1)) (p .frn) (p .frd) (m .frames) ∙ rw (fields-are (q .0 .«bit_rate») (q .0 .«vbv_buffer_size») (p .frn) (p .frd), m .rate, m .buffer)

@@ -1,6 +1,6 @@
 -- What a layer that fits is, one fact for each condition that the laws use.
 -- Assumes nothing.
-use mathlib.Core.Path.{_≡_, refl, sym, _∙_}
+use mathlib.Core.Path.{_≡_, refl, sym, ap, _∙_}
 use Prim.Native.Nat.{ℕ, zero, suc, _≤_}
 use mathlib.Core.List.{List, [], _∷_}
 use mathlib.Core.Bool.{true, false, not, _&&_}
@@ -30,10 +30,12 @@ use Rattle.picture_header.proofs.PictureHeader.{PictureHeaderParsed, picture-he
 use Rattle.picture_header.proofs.Picture.{picture-parsed, extension-placed}
 use Rattle.headers.proofs.StartCode.{next-found}
 use Rattle.picture_header.proofs.Extent.{header-bytes}
-use Rattle.picture_header.proofs.OtherDelay.{forward-code, extra-flag}
+use Rattle.picture_header.proofs.OtherDelay.{delayed, delayed-type, forward-code, extra-flag}
 use Rattle.vbv.specs.declared.RemovalInterval.{RemovalInterval}
 use Rattle.vbv.specs.declared.RemovalInterval.the-variants.{Frame, Field}
-use Rattle.verify.specs.Coded.{intervalOf}
+use Rattle.pictures.proofs.Showing.{facts-are}
+use Rattle.pictures.specs.Seen.{isAnchor, isField, factsOf, intervalOf}
+use Rattle.pictures.specs.declared.PictureFacts.{PictureFacts}
 use Rattle.scan.specs.Codes.{codes, endsPrefix}
 use Rattle.scan.proofs.PictureCodes.{PictureHead}
 use Rattle.layers.specs.declared.PictureKind.{PictureKind}
@@ -43,7 +45,7 @@ pub record LayerFits (k : PictureKind) (i : RemovalInterval) (s : List ℕ) : Ty
   pub header : Mpeg2PictureHeader
   pub extension : PictureCodingExtension
   pub parsed : picture s ≡ value (header, extension)
-  pub interval : intervalOf (extension .«picture_structure») ≡ i
+  pub interval : intervalOf (isField (extension .«picture_structure»)) ≡ i
   pub seven : codeSeven (header .«fwd_f_code») ≡ true
   pub zeros-behind : 2 ≤ zeros (drop (pictureHeaderBytes header) s)
   pub codes-fit : layerCodes (codes s) ≡ true
@@ -73,7 +75,7 @@ layer-fits k i s f = case (picture s) refl (a .0)
         let h = r .0 in
         let x = r .1 in
         let c1 = both-true (sameKind k (h .«picture_coding_type»)) _ q in
-        let c2 = both-true (sameInterval i (intervalOf (x .«picture_structure»))) _ (c1 .1) in
+        let c2 = both-true (sameInterval i (intervalOf (isField (x .«picture_structure»)))) _ (c1 .1) in
         let c3 = both-true (not (x .«repeat_first_field»)) _ (c2 .1) in
         let c4 = both-true (flagClear (h .«full_pel_forward_vector»)) _ (c3 .1) in
         let c5 = both-true (codeSeven (h .«fwd_f_code»)) _ (c4 .1) in
@@ -84,14 +86,38 @@ layer-fits k i s f = case (picture s) refl (a .0)
           header = h;
           extension = x;
           parsed = p;
-          interval = interval-is i (intervalOf (x .«picture_structure»)) (c2 .0);
+          interval = interval-is i (intervalOf (isField (x .«picture_structure»))) (c2 .0);
           seven = c5 .0;
           zeros-behind = leb-true _ _ (c8 .1);
           codes-fit = b .0;
           closed = not-true (endsPrefix s) (b .1);
         }
 
--- ---- the bits behind the delay
+-- ---- what its headers show
+
+-- a frame's facts, every flag false, where they do not parse
+unfoldable pub factsIn : List ℕ → PictureFacts
+factsIn s = orElse (record { anchor = false; field = false; repeat = false; top = false }) (andThen (picture s) (λ p. value (factsOf (p .0) (p .1))))
+
+facts-parsed : {k : PictureKind} {i : RemovalInterval} {s : List ℕ} (f : LayerFits k i s) → factsIn s ≡ factsOf (f .header) (f .extension)
+unfolding factsIn
+facts-parsed f = rw (f .parsed)
+
+-- the delay is no fact
+pub facts-delayed : {k : PictureKind} {i : RemovalInterval} {s : List ℕ} (f : LayerFits k i s) (d : ℕ)
+    → factsOf (delayed (f .header) d) (f .extension) ≡ factsIn s
+facts-delayed f d =
+    facts-are (delayed (f .header) d) (f .extension)
+    ∙ rw (delayed-type (f .header) d) (sym (facts-are (f .header) (f .extension)))
+    ∙ sym (facts-parsed f)
+
+-- they tell the interval that was offered
+pub facts-field : (k : PictureKind) (i : RemovalInterval) (s : List ℕ) → layerFits k i s ≡ true → intervalOf (factsIn s .field) ≡ i
+facts-field k i s e =
+    let f = layer-fits k i s e in
+    ap (λ (y : PictureFacts). intervalOf (y .field)) (facts-parsed f ∙ facts-are (f .header) (f .extension)) ∙ f .interval
+
+-- ---- the bits after the delay
 
 -- the low three bits of byte 7 are not all zero, or two zero bytes follow
 abbrev pub LowBits : List ℕ → Type 0
@@ -151,7 +177,7 @@ module _ {k : PictureKind} {i : RemovalInterval} {s : List ℕ} (f : LayerFits k
   pub layer-header : PictureHeaderParsed s (f .header)
   layer-header = picture-header-parsed s (f .header) (picture-parsed s (f .header) (f .extension) (f .parsed) .header)
 
-  -- the extension's code lies behind the header's eight bytes
+  -- the extension's code lies after the header's eight bytes
   pub layer-twelve : 12 ≤ length s
   layer-twelve =
       let r = picture-parsed s (f .header) (f .extension) (f .parsed) in

@@ -1,4 +1,4 @@
--- Headers, patched layers and zeros laid end to end: the coded pictures of such a stream, and what it declares.
+-- Headers, patched layers and zeros laid end to end: the pictures that such a stream shows, and what it declares.
 -- Assumes nothing.
 use mathlib.Core.Path.{_≡_, refl, sym, ap, _∙_}
 use Prim.Native.Nat.{ℕ, _+_, _*_, _<_}
@@ -15,16 +15,17 @@ use Rattle.scan.specs.Pictures.{pictures}
 use Rattle.scan.proofs.Laid.{Tail, laid-pictures}
 use Rattle.scan.proofs.Laying.{Piece, Pieces, none, more, laid, laidPics, laid-none, laid-more, pics-none, pics-last, pics-more}
 use Rattle.scan.proofs.Pieces.{piece-zeros}
-use Rattle.verify.specs.Coded.{told, headers, codedPictures}
 use Rattle.bits.specs.Refusals.{value}
-use Rattle.verify.specs.Sequence.{declared}
-use Rattle.verify.specs.declared.VbvStandard.the-variants.{Mpeg2}
-use Rattle.verify.specs.declared.CodedPicture.{CodedPicture}
-use Rattle.verify.proofs.Coding.{read-none, read-more, coded-read}
+use Rattle.pictures.specs.Seen.{intervalOf, shown, seenEach, seenPictures}
+use Rattle.pictures.specs.Sequence.{declared}
+use Rattle.pictures.specs.declared.VbvStandard.the-variants.{Mpeg2}
+use Rattle.pictures.specs.declared.SeenPicture.{SeenPicture}
+use Rattle.pictures.proofs.Seeing.{seen-none, seen-more, seen-all}
 use Rattle.layers.specs.declared.PictureKind.{PictureKind}
 use Rattle.layers.specs.Headers.{headersFit}
 use Rattle.layers.specs.Layer.{layerFits}
-use Rattle.layers.proofs.Laws.{layer-piece, headers-piece, layer-told, headers-declared}
+use Rattle.layers.proofs.Laws.{layer-piece, headers-piece, layer-shown, headers-declared}
+use Rattle.layers.proofs.Layers.{factsIn, facts-field}
 
 -- ---- parts
 
@@ -60,20 +61,20 @@ stream [] t = t
 stream (x ∷ xs) t = bytesOf x ++ stream xs t
 
 -- a part's picture, n bytes before the part, where it ends with byte e
-abbrev pub pictureOf : ℕ → Part → ℕ → CodedPicture
+abbrev pub pictureOf : ℕ → Part → ℕ → SeenPicture
 pictureOf n x e = record {
   «pos_bits» = 8 * (n + length (x .headers) + 4);
   «end_bits» = 8 * e;
   «vbv_delay» = x .delay;
-  interval = x .interval;
+  facts = factsIn (x .layer);
 }
 
--- the pictures of the parts, n bytes before the first and t behind the last: each ends where the next part begins, the last with what follows it
-unfoldable pub coded : ℕ → List Part → ℕ → List CodedPicture
+-- the pictures of the parts, n bytes before the first and t after the last: each ends where the next part begins, the last with what follows it
+unfoldable pub seen : ℕ → List Part → ℕ → List SeenPicture
 unfolding bytesOf
-coded n [] t = []
-coded n (x ∷ []) t = pictureOf n x (n + (length (bytesOf x) + t)) ∷ []
-coded n (x ∷ y ∷ xs) t = pictureOf n x (n + length (bytesOf x)) ∷ coded (n + length (bytesOf x)) (y ∷ xs) t
+seen n [] t = []
+seen n (x ∷ []) t = pictureOf n x (n + (length (bytesOf x) + t)) ∷ []
+seen n (x ∷ y ∷ xs) t = pictureOf n x (n + length (bytesOf x)) ∷ seen (n + length (bytesOf x)) (y ∷ xs) t
 
 -- ---- one part at a time
 
@@ -91,22 +92,22 @@ pub stream-more : (x : Part) (xs : List Part) (t : List ℕ) → stream (x ∷ x
 unfolding stream
 stream-more x xs t = refl
 
-pub coded-none : (n t : ℕ) → coded n [] t ≡ []
-unfolding coded
-coded-none n t = refl
+pub parts-none : (n t : ℕ) → seen n [] t ≡ []
+unfolding seen
+parts-none n t = refl
 
-pub coded-last : (n : ℕ) (x : Part) (t : ℕ) → coded n (x ∷ []) t ≡ pictureOf n x (n + (length (bytesOf x) + t)) ∷ []
-unfolding coded
-coded-last n x t = refl
+pub parts-last : (n : ℕ) (x : Part) (t : ℕ) → seen n (x ∷ []) t ≡ pictureOf n x (n + (length (bytesOf x) + t)) ∷ []
+unfolding seen
+parts-last n x t = refl
 
-pub coded-more : (n : ℕ) (x y : Part) (xs : List Part) (t : ℕ)
-    → coded n (x ∷ y ∷ xs) t ≡ pictureOf n x (n + length (bytesOf x)) ∷ coded (n + length (bytesOf x)) (y ∷ xs) t
-unfolding coded
-coded-more n x y xs t = refl
+pub parts-more : (n : ℕ) (x y : Part) (xs : List Part) (t : ℕ)
+    → seen n (x ∷ y ∷ xs) t ≡ pictureOf n x (n + length (bytesOf x)) ∷ seen (n + length (bytesOf x)) (y ∷ xs) t
+unfolding seen
+parts-more n x y xs t = refl
 
 -- ---- what the stream holds
 
--- a part is a piece, its picture behind its headers
+-- a part is a piece, its picture after its headers
 part-piece : {p : VbvParams} {placed : Bool} {x : Part} → PartFits p placed x → Piece (bytesOf x) (length (x .headers))
 unfolding bytesOf
 part-piece {p} {placed} {x} f =
@@ -123,35 +124,39 @@ stream-laid no-parts t = sym (laid-none t)
 stream-laid (part {x} f fs) t =
     ap (λ l. bytesOf x ++ l) (stream-laid fs t) ∙ sym (laid-more (bytesOf x) (length (x .headers)) (part-piece f) (pieces fs) t)
 
--- what a part's picture tells, wherever the part stands
-part-told : {p : VbvParams} {placed : Bool} {x : Part} → PartFits p placed x → (before t : List ℕ)
-    → told Mpeg2 (drop (length before + length (x .headers)) (before ++ (bytesOf x ++ t))) ≡ value (x .delay, x .interval)
-part-told {p} {placed} {x} f before t =
+-- a part's facts tell the interval that it was offered with
+pub part-interval : {p : VbvParams} {placed : Bool} {x : Part} → PartFits p placed x → intervalOf (factsIn (x .layer) .field) ≡ x .interval
+part-interval {p} {placed} {x} f = facts-field (f .kind) (x .interval) (x .layer) (f .layer-fits)
+
+-- what a part's picture shows, wherever the part stands
+part-shown : {p : VbvParams} {placed : Bool} {x : Part} → PartFits p placed x → (before t : List ℕ)
+    → shown Mpeg2 (drop (length before + length (x .headers)) (before ++ (bytesOf x ++ t))) ≡ value (x .delay, factsIn (x .layer))
+part-shown {p} {placed} {x} f before t =
     rw (
       drop-append-add before (bytesOf x ++ t) (length (x .headers)),
       ← part-then x t,
       drop-append-seam (x .headers) (patched (x .layer) (x .delay) ++ (replicate (x .zeros) 0 ++ t)),
     )
-    (layer-told (f .kind) (x .interval) (x .layer) (f .layer-fits) (f .layer-bytes) (x .delay) (f .delay-bits) (replicate (x .zeros) 0 ++ t))
+    (layer-shown (f .kind) (x .interval) (x .layer) (f .layer-fits) (f .layer-bytes) (x .delay) (f .delay-bits) (replicate (x .zeros) 0 ++ t))
 
--- forward: of the parts behind any bytes
-headers-read : {p : VbvParams} {placed : Bool} {xs : List Part} (f : PartsFit p placed xs) (before t : List ℕ)
-    → headers Mpeg2 (before ++ stream xs t) (laidPics (length before) (pieces f) (length t)) ≡ value (coded (length before) xs (length t))
-unfolding stream pieces coded
-headers-read no-parts before t = rw (pics-none (length before) (length t)) (read-none Mpeg2 _)
-headers-read (part {x} f no-parts) before t =
+-- forward: of the parts after any bytes
+parts-seen : {p : VbvParams} {placed : Bool} {xs : List Part} (f : PartsFit p placed xs) (before t : List ℕ)
+    → seenEach Mpeg2 (before ++ stream xs t) (laidPics (length before) (pieces f) (length t)) ≡ value (seen (length before) xs (length t))
+unfolding stream pieces seen
+parts-seen no-parts before t = rw (pics-none (length before) (length t)) (seen-none Mpeg2 _)
+parts-seen (part {x} f no-parts) before t =
     rw (pics-last (bytesOf x) (length (x .headers)) (part-piece f) (length before) (length t))
-    (read-more Mpeg2 _ _ _ (x .delay) (x .interval) [] [] (part-told f before t) (read-none Mpeg2 _))
-headers-read (part {x} f (part {x = y} {xs = ys} g gs)) before t =
+    (seen-more Mpeg2 _ _ _ (x .delay) (factsIn (x .layer)) [] [] (part-shown f before t) (seen-none Mpeg2 _))
+parts-seen (part {x} f (part {x = y} {xs = ys} g gs)) before t =
     let s : List ℕ = stream (y ∷ ys) t in
     rw (pics-more (bytesOf x) (length (x .headers)) (part-piece f) (bytesOf y) (length (y .headers)) (part-piece g) (pieces gs) (length before) (length t))
-    (read-more Mpeg2 _ _ _ (x .delay) (x .interval) _ _ (part-told f before s)
-    (rw (append-assoc before (bytesOf x) s, length-append before (bytesOf x)) at (headers-read (part g gs) (before ++ bytesOf x) t)))
+    (seen-more Mpeg2 _ _ _ (x .delay) (factsIn (x .layer)) _ _ (part-shown f before s)
+    (rw (append-assoc before (bytesOf x) s, length-append before (bytesOf x)) at (parts-seen (part g gs) (before ++ bytesOf x) t)))
 
-pub stream-coded : {p : VbvParams} {placed : Bool} {xs : List Part} {t : List ℕ}
-    → PartsFit p placed xs → Tail t → codedPictures Mpeg2 (stream xs t) ≡ value (coded 0 xs (length t))
-stream-coded {p} {placed} {xs} {t} f w =
-    coded-read Mpeg2 (stream xs t) (ap pictures (stream-laid f t) ∙ laid-pictures (pieces f) t w) (headers-read f [] t)
+pub stream-seen : {p : VbvParams} {placed : Bool} {xs : List Part} {t : List ℕ}
+    → PartsFit p placed xs → Tail t → seenPictures Mpeg2 (stream xs t) ≡ value (seen 0 xs (length t))
+stream-seen {p} {placed} {xs} {t} f w =
+    seen-all Mpeg2 (stream xs t) (ap pictures (stream-laid f t) ∙ laid-pictures (pieces f) t w) (parts-seen f [] t)
 
 pub stream-declared : {p : VbvParams} {x : Part} → PartFits p false x → (xs : List Part) (t : List ℕ)
     → declared Mpeg2 (stream (x ∷ xs) t) ≡ value p

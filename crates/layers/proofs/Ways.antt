@@ -1,4 +1,4 @@
--- What the code's tests say: bytes at an index, the codes that a search finds, and the bits and bytes behind a picture header.
+-- What the code's tests say: bytes at an index, the codes that a search finds, and the bits and bytes after a picture header.
 -- Assumes nothing.
 use mathlib.Core.Path.{_≡_, refl, sym, _∙_}
 use Prim.Native.Nat.{ℕ, _+_, _-_, _*_, _/_, _%_, _≤_, _<_}
@@ -8,6 +8,7 @@ use native.Mathlib.Omega.{arith}
 use lib.Dec.{eqb, leb}
 use lib.ListN.{length, getD, take, drop}
 use borrow.Author.Tests.{le-leb, lt-leb, leb-true, leb-false}
+use Rattle.bits.specs.StartCodes.{sequenceHeaderCode}
 use Rattle.bits.specs.Bits.{there}
 use Rattle.bits.specs.Answers.{readBits}
 use Rattle.bits.specs.Refusals.{Answer, value, refused}
@@ -22,7 +23,7 @@ use Rattle.headers.proofs.StartCode.{zeros-past, zeros-none, zeros-more, prefix
 use Rattle.picture_header.proofs.PictureHeader.{picture-header-parsed}
 use Rattle.picture_header.proofs.Extent.{header-bits, header-bytes}
 use Rattle.vbv.specs.declared.RemovalInterval.{RemovalInterval}
-use Rattle.verify.specs.Coded.{intervalOf}
+use Rattle.pictures.specs.Seen.{isField, intervalOf}
 use Rattle.scan.specs.declared.Found.the-variants.{At, Nothing}
 use Rattle.scan.specs.Codes.{codes, codesAt, every, nextCode, endsPrefix, found}
 use Rattle.scan.specs.Pictures.{isSlice, notSequence, skip}
@@ -55,7 +56,7 @@ unfolding sequenceFirst
 first-none s e = rw (codes-from-zero s, unseen s 0 e)
 
 pub first-some : (s : List ℕ) (o c : ℕ) → nextCode s 0 ≡ At o c
-    → (eqb o 0 && (eqb c 0xB3 && every notSequence (codesAt s (o + 4)))) ≡ sequenceFirst (codes s)
+    → (eqb o 0 && (eqb c sequenceHeaderCode && every notSequence (codesAt s (o + 4)))) ≡ sequenceFirst (codes s)
 unfolding sequenceFirst
 first-some s o c e = rw (codes-from-zero s, seen s 0 o c e .list)
 
@@ -98,7 +99,7 @@ zeros-test s k h = case (eqb (getD s k 0) 0) refl (eqb (getD s (k + 1) 0) 0) ref
     case true e false f = sym (lt-leb 2 (zeros (drop k s)) (omega (arith, zeros-more s k (omega arith) e, zeros-none s (k + 1) (omega arith) f)))
     case true e true f = sym (le-leb 2 (zeros (drop k s)) (omega (arith, zeros-more s k (omega arith) e, zeros-more s (k + 1) (omega arith) f)))
 
--- ---- behind a picture header
+-- ---- after a picture header
 
 module _ (s : List ℕ) (h : Mpeg2PictureHeader) (e : pictureHeader s ≡ value h) where
   abbrev n : ℕ
@@ -108,7 +109,7 @@ module _ (s : List ℕ) (h : Mpeg2PictureHeader) (e : pictureHeader s ≡ value 
   abbrev last : ℕ
   last = h .«extra_information_bit» + n
 
-  -- bytes of extra information lie in the layer, with bytes of the header behind them
+  -- bytes of extra information lie in the layer, with bytes of the header after them
   pub extra-room : h .«extra_information_bit» + 9 * n < 8 * length s
   extra-room = picture-header-parsed s h e .last-flag
 
@@ -149,7 +150,7 @@ tests-none k i s n e = rw (← e)
 -- both headers' tests, the vectors' four in one
 pub tests-are : (k : PictureKind) (i : RemovalInterval) (s : List ℕ) (h : Mpeg2PictureHeader) (x : PictureCodingExtension) → value (h, x) ≡ picture s
     → (sameKind k (h .«picture_coding_type»)
-    && (sameInterval i (intervalOf (x .«picture_structure»))
+    && (sameInterval i (intervalOf (isField (x .«picture_structure»)))
     && (not (x .«repeat_first_field»)
     && ((flagClear (h .«full_pel_forward_vector») && (codeSeven (h .«fwd_f_code») && (flagClear (h .«full_pel_backward_vector») && codeSeven (h .«bwd_f_code»))))
     && (eqb (padding s h) 0 && leb 2 (zeros (drop (pictureHeaderBytes h) s)))))))

@@ -4,6 +4,8 @@ use Prim.Native.Nat.{ℕ, _*_}
 use mathlib.Core.List.{List, [], _∷_}
 use mathlib.Core.Bool.{Bool, true, false, not, _&&_, _||_}
 use lib.Dec.{eqb}
+use Rattle.vbv.specs.Params.{rateUnit, bufferUnit}
+use Rattle.bits.specs.StartCodes.{userDataStartCode, sequenceHeaderCode, extensionStartCode, groupStartCode}
 use Rattle.headers.specs.StartCode.{prefixAt}
 use Rattle.headers.specs.Sequence.{sequence}
 use Rattle.headers.specs.declared.sequence_extension.Mpeg2Sequence.{Mpeg2Sequence}
@@ -20,7 +22,7 @@ opensHeaders (b ∷ s) = prefixAt (b ∷ s) 0
 
 -- user_data, sequence_header, extension, group_of_pictures (Table 6-1)
 unfoldable pub headerCode : ℕ → Bool
-headerCode c = eqb c 0xB2 || (eqb c 0xB3 || (eqb c 0xB5 || eqb c 0xB8))
+headerCode c = eqb c userDataStartCode || (eqb c sequenceHeaderCode || (eqb c extensionStartCode || eqb c groupStartCode))
 
 -- this frame rate
 unfoldable pub sameRate : VbvParams → ℕ → Bool
@@ -29,8 +31,8 @@ sameRate p code = orElse false (andThen (frameRate code) (λ f. value (eqb (f .0
 -- this R, B and rate, frame rate extensions 0
 unfoldable pub sameParams : VbvParams → Mpeg2Sequence → Bool
 sameParams p q =
-    eqb (400 * q .«bit_rate») (p .«bit_rate»)
-    && (eqb (16384 * q .«vbv_buffer_size») (p .«buffer_size_bits»)
+    eqb (rateUnit * q .«bit_rate») (p .«bit_rate»)
+    && (eqb (bufferUnit * q .«vbv_buffer_size») (p .«buffer_size_bits»)
     && (sameRate p (q .header .«frame_rate_code»)
     && (eqb (q .extension .«frame_rate_extension_n») 0
     && eqb (q .extension .«frame_rate_extension_d») 0)))
@@ -42,7 +44,7 @@ declares p h = orElse false (andThen (sequence h) (λ q. value (sameParams p q))
 -- B3 exactly once, at byte 0
 unfoldable pub sequenceFirst : List Code → Bool
 sequenceFirst [] = false
-sequenceFirst (c ∷ cs) = eqb (c .offset) 0 && (eqb (c .code) 0xB3 && every notSequence cs)
+sequenceFirst (c ∷ cs) = eqb (c .offset) 0 && (eqb (c .code) sequenceHeaderCode && every notSequence cs)
 
 -- before the first picture that is placed, and before any other
 unfoldable pub sequenceFits : VbvParams → Bool → List ℕ → Bool

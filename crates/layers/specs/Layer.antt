@@ -5,6 +5,7 @@ use mathlib.Core.List.{List, [], _∷_}
 use mathlib.Core.Bool.{Bool, true, false, not, _&&_, _||_}
 use lib.Dec.{eqb, leb}
 use lib.ListN.{drop}
+use Rattle.bits.specs.StartCodes.{userDataStartCode, extensionStartCode}
 use Rattle.bits.specs.Bits.{bitsAt}
 use Rattle.bits.specs.Refusals.{value, andThen, orElse}
 use Rattle.headers.specs.StartCode.{zeros}
@@ -20,7 +21,7 @@ use Rattle.picture_header.specs.declared.Mpeg2PictureHeader.{Mpeg2PictureHeader
 use Rattle.picture_header.specs.declared.PictureCodingExtension.{PictureCodingExtension}
 use Rattle.vbv.specs.declared.RemovalInterval.{RemovalInterval}
 use Rattle.vbv.specs.declared.RemovalInterval.the-variants.{Frame, Field}
-use Rattle.verify.specs.Coded.{intervalOf}
+use Rattle.pictures.specs.Seen.{isField, intervalOf}
 use Rattle.scan.specs.Codes.{Code, codes, every, endsPrefix}
 use Rattle.scan.specs.Pictures.{isSlice, skip}
 use Rattle.layers.specs.declared.PictureKind.{PictureKind}
@@ -61,11 +62,11 @@ codeSeven (SomeCode c) = eqb c 7
 unfoldable pub padding : List ℕ → Mpeg2PictureHeader → ℕ
 padding s h = bitsAt s (pictureHeaderBits h) (8 * pictureHeaderBytes h - pictureHeaderBits h)
 
--- what the two headers tell; two zero bytes behind the picture header: the extension's prefix lies there, with only zeros between
+-- what the two headers tell; two zero bytes after the picture header: the extension's prefix lies there, with only zeros between
 unfoldable pub headersTell : PictureKind → RemovalInterval → List ℕ → Mpeg2PictureHeader → PictureCodingExtension → Bool
 headersTell k i s h x =
     sameKind k (h .«picture_coding_type»)
-    && (sameInterval i (intervalOf (x .«picture_structure»))
+    && (sameInterval i (intervalOf (isField (x .«picture_structure»)))
     && (not (x .«repeat_first_field»)
     && (flagClear (h .«full_pel_forward_vector»)
     && (codeSeven (h .«fwd_f_code»)
@@ -85,7 +86,7 @@ slices (c ∷ cs) = isSlice (c .code) && every isSlice cs
 
 -- extension and user_data (Table 6-1)
 unfoldable pub isExtension : ℕ → Bool
-isExtension c = eqb c 0xB5 || eqb c 0xB2
+isExtension c = eqb c extensionStartCode || eqb c userDataStartCode
 
 -- 00 once at byte 0, then any of B5 and B2, then the slices
 unfoldable pub layerCodes : List Code → Bool

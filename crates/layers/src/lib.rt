@@ -12,6 +12,12 @@ ghost use Rattle.layers.specs.Headers.{opensHeaders, sameRate, sameParam
 ghost use Rattle.layers.specs.Layer.{sameKind, sameInterval, flagClear, codeSeven, padding, headerFits, slices, isExtension, layerCodes, layerFits};
 ghost use Rattle.layers.specs.Steps.{inSet};
 use bits::Bits;
+use bits::start_codes::EXTENSION_START_CODE;
+use bits::start_codes::FIRST_SLICE_CODE;
+use bits::start_codes::GROUP_START_CODE;
+use bits::start_codes::LAST_SLICE_CODE;
+use bits::start_codes::SEQUENCE_HEADER_CODE;
+use bits::start_codes::USER_DATA_START_CODE;
 use headers::sequence_extension::Mpeg2Sequence;
 use headers::sequence_header::Answer;
 use picture_header::Mpeg2PictureHeader;
@@ -20,7 +26,9 @@ use picture_header::OptionFlag;
 use picture_header::PictureCodingType;
 use picture_header::PictureRead;
 use scan::Found;
+use vbv::BUFFER_UNIT;
 use vbv::FrameRate;
+use vbv::RATE_UNIT;
 use vbv::RemovalInterval;
 use vbv::VbvParams;
 
@@ -48,10 +56,14 @@ fn in_set(set: CodeSet, code: u8) -> bool
     ensures { λ r. ⌜ r ≡ inSet set code ⌝ }
 {
     match set {
-        CodeSet::Headers => (code == 0xB2) | ((code == 0xB3) | ((code == 0xB5) | (code == 0xB8))),
-        CodeSet::NoSequence => code != 0xB3,
-        CodeSet::Extensions => (code == 0xB5) | (code == 0xB2),
-        CodeSet::Slices => (1 <= code) & (code <= 0xAF),
+        CodeSet::Headers => {
+            (code == USER_DATA_START_CODE)
+                | ((code == SEQUENCE_HEADER_CODE)
+                    | ((code == EXTENSION_START_CODE) | (code == GROUP_START_CODE)))
+        }
+        CodeSet::NoSequence => code != SEQUENCE_HEADER_CODE,
+        CodeSet::Extensions => (code == EXTENSION_START_CODE) | (code == USER_DATA_START_CODE),
+        CodeSet::Slices => (FIRST_SLICE_CODE <= code) & (code <= LAST_SLICE_CODE),
     }
 }
 
@@ -110,7 +122,9 @@ fn sequence_first(headers: &[u8]) -> bool
 {
     match scan::next_code(headers, 0) {
         Found::At { offset, code } => {
-            (offset == 0) & ((code == 0xB3) & all_in_set(headers, offset + 4, CodeSet::NoSequence))
+            (offset == 0)
+                & ((code == SEQUENCE_HEADER_CODE)
+                    & all_in_set(headers, offset + 4, CodeSet::NoSequence))
         }
         Found::Nothing => false,
     }
@@ -134,8 +148,8 @@ fn same_params(params: VbvParams, sequence: Mpeg2Sequence) -> bool
     let extension = sequence.extension;
     let rate = sequence.bit_rate as u64;
     let buffer = sequence.vbv_buffer_size as u64;
-    (400 * rate == params.bit_rate)
-        & ((16384 * buffer == params.buffer_size_bits)
+    (RATE_UNIT * rate == params.bit_rate)
+        & ((BUFFER_UNIT * buffer == params.buffer_size_bits)
             & (same_rate(params, header.frame_rate_code)
                 & ((extension.frame_rate_extension_n == 0)
                     & (extension.frame_rate_extension_d == 0))))
@@ -295,7 +309,7 @@ fn header_fits(layer: &[u8], kind: PictureKind, interval: RemovalInterval) -> bo
             let coded = header.picture_coding_type;
             let structure = extension.picture_structure;
             same_kind(kind, coded)
-                & (same_interval(interval, verify::interval(structure))
+                & (same_interval(interval, pictures::interval(pictures::is_field(structure)))
                     & (!extension.repeat_first_field
                         & (vectors_fit(header)
                             & (padding_clear(layer, header) & zeros_behind(layer, header)))))

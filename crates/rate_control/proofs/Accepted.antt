@@ -11,14 +11,15 @@ use Rattle.vbv.specs.declared.VbvParams.{VbvParams}
 use Rattle.vbv.proofs.Laws.{units-over, units-beyond}
 use Rattle.verify.specs.Run.{run}
 use Rattle.bits.specs.Refusals.{value}
-use Rattle.verify.specs.Coded.{codedPictures}
-use Rattle.verify.specs.Sequence.{declared}
-use Rattle.verify.specs.declared.VbvStandard.the-variants.{Mpeg2}
+use Rattle.pictures.specs.Sequence.{declared}
+use Rattle.pictures.specs.Seen.{seenPictures}
+use Rattle.pictures.specs.declared.VbvStandard.the-variants.{Mpeg2}
+use Rattle.verify.specs.Coded.{timed}
 use Rattle.verify.proofs.Accepting.{Passed, exactRecord, run-none, run-passed, accepted}
-use Rattle.layers.proofs.Stream.{Part, PartsFit, part, stream, coded, coded-none, stream-coded, stream-declared}
+use Rattle.layers.proofs.Stream.{Part, PartsFit, part, stream, seen, parts-none, stream-seen, stream-declared}
 use Rattle.rate_control.specs.Sent.{Sent, endToEnd, no-removal, removal-then, sentRecord, sentRecords, PassesCheck}
 use Rattle.rate_control.proofs.Removing.{Done, RemovalsDone, EachDone}
-use Rattle.rate_control.proofs.Sending.{codedSent, codedBy, Sending}
+use Rattle.rate_control.proofs.Sending.{seenBy, seenSent, codedSent, codedBy, Sending}
 
 -- ---- the run over the pictures
 
@@ -46,28 +47,30 @@ course-ran n (removal-then {xs = xs} r c) = rw (← done-record r) (run-passed n
 
 -- ---- the verdict
 
-coded-length : (xs : List Sent) → length (codedBy xs) ≡ length xs
-unfolding codedBy
-coded-length [] = refl
-coded-length (x ∷ xs) = ap suc (coded-length xs)
+seen-length : (xs : List Sent) → length (seenBy xs) ≡ length xs
+unfolding seenBy
+seen-length [] = refl
+seen-length (x ∷ xs) = ap suc (seen-length xs)
 
 first-told : {p : VbvParams} {d previous : ℕ} {x : Sent} {xs : List Sent} → RemovalsDone p d previous (x ∷ xs) → x .delay ≤ 65534
 first-told (removal-then r c) = r .as-placed .delay-told
 
 passes-by : (p : VbvParams) (x : Sent) (xs : List Sent) → paramsFit p ≡ true → 8 * length (endToEnd (x ∷ xs)) ≤ farthest → EachDone p (x ∷ xs)
-    → declared Mpeg2 (endToEnd (x ∷ xs)) ≡ value p → codedPictures Mpeg2 (endToEnd (x ∷ xs)) ≡ value (codedBy (x ∷ xs)) → PassesCheck p (x ∷ xs)
-unfolding codedBy codedSent sentRecords
-passes-by p x xs f l c d h places m = accepted Mpeg2 (endToEnd (x ∷ xs)) places l d h (first-told c) f (rw (coded-length xs) m) (course-ran 0 c)
+    → declared Mpeg2 (endToEnd (x ∷ xs)) ≡ value p → seenPictures Mpeg2 (endToEnd (x ∷ xs)) ≡ value (seenBy (x ∷ xs)) → timed (seenBy (x ∷ xs)) ≡ codedBy (x ∷ xs)
+    → PassesCheck p (x ∷ xs)
+unfolding seenBy seenSent sentRecords
+passes-by p x xs f l c d h t places m =
+    accepted places (record { short = l; declares = d; pictures-are = h }) (first-told c) f (rw (seen-length xs) m) (rw t (course-ran 0 c))
 
 sending-declared : {p : VbvParams} {x : Sent} {xs : List Sent} → Sending p false 0 (x ∷ xs) → declared Mpeg2 (endToEnd (x ∷ xs)) ≡ value p
-unfolding codedBy
-sending-declared {p} {x} {xs} a = ap (declared Mpeg2) (a .laid-is) ∙ go (a .parts) (a .fit) (a .coded-is)
+unfolding seenBy
+sending-declared {p} {x} {xs} a = ap (declared Mpeg2) (a .laid-is) ∙ go (a .parts) (a .fit) (a .seen-is)
   where
-    go : (ys : List Part) → PartsFit p false ys → coded 0 ys (length (a .follows)) ≡ codedBy (x ∷ xs) → declared Mpeg2 (stream ys (a .follows)) ≡ value p
-    go [] f e = let z = sym (coded-none 0 (length (a .follows))) ∙ e in cc
+    go : (ys : List Part) → PartsFit p false ys → seen 0 ys (length (a .follows)) ≡ seenBy (x ∷ xs) → declared Mpeg2 (stream ys (a .follows)) ≡ value p
+    go [] f e = let z = sym (parts-none 0 (length (a .follows))) ∙ e in cc
     go (y ∷ ys) (part f fs) e = stream-declared f ys (a .follows)
 
 pub passes : (p : VbvParams) (xs : List Sent) → paramsFit p ≡ true → 8 * length (endToEnd xs) ≤ farthest → EachDone p xs → Sending p false 0 xs → PassesCheck p xs
 passes p [] f l c a = tt
 passes p (x ∷ xs) f l c a =
-    passes-by p x xs f l c (sending-declared a) (ap (codedPictures Mpeg2) (a .laid-is) ∙ stream-coded (a .fit) (a .ends) ∙ ap value (a .coded-is))
+    passes-by p x xs f l c (sending-declared a) (ap (seenPictures Mpeg2) (a .laid-is) ∙ stream-seen (a .fit) (a .ends) ∙ ap value (a .seen-is)) (a .timed-is)

@@ -15,7 +15,11 @@ use Rattle.vbv.proofs.After.{after as model-after}
 use Rattle.scan.specs.Codes.{sequenceEnd}
 use Rattle.scan.proofs.Laid.{Tail, tail-none, tail-end}
 use Rattle.verify.specs.declared.CodedPicture.{CodedPicture}
-use Rattle.layers.proofs.Stream.{Part, bytesOf, PartFits, PartsFit, no-parts, part, stream, pictureOf, coded, part-then, stream-none, stream-more, coded-none, coded-last, coded-more}
+use Rattle.pictures.specs.declared.SeenPicture.{SeenPicture}
+use Rattle.verify.specs.Coded.{timed}
+use Rattle.verify.proofs.Rising.{timed-none, timed-first}
+use Rattle.layers.proofs.Layers.{factsIn}
+use Rattle.layers.proofs.Stream.{Part, bytesOf, PartFits, PartsFit, no-parts, part, stream, pictureOf, seen, part-then, stream-none, stream-more, parts-none, parts-last, parts-more, part-interval}
 use Rattle.rate_control.specs.Answers.{Given}
 use Rattle.rate_control.specs.Offer.{Offer, end, deliveredNext, stuffing, delay, endCode, placedBytes, withPending, withPlaced, leftBy, outOf}
 use Rattle.rate_control.specs.Calls.{Call, offering, withdrawing, stepOf, leftByCall, stepsOf}
@@ -30,7 +34,14 @@ use Rattle.rate_control.proofs.Removing.{sentOf, finished-none}
 
 -- ---- one picture
 
--- a picture as the check is to see it
+-- a picture as its headers are to show it, and as the model is to see it
+unfoldable pub seenSent : Sent → SeenPicture
+seenSent x = record { «pos_bits» = sentPosition x; «end_bits» = sentEnd x; «vbv_delay» = x .delay; facts = factsIn (x .offer .layer) }
+
+unfoldable pub seenBy : List Sent → List SeenPicture
+seenBy [] = []
+seenBy (x ∷ xs) = seenSent x ∷ seenBy xs
+
 unfoldable pub codedSent : Sent → CodedPicture
 codedSent x = record { «pos_bits» = sentPosition x; «end_bits» = sentEnd x; «vbv_delay» = x .delay; interval = x .offer .interval }
 
@@ -55,24 +66,25 @@ pub record Sending (p : VbvParams) (placed : Bool) (n : ℕ) (xs : List Sent) : 
   pub parts : List Part
   pub follows : List ℕ
   pub laid-is : endToEnd xs ≡ stream parts follows
-  pub coded-is : coded n parts (length follows) ≡ codedBy xs
+  pub seen-is : seen n parts (length follows) ≡ seenBy xs
+  pub timed-is : timed (seenBy xs) ≡ codedBy xs
   pub fit : PartsFit p placed parts
   pub ends : Tail follows
   pub bare : parts ≡ [] → follows ≡ []
 
 -- the picture of a part before others
-coded-front : (n e : ℕ) (x : Part) (ys : List Part) (t : ℕ) {cs : List CodedPicture} → length (bytesOf x) ≡ e → (ys ≡ [] → t ≡ 0)
-    → coded (n + e) ys t ≡ cs → coded n (x ∷ ys) t ≡ pictureOf n x (n + e) ∷ cs
-coded-front n e x [] t l z h =
+seen-front : (n e : ℕ) (x : Part) (ys : List Part) (t : ℕ) {cs : List SeenPicture} → length (bytesOf x) ≡ e → (ys ≡ [] → t ≡ 0)
+    → seen (n + e) ys t ≡ cs → seen n (x ∷ ys) t ≡ pictureOf n x (n + e) ∷ cs
+seen-front n e x [] t l z h =
     let c : n + (length (bytesOf x) + t) ≡ n + e = omega (arith, z refl) in
-    rw (← h, coded-none, coded-last, c)
-coded-front n e x (y ∷ ys) t l z h = rw (← h, ← l) (coded-more n x y ys t)
+    rw (← h, parts-none, parts-last, c)
+seen-front n e x (y ∷ ys) t l z h = rw (← h, ← l) (parts-more n x y ys t)
 
 -- a picture before others; none after the last
 module _ {p : VbvParams} {placed : Bool} (n : ℕ) (w : CbrWriter) (o : Offer) {xs : List Sent} (f : PartFits p placed (partOf w o))
     (s : Sending p true (n + length (placedBytes w o)) xs) (z : o .last ≡ true → xs ≡ []) where
   last-sending : o .last ≡ true → Sending p placed n (sentOf n w o ∷ xs)
-  unfolding codedBy codedSent sentOf endToEnd positionOf
+  unfolding seenBy seenSent codedBy codedSent sentOf endToEnd positionOf
   last-sending e =
       let t = end-code-last (o .last) e in
       let c : n + (length (bytesOf (partOf w o)) + length sequenceEnd) ≡ n + length (placedBytes w o) = omega (arith, placed-length w o, ap length t) in
@@ -80,14 +92,15 @@ module _ {p : VbvParams} {placed : Bool} (n : ℕ) (w : CbrWriter) (o : Offer) {
         parts = partOf w o ∷ [];
         follows = sequenceEnd;
         laid-is = rw (z e, append-nil, placed-part w o, t, stream-more, stream-none);
-        coded-is = rw (z e, coded-last, c);
+        seen-is = rw (z e, parts-last, c);
+        timed-is = rw (timed-first, part-interval f, s .timed-is);
         fit = part f no-parts;
         ends = tail-end;
         bare = λ h. cc;
       }
 
   other-sending : o .last ≡ false → Sending p placed n (sentOf n w o ∷ xs)
-  unfolding codedBy codedSent sentOf endToEnd positionOf
+  unfolding seenBy seenSent codedBy codedSent sentOf endToEnd positionOf
   other-sending e =
       let t = end-code-none (o .last) e in
       let c : length (bytesOf (partOf w o)) ≡ length (placedBytes w o) = omega (arith, placed-length w o, ap length t) in
@@ -95,7 +108,8 @@ module _ {p : VbvParams} {placed : Bool} (n : ℕ) (w : CbrWriter) (o : Offer) {
         parts = partOf w o ∷ s .parts;
         follows = s .follows;
         laid-is = rw (s .laid-is, placed-part w o, t, append-nil, stream-more);
-        coded-is = coded-front n _ (partOf w o) (s .parts) (length (s .follows)) c (λ h. ap length (s .bare h)) (s .coded-is);
+        timed-is = rw (timed-first, part-interval f, s .timed-is);
+        seen-is = seen-front n _ (partOf w o) (s .parts) (length (s .follows)) c (λ h. ap length (s .bare h)) (s .seen-is);
         fit = part f (s .fit);
         ends = s .ends;
         bare = λ h. cc;
@@ -136,12 +150,13 @@ outcome-sending {w = w} {o = o} n l h b (hands-out g) s =
 
 pub sending : {m : ℕ} (n : ℕ) (w : CbrWriter) (l : List Call) → Inv m w → AllBytes l
     → Sending (w .model .params) (w .model .started) n (sent n (stepsOf w l))
-unfolding stepsOf stepOf leftByCall endToEnd sent codedBy withPending
+unfolding stepsOf stepOf leftByCall endToEnd sent seenBy codedBy withPending
 sending n w [] h b = record {
   parts = [];
   follows = [];
   laid-is = sym (stream-none []);
-  coded-is = coded-none n 0;
+  seen-is = parts-none n 0;
+  timed-is = timed-none;
   fit = no-parts;
   ends = tail-none;
   bare = λ e. refl;

@@ -12,7 +12,7 @@ use Rattle.vbv.specs.Model.{periods}
 use Rattle.vbv.specs.Patch.{patched}
 use Rattle.vbv.specs.declared.VbvParams.{VbvParams}
 use Rattle.verify.specs.Check.{accepted, verdict}
-use Rattle.verify.specs.declared.VbvStandard.the-variants.{Mpeg2}
+use Rattle.pictures.specs.declared.VbvStandard.the-variants.{Mpeg2}
 use Rattle.verify.specs.declared.VbvPictureRecord.{VbvPictureRecord}
 use Rattle.rate_control.specs.Answers.{Given, placed, again}
 use Rattle.rate_control.specs.Offer.{Offer, endCode}

@@ -104,7 +104,7 @@ fn call(s: &[u8], at: usize, writer: CbrWriter, out: &mut [u8], next: usize) -> 
         writer,
         at,
         next,
-        number: 32,
+        number: 132,
     };
     if s.len() < at || out.len() < next {
         return nothing;
@@ -176,7 +176,7 @@ fn offer(
         writer,
         at,
         next,
-        number: 32,
+        number: 132,
     };
     let part = h.part as usize;
     if out.len() < next {
@@ -208,7 +208,7 @@ fn withdraw(writer: CbrWriter, at: usize, out: &mut [u8], next: usize) -> Called
     let after = withdrawn.writer;
     let answer = withdrawn.answer;
     let number = match answer {
-        CbrWithdrawal::Withdrawn => 31,
+        CbrWithdrawal::Withdrawn => 131,
         CbrWithdrawal::Refused(e) => e.number(),
     };
     let told = Told {
@@ -246,14 +246,14 @@ fn set(writer: CbrWriter, far: &[u8], at: usize, out: &mut [u8], next: usize) ->
         finished: writer.finished,
     };
     let told = Told {
-        number: 29,
+        number: 129,
         words: [0, 0, 0, 0],
     };
     Called {
         writer: after,
         at,
         next: put_told(out, next, told, after),
-        number: 29,
+        number: 129,
     }
 }
 
@@ -269,7 +269,7 @@ fn in_words(answer: CbrAnswer) -> Told {
             words: [q as u64, vbv_delay as u64, bytes, stuffing_bytes],
         },
         CbrAnswer::Again(q) => Told {
-            number: 30,
+            number: 130,
             words: [q as u64, 0, 0, 0],
         },
         CbrAnswer::Refused(e) => refused(e),

@@ -155,9 +155,9 @@ fn print(text: &[u8], n: u64) {
 fn print_name(number: usize) -> bool {
     match number {
         0 => io::write_all(1, b"placed"),
-        29 => io::write_all(1, b"set by hand"),
-        30 => io::write_all(1, b"again"),
-        31 => io::write_all(1, b"withdrawn"),
+        129 => io::write_all(1, b"set by hand"),
+        130 => io::write_all(1, b"again"),
+        131 => io::write_all(1, b"withdrawn"),
         _ => {
             io::write_all(1, b"refused ");
             io::print_decimal(1, number as u64)
@@ -184,7 +184,7 @@ fn report_numbers(counts: &[u64]) {
 fn main() {
     let mut buf = io::large_buffer();
     let mut out = io::large_buffer();
-    let mut counts = [0u64; 32];
+    let mut counts = [0u64; 132];
     let lists = send(&mut buf, &mut out, &mut counts);
     report_numbers(&counts);
     print(b"cases ", lists.all);

@@ -11,7 +11,7 @@ use Rattle.scan.specs.Walk.{WalkGivesPictures, PicturesInOrder}
 use Rattle.verify.specs.Accepted.{AcceptedExactly, NothingCut}
 use Rattle.verify.specs.Due.{CheckDue}
 use Rattle.verify.specs.Numbers.{CheckNumbers}
-use Rattle.verify.specs.Recording.{RecordsYielded, RecordsCounted, RecordsSmall}
+use Rattle.verify.specs.Sizes.{RecordsYielded, RecordsCounted, RecordsSmall}
 use Rattle.rate_control.specs.Demand.{Demand3}
 use Rattle.rate_control.specs.Numbers.{WriterNumbers}
 use Rattle.rate_control.specs.Figures.{WriterFigures, TargetFigures, Rules, Steering}

@@ -1,3 +1,4 @@
+pub mod Params
 pub mod Fractions
 pub mod Figures
 pub mod Arith

@@ -12,7 +12,7 @@ use Rattle.verify.specs.Layout.{recordsBytes}
 use Rattle.verify.specs.declared.VbvPictureRecord.{VbvPictureRecord}
 use Rattle.verify.proofs.Storing.{records-more}
 use Rattle.bits.proofs.Reading.{rest-is}
-use Rattle.verify.specs.Recording.{AllSmall, none, some}
+use Rattle.verify.specs.Sizes.{AllSmall, none, some}
 use Rattle.vbvcheck.specs.Text.{line, recordLines}
 use Rattle.vbvcheck.specs.Steps.{lineOf, linesOf}
 

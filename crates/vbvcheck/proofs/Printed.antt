@@ -13,7 +13,7 @@ use Rattle.bits.specs.Refusals.{Answer, value, refused}
 use Rattle.verify.specs.Answers.{refusal, refusalOf, verifiedAnswer}
 use Rattle.verify.specs.Check.{Accepted, verdict, reportOf, reported, records}
 use Rattle.verify.specs.Layout.{recordsBytes}
-use Rattle.verify.specs.declared.VbvStandard.the-variants.{Mpeg2}
+use Rattle.pictures.specs.declared.VbvStandard.the-variants.{Mpeg2}
 use Rattle.verify.specs.declared.VbvVerified.{VbvVerified}
 use Rattle.verify.specs.declared.VbvVerified.the-variants.{Report, Refused}
 use Rattle.verify.specs.declared.VbvVerifyError.{VbvVerifyError}

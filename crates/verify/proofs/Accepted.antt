@@ -1,9 +1,9 @@
 -- The check accepts exactly the streams that pass, and no difference in their records is cut off.
 -- Assumes nothing.
-use mathlib.Core.Path.{_≡_, refl, subst}
+use mathlib.Core.Path.{_≡_, refl}
 use mathlib.Core.Bool.{true}
 use mathlib.Core.List.{List, [], _∷_}
-use Prim.Native.Nat.{ℕ, suc, _+_, _*_, _^_, _≤_}
+use Prim.Native.Nat.{ℕ, suc, _+_, _*_, _≤_}
 use native.Mathlib.Omega.{arith}
 use native.Mathlib.Nat.{mul-le-mul-right}
 use lib.ListN.{length}
@@ -15,17 +15,21 @@ use Rattle.vbv.specs.Model.{paramsFit, periods}
 use Rattle.vbv.specs.declared.VbvParams.{VbvParams}
 use Rattle.vbv.proofs.Picks.{was-no, was-held}
 use Rattle.vbv.proofs.Laws.{refused-value, units-beyond, occupancy-least}
-use Rattle.scan.specs.Pictures.{pictures}
-use Rattle.verify.specs.declared.VbvStandard.{VbvStandard}
+use Rattle.pictures.specs.Front.{Front, front}
+use Rattle.pictures.specs.Due as fr
+use Rattle.pictures.specs.Due.{Read, FrontDue}
+use Rattle.pictures.specs.Order.{Placed}
+use Rattle.pictures.specs.declared.VbvStandard.{VbvStandard}
+use Rattle.pictures.specs.declared.SeenPicture.{SeenPicture}
+use Rattle.pictures.proofs.Due.{front-due, front-read}
+use Rattle.pictures.proofs.Order.{seen-rising}
 use Rattle.verify.specs.declared.CodedPicture.{CodedPicture}
 use Rattle.verify.specs.declared.VbvPictureRecord.{VbvPictureRecord}
-use Rattle.verify.specs.Sequence.{declared}
-use Rattle.verify.specs.Coded.{codedPictures}
+use Rattle.verify.specs.Coded.{codedOf, timed}
 use Rattle.verify.specs.Run.{recordOf, removal, run}
 use Rattle.verify.specs.Check.{Accepted, accepted, withPictures, verdict}
 use Rattle.verify.specs.Accepted.{Conforms, Along, none, more, Passes, AcceptedExactly, Uncut, NothingCut}
-use Rattle.verify.proofs.Fold.{Reads, reads}
-use Rattle.verify.proofs.Rising.{Placed, Rising, last, next, rising}
+use Rattle.verify.proofs.Rising.{Rising, last, next, timed-rising, timed-first, timed-length}
 use Rattle.verify.proofs.Conforming.{conforms, conforming}
 
 -- ---- a run, both ways
@@ -56,19 +60,20 @@ along-run n (more h t) = rw (conforming n h, along-run (suc n) t)
 -- ---- a stream that passes
 
 module _ {standard : VbvStandard} {s : List ℕ} {places : ℕ} {p : VbvParams} {r : VbvPictureRecord} {rs : List VbvPictureRecord} (a : Passes standard s places p (r ∷ rs)) where
-  pub judged-is : withPictures places p (a .first ∷ a .others) ≡ value (record { params = p; first = r; others = rs })
+  pub judged-is : withPictures places p (codedOf (a .first)) (timed (a .others)) ≡ value (record { params = p; first = r; others = rs })
   unfolding withPictures pick
   judged-is =
+      let l : length (codedOf (a .first) ∷ timed (a .others)) ≤ places = omega (arith, timed-length (a .others), a .places-suffice) in
       rw (
         ne-eqb (a .first .«vbv_delay») 0xFFFF (a .constant-rate),
         a .params-fit,
-        le-ltb places (length (a .first ∷ a .others)) (a .places-suffice),
-        along-run 0 (a .removals),
+        le-ltb places (length (codedOf (a .first) ∷ timed (a .others))) l,
+        along-run 0 (rw (timed-first (a .first) (a .others)) at (a .removals)),
       )
 
   passing : verdict standard s places ≡ value (record { params = p; first = r; others = rs })
-  unfolding verdict pick
-  passing = rw (le-ltb (2 ^ 48) (8 * length s) (a .short), a .declares, a .pictures-are) judged-is
+  unfolding verdict
+  passing = rw (front-read (a .is-read)) judged-is
 
 -- ---- and back
 
@@ -79,56 +84,48 @@ was-ran (value []) h = absurd (refused-value h)
 was-ran {p} {v} (value (r ∷ rs)) h = let e : record { params = p; first = r; others = rs } ≡ v = cc in (rw (← e), rw (← e))
 
 module _ (standard : VbvStandard) (s : List ℕ) (places : ℕ) {v : Accepted} where
-  by-pictures : 8 * length s ≤ 2 ^ 48 → (q : VbvParams) → declared standard s ≡ value q → (o : Answer (List CodedPicture)) → codedPictures standard s ≡ o
-      → andThen o (λ cs. withPictures places q cs) ≡ value v → Passes standard s places (v .params) (v .first ∷ v .others)
+  by-pictures : {q : VbvParams} {x : SeenPicture} {xs : List SeenPicture} → Read standard s q x xs
+      → withPictures places q (codedOf x) (timed xs) ≡ value v → Passes standard s places (v .params) (v .first ∷ v .others)
   unfolding withPictures
-  by-pictures l q d (refused n k i j) x h = absurd (refused-value h)
-  by-pictures l q d (value []) x h = absurd (refused-value h)
-  by-pictures l q d (value (c ∷ cs)) x h =
+  by-pictures {q} {x} {xs} g h =
       let a = was-no _ _ _ refused-value h in
       let b = was-held (paramsFit q) _ _ refused-value (a .1) in
       let e = was-no _ _ _ refused-value (b .1) in
-      let f = was-ran (run q 0 0 (firstDelivered q (c .«pos_bits») (c .«vbv_delay»)) (c ∷ cs)) (e .1) in
+      let f = was-ran (run q 0 0 (firstDelivered q (x .«pos_bits») (x .«vbv_delay»)) (codedOf x ∷ timed xs)) (e .1) in
       rw (← f .0)
       record {
-        short = l;
-        declares = d;
-        first = c;
-        others = cs;
-        pictures-are = x;
-        constant-rate = eqb-false (c .«vbv_delay») 0xFFFF (a .0);
+        first = x;
+        others = xs;
+        is-read = g;
+        constant-rate = eqb-false (x .«vbv_delay») 0xFFFF (a .0);
         params-fit = b .0;
-        places-suffice = ltb-false places (length (c ∷ cs)) (e .0);
-        removals = run-along q 0 0 _ (c ∷ cs) (v .first ∷ v .others) (f .1);
+        places-suffice = omega (arith, timed-length xs, ltb-false places (length (codedOf x ∷ timed xs)) (e .0));
+        removals = rw (timed-first x xs) (run-along q 0 0 _ (codedOf x ∷ timed xs) (v .first ∷ v .others) (f .1));
       }
 
-  by-params : 8 * length s ≤ 2 ^ 48 → (o : Answer VbvParams) → declared standard s ≡ o
-      → andThen o (λ p. andThen (codedPictures standard s) (λ cs. withPictures places p cs)) ≡ value v
+  by-front : (a : Answer Front) → FrontDue standard s a
+      → andThen a (λ f. withPictures places (f .params) (codedOf (f .first)) (timed (f .others))) ≡ value v
       → Passes standard s places (v .params) (v .first ∷ v .others)
-  by-params l (refused n k i j) d h = absurd (refused-value h)
-  by-params l (value q) d h = by-pictures l q d (codedPictures standard s) refl h
+  by-front (refused n k i j) d h = absurd (refused-value h)
+  by-front (value f) (fr.shown g) h = by-pictures g h
 
   pub passed : verdict standard s places ≡ value v → Passes standard s places (v .params) (v .first ∷ v .others)
   unfolding verdict
-  passed h = let a = was-no _ _ _ refused-value h in by-params (ltb-false _ _ (a .0)) (declared standard s) refl (a .1)
+  passed h = by-front (front standard s) (front-due standard s) h
 
 pub accepted-exactly : AcceptedExactly
 accepted-exactly standard s places a = (passed standard s places, passing)
 
 -- ---- where the pictures of such a stream lie
 
-module _ {standard : VbvStandard} {s : List ℕ} {places : ℕ} {p : VbvParams} {rs : List VbvPictureRecord} (a : Passes standard s places p rs) where
-  pub are-read : Reads standard s (pictures s) (value (a .first ∷ a .others))
-  unfolding codedPictures
-  are-read = subst (Reads standard s (pictures s)) (a .pictures-are) (reads standard s (pictures s))
-
-  pub are-rising : Rising 0 (a .first ∷ a .others)
-  are-rising = rising (a .short) are-read
+pub are-rising : {standard : VbvStandard} {s : List ℕ} {places : ℕ} {p : VbvParams} {rs : List VbvPictureRecord} (a : Passes standard s places p rs)
+    → Rising 0 (timed (a .first ∷ a .others))
+are-rising {standard} {s} a = timed-rising (seen-rising standard s (a .first ∷ a .others) (a .is-read .short) (a .is-read .pictures-are))
 
 -- ---- no difference is cut off
 
 module _ {p : VbvParams} (f : paramsFit p ≡ true) where
-  removal-uncut : {previous d : ℕ} {c : CodedPicture} {r : VbvPictureRecord} → Placed previous c → Conforms p previous d c r → Uncut p previous d c r
+  removal-uncut : {previous d : ℕ} {c : CodedPicture} {r : VbvPictureRecord} → Placed previous (c .«pos_bits») (c .«end_bits») (c .«vbv_delay») → Conforms p previous d c r → Uncut p previous d c r
   unfolding recordOf
   removal-uncut {previous} {d} {c} q w =
       let e = w .no-underflow in

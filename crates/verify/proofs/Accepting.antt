@@ -11,11 +11,12 @@ use Rattle.vbv.specs.Annex.{firstDelivered, gain, overflows, beyond, expectedDe
 use Rattle.vbv.specs.Model.{paramsFit, periods}
 use Rattle.vbv.specs.declared.VbvParams.{VbvParams}
 use Rattle.vbv.proofs.Laws.{over-units, beyond-units}
-use Rattle.verify.specs.declared.VbvStandard.{VbvStandard}
 use Rattle.verify.specs.declared.CodedPicture.{CodedPicture}
 use Rattle.verify.specs.declared.VbvPictureRecord.{VbvPictureRecord}
-use Rattle.verify.specs.Sequence.{declared}
-use Rattle.verify.specs.Coded.{codedPictures}
+use Rattle.pictures.specs.Due.{Read}
+use Rattle.pictures.specs.declared.VbvStandard.{VbvStandard}
+use Rattle.pictures.specs.declared.SeenPicture.{SeenPicture}
+use Rattle.verify.specs.Coded.{timed}
 use Rattle.verify.specs.Run.{recordOf, run}
 use Rattle.verify.specs.Check.{verdict}
 use Rattle.verify.specs.Accepted.{Conforms}
@@ -63,20 +64,18 @@ pub run-passed : {p : VbvParams} {previous d : ℕ} {c : CodedPicture} (n : ℕ)
 unfolding run
 run-passed n cs h e = rw (conforming n (passed-conforms h), e)
 
-pub accepted : (standard : VbvStandard) (s : List ℕ) {p : VbvParams} {c : CodedPicture} {cs : List CodedPicture} {r : VbvPictureRecord} {rs : List VbvPictureRecord}
-    (places : ℕ) → 8 * length s ≤ 2 ^ 48 → declared standard s ≡ value p → codedPictures standard s ≡ value (c ∷ cs) → c .«vbv_delay» ≤ 65534
-    → paramsFit p ≡ true → length (c ∷ cs) ≤ places → run p 0 0 (firstDelivered p (c .«pos_bits») (c .«vbv_delay»)) (c ∷ cs) ≡ value (r ∷ rs)
+pub accepted : {standard : VbvStandard} {s : List ℕ} {p : VbvParams} {x : SeenPicture} {xs : List SeenPicture} {r : VbvPictureRecord} {rs : List VbvPictureRecord}
+    (places : ℕ) → Read standard s p x xs → x .«vbv_delay» ≤ 65534 → paramsFit p ≡ true → length (x ∷ xs) ≤ places
+    → run p 0 0 (firstDelivered p (x .«pos_bits») (x .«vbv_delay»)) (timed (x ∷ xs)) ≡ value (r ∷ rs)
     → verdict standard s places ≡ value (record { params = p; first = r; others = rs })
-accepted standard s {p} {c} {cs} {r} {rs} places l d h e f m t =
+accepted {standard} {s} {p} {x} {xs} {r} {rs} places g e f m t =
     accepted-exactly standard s places (record { params = p; first = r; others = rs }) .1
     (record {
-      short = l;
-      declares = d;
-      first = c;
-      others = cs;
-      pictures-are = h;
+      first = x;
+      others = xs;
+      is-read = g;
       constant-rate = λ z. omega arith;
       params-fit = f;
       places-suffice = m;
-      removals = run-along p 0 0 _ (c ∷ cs) (r ∷ rs) t;
+      removals = run-along p 0 0 _ (timed (x ∷ xs)) (r ∷ rs) t;
     })

@@ -10,33 +10,32 @@ use Rattle.bits.specs.Refusals.{Answer, value, refused}
 use Rattle.vbv.specs.Model.{paramsFit}
 use Rattle.vbv.specs.declared.VbvParams.{VbvParams}
 use Rattle.vbv.proofs.Fitting.{params-fit}
-use Rattle.vbv.proofs.Laws.{occupancy-most, units-over}
+use Rattle.vbv.proofs.Laws.{refused-value, occupancy-most, units-over}
 use Rattle.verify.specs.declared.CodedPicture.{CodedPicture}
 use Rattle.verify.specs.declared.VbvPictureRecord.{VbvPictureRecord}
 use Rattle.verify.specs.declared.VbvStreamReport.{VbvStreamReport}
 use Rattle.verify.specs.declared.VbvVerified.{VbvVerified}
 use Rattle.verify.specs.declared.VbvVerified.the-variants.{Report}
 use Rattle.verify.specs.Run.{recordOf}
-use Rattle.verify.specs.Check.{Accepted, verdict, reported, records}
+use Rattle.verify.specs.Check.{Accepted, verdict, reportOf, reported, records}
 use Rattle.verify.specs.Answers.{verifiedAnswer}
-use Rattle.verify.specs.Recorder.{recordCount}
-use Rattle.verify.specs.Recording.{Small, AllSmall, none, some, RecordsSmall}
+use Rattle.pictures.specs.Order.{Placed}
+use Rattle.verify.specs.Sizes.{Small, AllSmall, none, some, RecordsSmall}
 use Rattle.verify.specs.Accepted as ac
 use Rattle.verify.specs.Accepted.{Conforms, Along}
-use Rattle.verify.proofs.Rising.{Placed, Rising, last, next}
-use Rattle.verify.proofs.Recording.{count-is}
+use Rattle.verify.proofs.Rising.{Rising, last, next}
 use Rattle.verify.proofs.Accepted.{passed, are-rising}
 
 -- ---- the number of records
 
 pub picture-count : (r : VbvVerified) (v : Answer Accepted) (x : VbvStreamReport) → verifiedAnswer r ≡ reported v → r ≡ Report x → x .pictures ≡ length (records v)
-unfolding recordCount
-picture-count r v x h e = ap recordCount (sym e) ∙ count-is r v h
+picture-count r (value v) x h e = let y : _≡_ {A = Answer VbvStreamReport} (value x) (value (reportOf v)) = rw e at h in let z : x ≡ reportOf v = cc in rw z
+picture-count r (refused n k c d) x h e = let y : _≡_ {A = Answer VbvStreamReport} (value x) (refused n k c d) = rw e at h in absurd (refused-value (sym y))
 
 -- ---- their size
 
 module _ {p : VbvParams} (f : paramsFit p ≡ true) where
-  removal-small : {previous d : ℕ} {c : CodedPicture} {r : VbvPictureRecord} → Placed previous c → Conforms p previous d c r → Small r
+  removal-small : {previous d : ℕ} {c : CodedPicture} {r : VbvPictureRecord} → Placed previous (c .«pos_bits») (c .«end_bits») (c .«vbv_delay») → Conforms p previous d c r → Small r
   unfolding recordOf
   removal-small {previous} {d} {c} q w =
       rw (w .record-is)

@@ -19,8 +19,9 @@ use Rattle.verify.specs.declared.CodedPicture.{CodedPicture}
 use Rattle.verify.specs.declared.VbvPictureRecord.{VbvPictureRecord}
 use Rattle.verify.specs.declared.Removed.the-variants.{Recorded}
 use Rattle.verify.specs.Run.{recordOf, removal, run}
-use Rattle.verify.specs.Walk.{removed}
-use Rattle.verify.proofs.Rising.{Placed, Rising, last, next}
+use Rattle.verify.specs.Steps.{removed}
+use Rattle.pictures.specs.Order.{Placed}
+use Rattle.verify.proofs.Rising.{Rising, last, next}
 use Rattle.verify.proofs.Conforming.{conforms}
 use Rattle.verify.proofs.Removal.{removedAnswer, withModel, removal-is, RefusedBy, refused-by, recorded-by}
 
@@ -31,7 +32,7 @@ pub record Ready (p : VbvParams) (m : VbvCbrModel) : Type 0 where
   pub kept : m .params ≡ p
   pub few : m .removed ≤ m .«prev_end_bits»
 
-module _ {p : VbvParams} {m : VbvCbrModel} (y : Ready p m) {c : CodedPicture} (q : Placed (m .«prev_end_bits») c) where
+module _ {p : VbvParams} {m : VbvCbrModel} (y : Ready p m) (c : CodedPicture) (q : Placed (m .«prev_end_bits») (c .«pos_bits») (c .«end_bits») (c .«vbv_delay»)) where
   end-fits : EndFits m (c .«end_bits»)
   end-fits =
       record { end-far = q .end-far; end-low = omega (arith, q .grows); count = omega (arith, q .grows, q .end-far, y .few) }
@@ -39,7 +40,7 @@ module _ {p : VbvParams} {m : VbvCbrModel} (y : Ready p m) {c : CodedPicture} (q
   by-annex : removedAnswer (removed m c) ≡ withModel m c (removal p (m .removed) (m .«prev_end_bits») (delivered m) c)
   by-annex = rw (← y .kept) (removal-is m c (y .fits) (y .on) (q .position-far) end-fits)
 
-  -- the model behind a removal
+  -- the model after a removal
   step : {r : VbvPictureRecord} → removal p (m .removed) (m .«prev_end_bits») (delivered m) c ≡ value r
       → WasRemoved m (c .«end_bits») (c .interval) (afterRemoval m (c .«end_bits») (nextDelivered m (c .interval)))
   step {r} h =
@@ -57,7 +58,7 @@ module _ {p : VbvParams} {m : VbvCbrModel} (y : Ready p m) {c : CodedPicture} (q
       let f : paramsFit p ≡ true = rw (y .kept) at (fits-params m (y .fits)) in
       rw (w .record-is) (occupancy-most p f (m .«prev_end_bits») (delivered m) (units-over p _ _ (w .no-overflow)))
 
--- the course: each removal's record and the model behind it, up to the end or a refusal
+-- the course: each removal's record and the model after it, up to the end or a refusal
 pub data Course (p : VbvParams) : VbvCbrModel → List CodedPicture → Answer (List VbvPictureRecord) → Type 0 where
   ended : {m : VbvCbrModel} → Course p m [] (value [])
   ceased : {m : VbvCbrModel} {c : CodedPicture} {cs : List CodedPicture} {n k x y : ℕ} → RefusedBy (removed m c) n k x y → Course p m (c ∷ cs) (refused n k x y)
@@ -83,17 +84,17 @@ course {p} {m} y x (next {previous} {c} {cs} q t) =
     k = afterRemoval m (c .«end_bits») (nextDelivered m (c .interval))
 
     go : ((k : VbvCbrModel) → Ready p k → k .«prev_end_bits» ≡ c .«end_bits» → Course p k cs (run p (k .removed) (k .«prev_end_bits») (delivered k) cs))
-        → Placed (m .«prev_end_bits») c → (o : Answer VbvPictureRecord) → removal p (m .removed) (m .«prev_end_bits») (delivered m) c ≡ o
+        → Placed (m .«prev_end_bits») (c .«pos_bits») (c .«end_bits») (c .«vbv_delay») → (o : Answer VbvPictureRecord) → removal p (m .removed) (m .«prev_end_bits») (delivered m) c ≡ o
         → Course p m (c ∷ cs) (andThen o (λ r. andThen (run p (suc (m .removed)) (c .«end_bits») (delivered m + gain p (periods (c .interval))) cs) (λ rs. value (r ∷ rs))))
-    go ih q (refused n i u v) h = ceased {n = n} {k = i} {x = u} {y = v} (refused-by (removed m c) (by-annex y q ∙ rw h))
+    go ih q (refused n i u v) h = ceased {n = n} {k = i} {x = u} {y = v} (refused-by (removed m c) (by-annex y c q ∙ rw h))
     go ih q (value r) h =
-        let w = step y q h in
+        let w = step y c q h in
         let z : Ready p k
         = record { fits = w .fits; on = w .is-started; kept = w .params-kept ∙ y .kept; few = rw (w .count-is, w .end-is) (omega (arith, q .grows, y .few)) } in
         let d : delivered k ≡ delivered m + gain p (periods (c .interval)) = w .delivered-is ∙ next-told m (c .interval) ∙ rw (y .kept) in
         let e : run p (k .removed) (k .«prev_end_bits») (delivered k) cs
         ≡ run p (suc (m .removed)) (c .«end_bits») (delivered m + gain p (periods (c .interval))) cs = cc (add-one (m .removed)) in
         goes (run p (suc (m .removed)) (c .«end_bits») (delivered m + gain p (periods (c .interval))) cs)
-        (recorded-by (removed m c) (by-annex y q ∙ rw h))
-        (within y q h)
+        (recorded-by (removed m c) (by-annex y c q ∙ rw h))
+        (within y c q h)
         (subst (λ (o : Answer (List VbvPictureRecord)). Course p k cs o) e (ih k z (w .end-is)))

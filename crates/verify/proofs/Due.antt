@@ -3,7 +3,8 @@
 use mathlib.Core.Path.{_≡_, refl}
 use mathlib.Core.Bool.{Bool, true, false, _||_}
 use mathlib.Core.List.{List, [], _∷_}
-use Prim.Native.Nat.{ℕ, suc, _+_, _*_, _^_, _≤_}
+use Prim.Native.Nat.{ℕ, suc, _+_, _*_, _≤_, _<_}
+use native.Mathlib.Omega.{arith}
 use lib.Dec.{ltb}
 use lib.ListN.{length}
 use borrow.Author.Tests.{ltb-true, ltb-false, eqb-true, eqb-false, not-true, not-false}
@@ -13,14 +14,19 @@ use Rattle.vbv.specs.Annex.{unit, firstDelivered, gain}
 use Rattle.vbv.specs.Model.{periods}
 use Rattle.vbv.specs.declared.VbvParams.{VbvParams}
 use Rattle.vbv.proofs.Laws.{over-units, over-full, beyond-units, beyond-there}
-use Rattle.verify.specs.Sequence.{declared}
-use Rattle.verify.specs.Coded.{codedPictures}
+use Rattle.pictures.specs.Front.{Front, front}
+use Rattle.pictures.specs.Due as fr
+use Rattle.pictures.specs.Due.{Read, FrontDue}
+use Rattle.pictures.specs.declared.VbvStandard.{VbvStandard}
+use Rattle.pictures.specs.declared.SeenPicture.{SeenPicture}
+use Rattle.pictures.proofs.Due.{front-due}
+use Rattle.verify.specs.Coded.{codedOf, timed}
 use Rattle.verify.specs.Run.{apart, removal, run}
 use Rattle.verify.specs.Check.{Accepted, accepted, withPictures, verdict}
 use Rattle.verify.specs.Due as due
-use Rattle.verify.specs.Due.{expectedAt, AsExpected, RemovalDue, RunDue, Read, Modelled, VerdictDue, CheckDue}
-use Rattle.verify.specs.declared.VbvStandard.{VbvStandard}
+use Rattle.verify.specs.Due.{expectedAt, AsExpected, RemovalDue, RunDue, Modelled, VerdictDue, CheckDue}
 use Rattle.verify.specs.declared.CodedPicture.{CodedPicture}
+use Rattle.verify.proofs.Rising.{timed-first, timed-length}
 use Rattle.verify.specs.declared.VbvPictureRecord.{VbvPictureRecord}
 
 -- ---- a removal
@@ -79,36 +85,32 @@ module _ (standard : VbvStandard) (s : List ℕ) (places : ℕ) where
   abbrev J : Answer Accepted → Type 0
   J a = VerdictDue standard s places a
 
-  ran : {p : VbvParams} {c : CodedPicture} {cs : List CodedPicture} → Modelled standard s places p c cs → (a : Answer (List VbvPictureRecord))
-      → RunDue p 0 0 (firstDelivered p (c .«pos_bits») (c .«vbv_delay»)) (c ∷ cs) a → J (andThen a (accepted p))
-  ran g (refused n k i j) h = due.stopped g h
-  ran g (value (r ∷ rs)) h = due.accepted g h
+  ran : {p : VbvParams} {x : SeenPicture} {xs : List SeenPicture} → Modelled standard s places p x xs → (a : Answer (List VbvPictureRecord))
+      → RunDue p 0 0 (firstDelivered p (x .«pos_bits») (x .«vbv_delay»)) (codedOf x ∷ timed xs) a → J (andThen a (accepted p))
+  ran {p} {x} {xs} g (refused n k i j) h = due.stopped {p = p} {x = x} {xs = xs} {n = n} {k = k} {i = i} {j = j} g (rw (timed-first x xs) h)
+  ran {p} {x} {xs} g (value (r ∷ rs)) h = due.accepted {p = p} {x = x} {xs = xs} {r = r} {rs = rs} g (rw (timed-first x xs) h)
   ran g (value []) h = absurd (none h)
     where
       none : {p : VbvParams} {n previous d : ℕ} {c : CodedPicture} {cs : List CodedPicture} → RunDue p n previous d (c ∷ cs) (value []) → ⊥
       none = elim [ ]
 
-  with-pictures : (p : VbvParams) → 8 * length s ≤ 2 ^ 48 → declared standard s ≡ value p → (a : Answer (List CodedPicture)) → codedPictures standard s ≡ a
-      → J (andThen a (λ cs. withPictures places p cs))
+  with-pictures : {p : VbvParams} {x : SeenPicture} {xs : List SeenPicture} → Read standard s p x xs → J (withPictures places p (codedOf x) (timed xs))
   unfolding withPictures
-  with-pictures p l e (refused n k i j) h = due.unread l e h
-  with-pictures p l e (value []) h = due.no-picture l e h
-  with-pictures p l e (value (c ∷ cs)) h =
-      let g : Read standard s p c cs = record { short = l; declares = e; pictures-are = h } in
+  with-pictures {p} {x} {xs} g =
+      let l = timed-length xs in
       pick-elim J _ (λ z. due.variable-rate g (eqb-true _ _ z)) λ h5.
       pick-elim J _ (λ z. due.unfit g (eqb-false _ _ h5) (not-true _ z)) λ h12.
-      pick-elim J _ (λ z. due.few-places g (eqb-false _ _ h5) (not-false _ h12) (ltb-true _ _ z)) λ h15.
-      ran (record { is-read = g; constant-rate = eqb-false _ _ h5; params-fit = not-false _ h12; places-suffice = ltb-false _ _ h15 }) _
-      (run-due p 0 0 (firstDelivered p (c .«pos_bits») (c .«vbv_delay»)) (c ∷ cs))
+      pick-elim J _ (λ z. due.few-places g (eqb-false _ _ h5) (not-false _ h12) (omega (arith, ltb-true places (length (codedOf x ∷ timed xs)) z))) λ h15.
+      ran (record { is-read = g; constant-rate = eqb-false _ _ h5; params-fit = not-false _ h12; places-suffice = omega (arith, ltb-false places (length (codedOf x ∷ timed xs)) h15) }) _
+      (run-due p 0 0 (firstDelivered p (x .«pos_bits») (x .«vbv_delay»)) (codedOf x ∷ timed xs))
 
-  with-declared : 8 * length s ≤ 2 ^ 48 → (a : Answer VbvParams) → declared standard s ≡ a
-      → J (andThen a (λ p. andThen (codedPictures standard s) (λ cs. withPictures places p cs)))
-  with-declared l (refused n k i j) e = due.undeclared l e
-  with-declared l (value p) e = with-pictures p l e (codedPictures standard s) refl
+  by-front : (a : Answer Front) → FrontDue standard s a → J (andThen a (λ f. withPictures places (f .params) (codedOf (f .first)) (timed (f .others))))
+  by-front (refused n k i j) d = due.unread d
+  by-front (value f) (fr.shown g) = with-pictures g
 
   verdict-due : J (verdict standard s places)
   unfolding verdict
-  verdict-due = pick-elim J _ (λ e. due.too-far (ltb-true _ _ e)) λ h14. with-declared (ltb-false _ _ h14) (declared standard s) refl
+  verdict-due = by-front (front standard s) (front-due standard s)
 
 pub check-due : CheckDue
 check-due standard s places = verdict-due standard s places

@@ -1,37 +1,33 @@
--- The records of an accepted stream come one behind another from the walk of the check by value.
+-- The records of an accepted stream come one after another from the recorder.
 -- Assumes nothing.
-use mathlib.Core.Path.{_≡_, refl, sym}
-use Prim.Native.Nat.{ℕ, _*_, _^_, _≤_, _<_}
-use mathlib.Core.List.{List, _∷_}
+use mathlib.Core.Path.{_≡_, refl, sym, ap, _∙_}
+use Prim.Native.Nat.{ℕ, zero, suc, _*_, _^_, _≤_}
+use mathlib.Core.List.{List, [], _∷_, _++_}
 use native.Mathlib.Omega.{arith}
 use lib.ListN.{length}
-use borrow.Author.Tests.{lt-leb, le-leb}
-use Rattle.bits.specs.Bits.{pick}
-use Rattle.bits.specs.Refusals.{Answer, value, refused}
+use Rattle.bits.specs.Refusals.{Answer, value, refused, andThen, orElse}
 use Rattle.vbv.specs.declared.VbvParams.{VbvParams}
 use Rattle.vbv.specs.declared.VbvCbrModel.{VbvCbrModel}
-use Rattle.scan.specs.declared.Next.the-variants.{Picture, Done}
-use Rattle.verify.specs.declared.VbvStandard.{VbvStandard}
-use Rattle.verify.specs.declared.CodedPicture.{CodedPicture}
+use Rattle.pictures.specs.Sequence.{declared}
+use Rattle.pictures.specs.Seen.{nextSeen, nothing, one}
+use Rattle.pictures.specs.Order as walk
+use Rattle.pictures.specs.Order.{Visits}
+use Rattle.pictures.specs.declared.VbvStandard.{VbvStandard}
+use Rattle.pictures.specs.declared.SeenPicture.{SeenPicture}
+use Rattle.pictures.proofs.Order.{steps-give}
+use Rattle.verify.specs.Coded.{codedOf, timed}
+use Rattle.verify.specs.Check.{Accepted, verdict, reportOf, reported, records}
+use Rattle.verify.specs.Answers.{verifiedAnswer}
+use Rattle.verify.specs.Steps.{advanced, recordCount, recorderOf, noRecord, lastOf, stayed, wentOn, recordedBy, nextRecord, recordsOf}
 use Rattle.verify.specs.declared.VbvPictureRecord.{VbvPictureRecord}
+use Rattle.verify.specs.declared.VbvVerified.{VbvVerified}
+use Rattle.verify.specs.declared.VbvVerified.the-variants.{Report, Refused}
 use Rattle.verify.specs.declared.Progress.{Progress}
 use Rattle.verify.specs.declared.Progress.the-variants.{Fresh, Unmodelled, Running, Stopped}
 use Rattle.verify.specs.declared.recorder.VbvRecorder.{VbvRecorder}
-use Rattle.scan.specs.Pictures.{Pic}
-use Rattle.scan.specs.Walk as walk
-use Rattle.scan.specs.Walk.{nextPicture, Steps}
-use Rattle.verify.specs.Sequence.{declared}
-use Rattle.verify.specs.Check.{Accepted, verdict, reportOf, records}
-use Rattle.verify.specs.declared.VbvVerified.{VbvVerified}
-use Rattle.verify.specs.declared.VbvVerified.the-variants.{Report, Refused}
-use Rattle.verify.specs.Coded.{codedAt}
-use Rattle.verify.specs.Walk.{advanced}
-use Rattle.verify.specs.Recorder.{recorderOf, recordCount, noRecord, lastOf, stayed, wentOn, recordedBy, nextRecord}
-use Rattle.verify.specs.Recording.{Yields, no-more, one-more, Placing, RecordsYielded, RecordsCounted}
-use Rattle.scan.proofs.Pictures.{walk-gives}
-use Rattle.verify.proofs.Fold.{lastsAll, Reads, none, good}
-use Rattle.verify.proofs.Verdict.{judges}
-use Rattle.verify.proofs.Accepted.{passed, judged-is, are-read, are-rising}
+use Rattle.verify.proofs.Rising.{timed-first, timed-length}
+use Rattle.verify.proofs.Verdict.{lastsAll, lasts-length, judges}
+use Rattle.verify.proofs.Accepted.{passed, judged-is, are-rising}
 
 -- ---- a step
 
@@ -43,58 +39,84 @@ last-other (Running m r l g) h = absurd (h m r l g refl)
 last-other (Stopped e) h = refl
 
 module _ (s : List ℕ) (w : VbvRecorder) where
-  pub next-long : 35184372088832 < length s → stayed w ≡ nextRecord s w
-  unfolding nextRecord pick
-  next-long h = rw (lt-leb (8 * length s) (2 ^ 48) (omega arith))
+  pub record-none : value nothing ≡ nextSeen (w .standard) s (w .at) → stayed w ≡ nextRecord s w
+  unfolding nextRecord recordedBy
+  record-none e = rw (← e)
 
-  module _ (h : length s ≤ 35184372088832) where
-    short-is : nextRecord s w ≡ recordedBy s w (nextPicture s (w .at))
-    unfolding nextRecord pick
-    short-is = rw (le-leb (8 * length s) (2 ^ 48) (omega arith))
+  pub record-refused : {n k c d : ℕ} → refused n k c d ≡ nextSeen (w .standard) s (w .at) → stayed w ≡ nextRecord s w
+  unfolding nextRecord
+  record-refused e = rw (← e)
 
-    pub next-done : nextPicture s (w .at) ≡ Done → stayed w ≡ nextRecord s w
-    unfolding recordedBy
-    next-done e = rw (short-is, e)
+  pub record-one : (x : SeenPicture) (next : ℕ) → value (one x next) ≡ nextSeen (w .standard) s (w .at)
+      → wentOn w next (advanced (w .params) (w .progress) (codedOf x)) ≡ nextRecord s w
+  unfolding nextRecord recordedBy
+  record-one x next e = rw (← e)
 
-    module _ (a b k : ℕ) (e : nextPicture s (w .at) ≡ Picture a b k) where
-      pub next-unread : (n : ℕ) → refused n 0 0 0 ≡ codedAt (w .standard) s (record { start = a; end = b }) → stayed w ≡ nextRecord s w
-      unfolding recordedBy
-      next-unread n d = rw (short-is, e, ← d)
+-- the recorder after i steps
+abbrev pub stateOf : List ℕ → VbvRecorder → ℕ → VbvRecorder
+stateOf s w zero = w
+stateOf s w (suc i) = nextRecord s (stateOf s w i) .recorder
 
-      pub next-read : (c : CodedPicture) → value c ≡ codedAt (w .standard) s (record { start = a; end = b })
-          → wentOn w k (advanced (w .params) (w .progress) c) ≡ nextRecord s w
-      unfolding recordedBy
-      next-read c d = rw (short-is, e, ← d)
+-- the first step apart from the others
+pub state-front : (s : List ℕ) (w : VbvRecorder) (i : ℕ) → stateOf s w (suc i) ≡ stateOf s (nextRecord s w .recorder) i
+state-front s w zero = refl
+state-front s w (suc i) = ap (λ (x : VbvRecorder). nextRecord s x .recorder) (state-front s w i)
+
+-- and the last one
+pub records-last : (s : List ℕ) (w : VbvRecorder) (i : ℕ) → recordsOf s w (suc i) ≡ recordsOf s w i ++ (nextRecord s (stateOf s w i) .last ∷ [])
+unfolding recordsOf
+records-last s w zero = refl
+records-last s w (suc i) = rw (state-front s w i) (ap (λ (rs : List VbvPictureRecord). nextRecord s w .last ∷ rs) (records-last s (nextRecord s w .recorder) i))
+
+pub records-none : (s : List ℕ) (w : VbvRecorder) → recordsOf s w 0 ≡ []
+unfolding recordsOf
+records-none s w = refl
+
+pub records-front : (s : List ℕ) (w : VbvRecorder) (i : ℕ) → recordsOf s w (suc i) ≡ nextRecord s w .last ∷ recordsOf s (nextRecord s w .recorder) i
+unfolding recordsOf
+records-front s w i = refl
+
+pub records-length : (s : List ℕ) (w : VbvRecorder) (i : ℕ) → length (recordsOf s w i) ≡ i
+unfolding recordsOf
+records-length s w zero = refl
+records-length s w (suc i) = ap suc (records-length s (nextRecord s w .recorder) i)
 
 -- ---- the records
 
 abbrev standing : VbvStandard → VbvParams → ℕ → Progress → VbvRecorder
 standing standard p i st = record { standard = standard; params = p; at = i; progress = st }
 
-yields : {standard : VbvStandard} {s : List ℕ} → length s ≤ 35184372088832 → (p : VbvParams) {qs : List Pic} {cs : List CodedPicture} {i : ℕ} (st : Progress)
-    → Steps s i qs → Reads standard s qs (value cs) → Yields s (standing standard p i st) (lastsAll p st cs)
-unfolding lastsAll wentOn
-yields short p st (walk.done h) none = no-more
-yields {standard} {s} short p {i = i} st (walk.step {start = a} {end = b} {next = k} h t) (good {c = c} {cs = cs} q r) =
-    let e = next-read s (standing standard p i st) short a b k h c (sym q) in
-    one-more {w = standing standard p i st} {r = lastOf (advanced p st c)} {rs = lastsAll p (advanced p st c) cs} (rw (← e)) (rw (← e) (yields short p (advanced p st c) t r))
+-- call k gives the last record after picture k
+yields : {standard : VbvStandard} {s : List ℕ} (p : VbvParams) {xs : List SeenPicture} {i : ℕ} (st : Progress)
+    → Visits standard s i (value xs) → recordsOf s (standing standard p i st) (length xs) ≡ lastsAll p st (timed xs)
+unfolding recordsOf lastsAll wentOn timed
+yields p st (walk.ended h) = refl
+yields {standard} {s} p {i = i} st (walk.went-on {next = k} {x = x} {xs = xs} h t) =
+    let e = record-one s (standing standard p i st) x k (sym h) in
+    rw (← e) (ap (λ (rs : List VbvPictureRecord). lastOf (advanced p st (codedOf x)) ∷ rs) (yields p (advanced p st (codedOf x)) t))
 
--- of every stream, whatever its answer
-pub records-placed : RecordsYielded
-unfolding recorderOf
-records-placed standard s places = go (verdict standard s places) refl
+-- of an accepted stream they are the verdict's, as many as the answer counts, and there are places for them
+pub record Recorded (standard : VbvStandard) (s : List ℕ) (places : ℕ) (r : VbvVerified) : Type 0 where
+  pub each : recordsOf s (recorderOf standard (declared standard s)) (recordCount r) ≡ records (verdict standard s places)
+  pub count : recordCount r ≡ length (records (verdict standard s places))
+  pub few : recordCount r ≤ places
+
+pub recorded : (standard : VbvStandard) (s : List ℕ) (places : ℕ) (r : VbvVerified) → verifiedAnswer r ≡ reported (verdict standard s places) → Recorded standard s places r
+unfolding recordCount recorderOf
+recorded standard s places r h = go r (verdict standard s places) refl h
   where
-    go : (v : Answer Accepted) → verdict standard s places ≡ v → Placing s places (recorderOf standard (declared standard s)) (records v)
-    go (refused n k x y) h = record { each = no-more; few = omega arith }
-    go (value v) h =
-        let a = passed standard s places h in
-        let j = judges (v .params) places (a .first ∷ a .others) (are-rising a) in
-        let l = yields (omega (arith, a .short)) (v .params) Fresh (walk-gives s) (are-read a) in
-        rw (a .declares) record { each = rw (j .lasts (v .first) (v .others) (judged-is a)) at l; few = rw (judged-is a) at (j .few) }
-
-pub count-is : RecordsCounted
-unfolding recordCount
-count-is (Report x) (value v) h = let e : x ≡ reportOf v = cc in rw e
-count-is (Report x) (refused n k c e) h = let z : _≡_ {A = ℕ} 0 1 = cc in absurd (omega arith)
-count-is (Refused x) (value v) h = let z : _≡_ {A = ℕ} 0 1 = cc in absurd (omega arith)
-count-is (Refused x) (refused n k c e) h = refl
+    go : (r : VbvVerified) (v : Answer Accepted) → verdict standard s places ≡ v → verifiedAnswer r ≡ reported v → Recorded standard s places r
+    go (Refused x) (refused n k c e) z h = record { each = rw (z, records-none s (recorderOf standard (declared standard s))); count = rw z; few = omega arith }
+    go (Report x) (refused n k c e) z h = let y : _≡_ {A = ℕ} 0 1 = cc in absurd (omega arith)
+    go (Refused x) (value v) z h = let y : _≡_ {A = ℕ} 0 1 = cc in absurd (omega arith)
+    go (Report x) (value v) z h =
+        let a = passed standard s places z in
+        let e : x ≡ reportOf v = cc in
+        let j = judges (v .params) places (codedOf (a .first)) (timed (a .others)) (rw (timed-first (a .first) (a .others)) at (are-rising a)) in
+        let l : lastsAll (v .params) Fresh (timed (a .first ∷ a .others)) ≡ v .first ∷ v .others
+        = rw (timed-first (a .first) (a .others)) (j .lasts (v .first) (v .others) (judged-is a)) in
+        let m = timed-length (a .first ∷ a .others) in
+        let n = lasts-length (v .params) Fresh (timed (a .first ∷ a .others)) in
+        let q : length (a .first ∷ a .others) ≡ length (v .first ∷ v .others) = sym m ∙ sym n ∙ ap length l in
+        let y = yields (v .params) Fresh (rw (a .is-read .pictures-are) at (steps-give standard s (a .is-read .short))) in
+        rw e record { each = rw (z, a .is-read .declares, ← q) (y ∙ l); count = rw z; few = omega (arith, q, a .places-suffice) }

@@ -2,10 +2,10 @@
 -- Assumes nothing.
 use mathlib.Core.Path.{_≡_, refl, ap}
 use mathlib.Core.Bool.{true}
-use Prim.Native.Nat.{ℕ, _^_, _≤_}
+use Prim.Native.Nat.{ℕ, _≤_}
 use native.Mathlib.Omega.{arith}
 use Rattle.bits.specs.Refusals.{Answer, value, refused, andThen}
-use Rattle.vbv.specs.Model.{delivered, modelFits, afterRemoval, nextDelivered}
+use Rattle.vbv.specs.Model.{delivered, modelFits, afterRemoval, nextDelivered, farthest}
 use Rattle.vbv.specs.Steps.{EndFits}
 use Rattle.vbv.specs.declared.VbvCbrModel.{VbvCbrModel}
 use Rattle.vbv.proofs.Named.{pick-in, delay-named, removal-named, occupancy-named}
@@ -16,30 +16,30 @@ use Rattle.verify.specs.declared.VbvVerifyError.{VbvVerifyError}
 use Rattle.verify.specs.declared.Removed.{Removed}
 use Rattle.verify.specs.declared.Removed.the-variants.{Recorded, Refused}
 use Rattle.verify.specs.Run.{recordOf, removal}
-use Rattle.verify.specs.Walk.{removed, byDelay, byOccupancy, byRemoval, withDelays}
+use Rattle.verify.specs.Steps.{removed, removedAfter, removedFrom, recordedIf, withDelays}
 
--- the answer of the code by number and values; with the model behind it
+-- the answer of the code by number and values; with the model after it
 abbrev pub removedAnswer : Removed → Answer (VbvPictureRecord × VbvCbrModel)
 removedAnswer (Refused e) = refusal e
 removedAnswer (Recorded r m) = value (r, m)
 
--- Annex C's answer, with the model behind it
+-- Annex C's answer, with the model after it
 abbrev pub withModel : VbvCbrModel → CodedPicture → Answer VbvPictureRecord → Answer (VbvPictureRecord × VbvCbrModel)
 withModel m c a = andThen a (λ r. value (r, afterRemoval m (c .«end_bits») (nextDelivered m (c .interval))))
 
 module _ (m : VbvCbrModel) (c : CodedPicture) (f : modelFits m ≡ true) (s : m .started ≡ true)
-    (h : c .«pos_bits» ≤ 2 ^ 48) (g : EndFits m (c .«end_bits»)) where
+    (h : c .«pos_bits» ≤ farthest) (g : EndFits m (c .«end_bits»)) where
   pub removal-is : removedAnswer (removed m c) ≡ withModel m c (removal (m .params) (m .removed) (m .«prev_end_bits») (delivered m) c)
-  unfolding removed byDelay byOccupancy byRemoval withDelays removal recordOf
+  unfolding removed removedAfter removedFrom recordedIf withDelays removal recordOf
   removal-is =
       rw (
         delay-named m f s (c .«pos_bits») h,
-        pick-in (byDelay m c),
-        pick-in (byDelay m c),
+        pick-in (removedAfter m c),
+        pick-in (removedAfter m c),
         occupancy-named m f s,
         removal-named m f s (c .«end_bits») (c .interval) g,
-        pick-in (byRemoval m c _ _),
-        pick-in (byRemoval m c _ _),
+        pick-in (recordedIf m c _ _),
+        pick-in (recordedIf m c _ _),
         pick-in removedAnswer,
         pick-in removedAnswer,
         pick-in removedAnswer,

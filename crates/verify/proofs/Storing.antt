@@ -1,25 +1,34 @@
 -- Records stored in their places.
 -- Assumes nothing.
 use mathlib.Core.Path.{_≡_, refl, sym, _∙_}
-use Prim.Native.Nat.{ℕ, _+_, _-_, _*_, _≤_}
-use mathlib.Core.List.{List, [], _∷_, _++_}
+use Prim.Native.Nat.{ℕ, suc, _+_, _-_, _*_, _/_, _≤_}
+use mathlib.Core.List.{List, [], _∷_, _++_, append-nil, append-assoc}
 use native.Mathlib.Omega.{arith}
+use native.Mathlib.Numerals.{add-one}
 use lib.ListN.{length, take, drop, length-append}
-use lib.Seq.{sets}
+use lib.Seq.{sets, length-sets}
 use Rattle.bits.specs.Answers.{over}
 use Rattle.bits.proofs.Over.{over-sets, sets-append}
 use Rattle.words.specs.Words.{wordsBytes, laid}
 use Rattle.words.proofs.Bytes.{length-words}
 use Rattle.words.proofs.Laying.{laid-part}
-use Rattle.verify.specs.Layout.{recordBytes, recordsBytes}
+use Rattle.pictures.specs.Sequence.{declared}
+use Rattle.pictures.specs.declared.VbvStandard.{VbvStandard}
+use Rattle.verify.specs.Layout.{recordSize, recordBytes, recordsBytes}
+use Rattle.verify.specs.Answers.{verifiedAnswer}
+use Rattle.verify.specs.Check.{verdict, reported, records}
+use Rattle.verify.specs.Steps.{recordCount, recorderOf, nextRecord, recordsOf}
+use Rattle.verify.specs.declared.VbvVerified.{VbvVerified}
+use Rattle.verify.specs.declared.recorder.VbvRecorder.{VbvRecorder}
+use Rattle.verify.proofs.Recording.{stateOf, records-last, records-none, records-length, recorded}
 use Rattle.verify.specs.declared.VbvPictureRecord.{VbvPictureRecord}
 
-length-record : (r : VbvPictureRecord) → length (recordBytes r) ≡ 32
+length-record : (r : VbvPictureRecord) → length (recordBytes r) ≡ recordSize
 unfolding recordBytes
 length-record r = length-words _
 
 -- four words laid over the part from a place on
-pub record-laid : (out new : List ℕ) (at : ℕ) (r : VbvPictureRecord) → at + 32 ≤ length out
+pub record-laid : (out new : List ℕ) (at : ℕ) (r : VbvPictureRecord) → at + recordSize ≤ length out
     → new ≡ laid (wordsBytes (r .«vbv_delay» ∷ r .«expected_delay» ∷ r .«data_bits» ∷ r .«occupancy_before_bits» ∷ [])) (take (length out - at) (drop at out))
     → take at out ++ (new ++ drop (length out - at) (drop at out)) ≡ sets out at (recordBytes r)
 unfolding recordBytes
@@ -29,18 +38,10 @@ pub no-records : recordsBytes [] ≡ []
 unfolding recordsBytes
 no-records = refl
 
-pub length-records : (rs : List VbvPictureRecord) → length (recordsBytes rs) ≡ 32 * length rs
+pub length-records : (rs : List VbvPictureRecord) → length (recordsBytes rs) ≡ recordSize * length rs
 unfolding recordsBytes
 length-records [] = refl
 length-records (r ∷ rs) = rw (length-append (recordBytes r) (recordsBytes rs), length-record r, length-records rs) (omega arith)
-
--- a record, and those behind it
-pub records-cons : (out : List ℕ) (n : ℕ) (r : VbvPictureRecord) (rs : List VbvPictureRecord)
-    → sets (sets out (32 * n) (recordBytes r)) (32 * (n + 1)) (recordsBytes rs) ≡ sets out (32 * n) (recordsBytes (r ∷ rs))
-unfolding recordsBytes
-records-cons out n r rs =
-    let e : 32 * n + 32 ≡ 32 * (n + 1) = omega arith in
-    sym (sets-append (recordBytes r) (recordsBytes rs) out (32 * n) ∙ rw (length-record r, e))
 
 -- what the bytes of records are
 pub records-more : (r : VbvPictureRecord) (rs : List VbvPictureRecord)
@@ -50,5 +51,49 @@ unfolding recordsBytes recordBytes
 records-more r rs = refl
 
 -- all of them from place 0 on
-pub records-over : (out : List ℕ) (rs : List VbvPictureRecord) → 32 * length rs ≤ length out → sets out 0 (recordsBytes rs) ≡ over (recordsBytes rs) out
+pub records-over : (out : List ℕ) (rs : List VbvPictureRecord) → recordSize * length rs ≤ length out → sets out 0 (recordsBytes rs) ≡ over (recordsBytes rs) out
 records-over out rs h = over-sets (recordsBytes rs) out (omega (arith, length-records rs))
+
+-- ---- one after another
+
+bytes-last : (rs : List VbvPictureRecord) (r : VbvPictureRecord) → recordsBytes (rs ++ (r ∷ [])) ≡ recordsBytes rs ++ recordBytes r
+unfolding recordsBytes
+bytes-last [] r = append-nil (recordBytes r)
+bytes-last (q ∷ rs) r = rw (bytes-last rs r, append-assoc (recordBytes q) (recordsBytes rs) (recordBytes r))
+
+-- the first i records are stored, and the recorder has gone i steps
+pub record Stored (s : List ℕ) (w₀ : VbvRecorder) (out₀ out : List ℕ) (w : VbvRecorder) (i : ℕ) : Type 0 where
+  pub as-long : length out ≡ length out₀
+  pub stands : w ≡ stateOf s w₀ i
+  pub bytes : out ≡ sets out₀ 0 (recordsBytes (recordsOf s w₀ i))
+
+pub stored-none : (s : List ℕ) (w₀ : VbvRecorder) (out : List ℕ) {w : VbvRecorder} → w ≡ w₀ → Stored s w₀ out out w 0
+stored-none s w₀ out e = record { as-long = refl; stands = e; bytes = rw (records-none s w₀, no-records) }
+
+pub stored-more : {s : List ℕ} {w₀ : VbvRecorder} {out₀ out : List ℕ} {w : VbvRecorder} {i : ℕ} → Stored s w₀ out₀ out w i
+    → {r : VbvPictureRecord} {next : VbvRecorder} → r ≡ nextRecord s w .last → next ≡ nextRecord s w .recorder
+    → {new : List ℕ} → new ≡ sets out (recordSize * i) (recordBytes r) → Stored s w₀ out₀ new next (i + 1)
+stored-more {s} {w₀} {out₀} {out} {w} {i} h {r} {next} er en {new} e =
+    let rs : List VbvPictureRecord = recordsOf s w₀ i in
+    let o : 0 + recordSize * i ≡ recordSize * i = omega arith in
+    let l : length (recordsBytes rs) ≡ recordSize * i = length-records rs ∙ rw (records-length s w₀ i) in
+    rw (add-one i)
+    record {
+      as-long = rw e (length-sets out (recordSize * i) (recordBytes r) ∙ h .as-long);
+      stands = en ∙ rw (h .stands);
+      bytes =
+          e
+          ∙ rw (h .bytes, er, h .stands, records-last s w₀ i, bytes-last rs (nextRecord s (stateOf s w₀ i) .last), sets-append (recordsBytes rs) (recordBytes (nextRecord s (stateOf s w₀ i) .last)) out₀ 0, l, o);
+    }
+
+-- ---- the check with records
+
+module _ (standard : VbvStandard) (s out : List ℕ) (r : VbvVerified) (h : verifiedAnswer r ≡ reported (verdict standard s (length out / recordSize))) where
+  pub count-fits : recordSize * recordCount r ≤ length out
+  count-fits = omega (arith, recorded standard s (length out / recordSize) r h .few)
+
+  pub stored-is : {last : List ℕ} → last ≡ sets out 0 (recordsBytes (recordsOf s (recorderOf standard (declared standard s)) (recordCount r)))
+      → last ≡ over (recordsBytes (records (verdict standard s (length out / recordSize)))) out
+  stored-is e =
+      let k = recorded standard s (length out / recordSize) r h in
+      e ∙ rw (k .each) (records-over out (records (verdict standard s (length out / recordSize))) (omega (arith, k .few, k .count)))

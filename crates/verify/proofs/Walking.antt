@@ -1,87 +1,101 @@
 -- The walk from picture to picture: what is still to come makes of the state what the whole stream makes of the first one.
 -- Assumes nothing.
-use mathlib.Core.Path.{_≡_, refl, _∙_}
-use mathlib.Core.Bool.{Bool, true, false}
-use Prim.Native.Nat.{ℕ, _+_, _*_, _≤_}
-use mathlib.Core.List.{List}
+use mathlib.Core.Path.{_≡_, refl, sym, ap, _∙_}
+use Prim.Native.Nat.{ℕ, suc, _+_, _*_, _≤_, _<_}
+use mathlib.Core.List.{List, [], _∷_}
 use native.Mathlib.Omega.{arith}
-use lib.Dec.{ltb}
+use borrow.Author.Tests.{ne-eqb}
 use lib.ListN.{length}
-use lib.Seq.{sets, length-sets}
+use Rattle.vbv.specs.Model.{farthest}
 use Rattle.bits.specs.Bits.{pick}
-use Rattle.bits.specs.Refusals.{value, refused}
+use Rattle.bits.specs.Refusals.{Answer, value, refused, andThen}
 use Rattle.vbv.specs.declared.VbvParams.{VbvParams}
-use Rattle.vbv.specs.declared.VbvCbrModel.{VbvCbrModel}
-use Rattle.scan.specs.declared.Next.the-variants.{Picture, Done}
-use Rattle.verify.specs.declared.VbvStandard.{VbvStandard}
-use Rattle.verify.specs.declared.VbvPictureRecord.{VbvPictureRecord}
-use Rattle.verify.specs.declared.CodedPicture.{CodedPicture}
+use Rattle.pictures.specs.Seen.{seenPictures, nextSeen, nothing, one}
+use Rattle.pictures.specs.Front.{Front, front, withFirst}
+use Rattle.pictures.specs.Sequence.{declared}
+use Rattle.pictures.specs.Answers.{unread, declaredAnswer}
+use Rattle.pictures.specs.declared.Declared.{Declared}
+use Rattle.pictures.specs.declared.Declared.the-variants.{Params, Refused as NotDeclared}
+use Rattle.pictures.specs.declared.Unread.{Unread}
+use Rattle.pictures.specs.declared.VbvStandard.{VbvStandard}
+use Rattle.pictures.specs.declared.SeenPicture.{SeenPicture}
+use Rattle.pictures.proofs.Seeing.{seenFrom, before, seen-from-first, seen-end, seen-refused, seen-one}
+use Rattle.pictures.proofs.Due.{front-long, front-undeclared, front-declared, first-none, first-some}
 use Rattle.verify.specs.declared.Progress.{Progress}
-use Rattle.verify.specs.declared.Progress.the-variants.{Fresh, Unmodelled, Running, Stopped}
-use Rattle.verify.specs.Layout.{recordBytes}
-use Rattle.scan.specs.Pictures.{pictures}
-use Rattle.scan.specs.Walk.{nextPicture}
-use Rattle.verify.specs.Coded.{codedAt}
-use Rattle.verify.specs.Walk.{advanced, putAt, walked, stored}
-use Rattle.scan.proofs.Pictures.{picturesAt, walked as walked-on, pictures-done, pictures-walk}
+use Rattle.verify.specs.declared.Progress.the-variants.{Fresh}
+use Rattle.verify.specs.Coded.{codedOf, timed}
+use Rattle.verify.specs.Steps.{advanced, advancedAll, walkedOver}
 
--- a record goes to its place, nothing else to any
-pub put-other : (places n : ℕ) (st : Progress) (out : List ℕ)
-    → ((m : VbvCbrModel) (r : VbvPictureRecord) (l g : ℕ) → st ≡ Running m r l g → ⊥) → out ≡ putAt places n st out
-unfolding putAt
-put-other places n Fresh out h = refl
-put-other places n (Unmodelled e) out h = refl
-put-other places n (Running m r l g) out h = absurd (h m r l g refl)
-put-other places n (Stopped e) out h = refl
+-- ---- what is still to come
 
-length-put : (places n : ℕ) (st : Progress) (out : List ℕ) → length (putAt places n st out) ≡ length out
-unfolding putAt pick
-length-put places n Fresh out = refl
-length-put places n (Unmodelled e) out = refl
-length-put places n (Running m r l g) out = go (ltb n places)
-  where
-    go : (t : Bool) → length (pick t (sets out (32 * n) (recordBytes r)) out) ≡ length out
-    go true = length-sets out (32 * n) (recordBytes r)
-    go false = refl
-length-put places n (Stopped e) out = refl
+over-none : (p : VbvParams) (st : Progress) → walkedOver p 0 st [] ≡ refused 4 0 0 0
+unfolding walkedOver pick
+over-none p st = refl
 
-pub record Walking (standard : VbvStandard) (s : List ℕ) (p : VbvParams) (places : ℕ) (out₀ out : List ℕ) (i n : ℕ) (st : Progress) : Type 0 where
+over-done : (p : VbvParams) (n : ℕ) (st : Progress) → (n ≡ 0 → ⊥) → walkedOver p n st [] ≡ value (p, (n, st))
+unfolding walkedOver advancedAll timed pick
+over-done p n st h = let e : n + 0 ≡ n = omega arith in rw (e, ne-eqb n 0 h)
+
+over-more : (p : VbvParams) (n : ℕ) (st : Progress) (x : SeenPicture) (xs : List SeenPicture)
+    → walkedOver p n st (x ∷ xs) ≡ walkedOver p (n + 1) (advanced p st (codedOf x)) xs
+unfolding walkedOver advancedAll timed
+over-more p n st x xs = let e : n + suc (length xs) ≡ n + 1 + length xs = omega arith in rw e
+
+over-before : (p : VbvParams) (n : ℕ) (st : Progress) (x : SeenPicture) (a : Answer (List SeenPicture))
+    → andThen (before x a) (walkedOver p n st) ≡ andThen a (walkedOver p (n + 1) (advanced p st (codedOf x)))
+over-before p n st x (value xs) = over-more p n st x xs
+over-before p n st x (refused m k c e) = refl
+
+-- ---- the loop
+
+pub record Walking (standard : VbvStandard) (s : List ℕ) (p : VbvParams) (i n : ℕ) (st : Progress) : Type 0 where
   pub few : n ≤ i
   pub inside : i ≤ length s
-  pub as-long : length out ≡ length out₀
-  pub answer : walked standard s p n st (picturesAt s i) ≡ walked standard s p 0 Fresh (pictures s)
-  pub bytes : stored standard s p places n st (picturesAt s i) out ≡ stored standard s p places 0 Fresh (pictures s) out₀
+  pub answer : andThen (seenFrom standard s i) (walkedOver p n st) ≡ andThen (seenPictures standard s) (walkedOver p 0 Fresh)
 
-pub walking-none : (standard : VbvStandard) (s : List ℕ) (p : VbvParams) (places : ℕ) (out : List ℕ) → Walking standard s p places out out 0 0 Fresh
-walking-none standard s p places out =
-    record { few = omega arith; inside = omega arith; as-long = refl; answer = rw (pictures-walk s); bytes = rw (pictures-walk s) }
+pub walking-none : (standard : VbvStandard) (s : List ℕ) (p : VbvParams) → Walking standard s p 0 0 Fresh
+walking-none standard s p = record { few = omega arith; inside = omega arith; answer = rw (seen-from-first standard s) }
 
-module _ {standard : VbvStandard} {s : List ℕ} {p : VbvParams} {places : ℕ} {out₀ out : List ℕ} {i n : ℕ} {st : Progress}
-    (w : Walking standard s p places out₀ out i n st) where
-  pub walking-done : nextPicture s i ≡ Done
-      → (value (n, st) ≡ walked standard s p 0 Fresh (pictures s)) × (out ≡ stored standard s p places 0 Fresh (pictures s) out₀)
-  unfolding walked stored
-  walking-done e = (rw (pictures-done s i e) at (w .answer), rw (pictures-done s i e) at (w .bytes))
+module _ {standard : VbvStandard} {s : List ℕ} (short : 8 * length s ≤ farthest) {p : VbvParams} {i n : ℕ} {st : Progress} (w : Walking standard s p i n st) where
+  pub walking-empty : nextSeen standard s i ≡ value nothing → n ≡ 0 → refused 4 0 0 0 ≡ andThen (seenPictures standard s) (walkedOver p 0 Fresh)
+  walking-empty e z = sym (over-none p st) ∙ rw (seen-end standard s short i e, z) at (w .answer)
 
-  module _ (a b k : ℕ) (e : nextPicture s i ≡ Picture a b k) where
-    pub walking-unread : (m : ℕ) → refused m 0 0 0 ≡ codedAt standard s (record { start = a; end = b })
-        → (refused m 0 0 0 ≡ walked standard s p 0 Fresh (pictures s)) × (out ≡ stored standard s p places 0 Fresh (pictures s) out₀)
-    unfolding walked stored
-    walking-unread m q =
-        let l = walked-on s i a b k e .list in
-        (rw (l, ← q) at (w .answer), rw (l, ← q) at (w .bytes))
+  pub walking-done : nextSeen standard s i ≡ value nothing → (n ≡ 0 → ⊥) → value (p, (n, st)) ≡ andThen (seenPictures standard s) (walkedOver p 0 Fresh)
+  walking-done e z = sym (over-done p n st z) ∙ rw (seen-end standard s short i e) at (w .answer)
 
-    pub walking-more : (c : CodedPicture) → value c ≡ codedAt standard s (record { start = a; end = b })
-        → {next : Progress} → next ≡ advanced p st c → {bytes : List ℕ} → bytes ≡ putAt places n next out
-        → Walking standard s p places out₀ bytes k (n + 1) next
-    unfolding walked stored
-    walking-more c q {next} x {bytes} y =
-        let o = walked-on s i a b k e in
-        rw (y, x)
-        (record {
-          few = omega (arith, o .from, o .low, w .few);
-          inside = omega (arith, o .on, o .high);
-          as-long = length-put places n (advanced p st c) out ∙ w .as-long;
-          answer = rw (o .list, ← q) at (w .answer);
-          bytes = rw (o .list, ← q) at (w .bytes);
-        })
+  pub walking-refused : {m : ℕ} → nextSeen standard s i ≡ refused m 0 0 0 → refused m 0 0 0 ≡ andThen (seenPictures standard s) (walkedOver p 0 Fresh)
+  walking-refused e = rw (seen-refused standard s short i e) at (w .answer)
+
+  pub walking-more : {x : SeenPicture} {next : ℕ} → nextSeen standard s i ≡ value (one x next)
+      → {after : Progress} → after ≡ advanced p st (codedOf x) → Walking standard s p next (n + 1) after
+  walking-more {x} {next} e {after} h =
+      let q = seen-one standard s short i e in
+      rw h
+      (record {
+        few = omega (arith, q .0, w .few);
+        inside = q .1;
+        answer = sym (over-before p n st x (seenFrom standard s next)) ∙ rw (q .2) at (w .answer);
+      })
+
+-- ---- the front
+
+-- its pictures walked over
+abbrev walkedFront : Front → Answer (VbvParams × (ℕ × Progress))
+walkedFront f = walkedOver (f .params) 0 Fresh (f .first ∷ f .others)
+
+over-first : (p : VbvParams) (a : Answer (List SeenPicture)) → andThen a (walkedOver p 0 Fresh) ≡ andThen (andThen a (λ xs. withFirst p xs)) walkedFront
+over-first p (value []) = over-none p Fresh ∙ rw (first-none p)
+over-first p (value (x ∷ xs)) = rw (first-some p x xs)
+over-first p (refused n k c e) = refl
+
+module _ (standard : VbvStandard) (s : List ℕ) where
+  pub front-far : farthest < 8 * length s → refused 14 0 0 0 ≡ andThen (front standard s) walkedFront
+  front-far h = rw (front-long standard s (omega arith))
+
+  module _ (h : 8 * length s ≤ farthest) where
+    pub front-unread : {r : Declared} {e : Unread} → r ≡ NotDeclared e → declaredAnswer r ≡ declared standard s → unread e ≡ andThen (front standard s) walkedFront
+    front-unread {r} {e} q d = rw (front-undeclared standard s (omega arith) (sym d ∙ ap declaredAnswer q))
+
+    pub front-walked : {r : Declared} {p : VbvParams} → r ≡ Params p → declaredAnswer r ≡ declared standard s
+        → {a : Answer (VbvParams × (ℕ × Progress))} → a ≡ andThen (seenPictures standard s) (walkedOver p 0 Fresh) → a ≡ andThen (front standard s) walkedFront
+    front-walked {r} {p} q d w = w ∙ rw (front-declared standard s (omega arith) (sym d ∙ ap declaredAnswer q)) (over-first p (seenPictures standard s))

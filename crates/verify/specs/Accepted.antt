@@ -1,6 +1,6 @@
 -- Which streams the check accepts, in the terms of Annex C (ISO/IEC 13818-2 Annex C; 11172-2 C.1.4): those that pass the tests before the run and whose removals all conform, and no others.
 -- What is delivered is counted in 1/unit bit; vbv/specs/Fractions.antt says that these are the standard's fractions. Assumes nothing.
-use Prim.Native.Nat.{ℕ, _+_, _*_, _^_, _≤_}
+use Prim.Native.Nat.{ℕ, _+_, _*_, _≤_}
 use mathlib.Core.Path.{_≡_}
 use mathlib.Core.Logic.{_↔_}
 use mathlib.Core.Bool.{true}
@@ -10,11 +10,12 @@ use Rattle.bits.specs.Refusals.{value}
 use Rattle.vbv.specs.Annex.{unit, firstDelivered, gain, expectedDelay}
 use Rattle.vbv.specs.Model.{paramsFit, periods}
 use Rattle.vbv.specs.declared.VbvParams.{VbvParams}
-use Rattle.verify.specs.Sequence.{declared}
-use Rattle.verify.specs.Coded.{codedPictures}
+use Rattle.pictures.specs.Due.{Read}
+use Rattle.pictures.specs.declared.VbvStandard.{VbvStandard}
+use Rattle.pictures.specs.declared.SeenPicture.{SeenPicture}
+use Rattle.verify.specs.Coded.{timed}
 use Rattle.verify.specs.Run.{recordOf}
 use Rattle.verify.specs.Check.{Accepted, verdict}
-use Rattle.verify.specs.declared.VbvStandard.{VbvStandard}
 use Rattle.verify.specs.declared.CodedPicture.{CodedPicture}
 use Rattle.verify.specs.declared.VbvPictureRecord.{VbvPictureRecord}
 
@@ -41,20 +42,16 @@ pub data Along (p : VbvParams) (Each : ℕ → ℕ → CodedPicture → VbvPictu
 
 -- a stream that declares p, whose pictures are recorded as rs
 pub record Passes (standard : VbvStandard) (s : List ℕ) (places : ℕ) (p : VbvParams) (rs : List VbvPictureRecord) : Type 0 where
-  -- 14: it has 2^48 bits at most
-  pub short : 8 * length s ≤ 2 ^ 48
-  -- 3, 1, 2, 6: its first sequence header can be read
-  pub declares : declared standard s ≡ value p
-  -- 1, 2, 4: every picture header can be read, and there is one
-  pub first : CodedPicture
-  pub others : List CodedPicture
-  pub pictures-are : codedPictures standard s ≡ value (first ∷ others)
+  -- 14, 3, 1, 2, 6, 4: it has 2^48 bits at most, its first sequence header and every picture header can be read, and there is one
+  pub first : SeenPicture
+  pub others : List SeenPicture
+  pub is-read : Read standard s p first others
   -- 5, 12, 15: the first delay is not 0xFFFF, the parameters are in their ranges, and there is a place for each record
   pub constant-rate : first .«vbv_delay» ≡ 0xFFFF → ⊥
   pub params-fit : paramsFit p ≡ true
   pub places-suffice : length (first ∷ others) ≤ places
   -- every removal conforms; at the first one all is delivered up to the first picture's position, and what its coded delay brings (C.3.1)
-  pub removals : Along p (Conforms p) 0 (firstDelivered p (first .«pos_bits») (first .«vbv_delay»)) (first ∷ others) rs
+  pub removals : Along p (Conforms p) 0 (firstDelivered p (first .«pos_bits») (first .«vbv_delay»)) (timed (first ∷ others)) rs
 
 -- what is owed: accepted exactly when it passes
 abbrev pub AcceptedExactly : Type 0
@@ -72,4 +69,4 @@ pub record Uncut (p : VbvParams) (previous d : ℕ) (c : CodedPicture) (r : VbvP
 abbrev pub NothingCut : Type 0
 NothingCut =
     (standard : VbvStandard) (s : List ℕ) (places : ℕ) (p : VbvParams) (rs : List VbvPictureRecord) (a : Passes standard s places p rs)
-    → Along p (Uncut p) 0 (firstDelivered p (a .first .«pos_bits») (a .first .«vbv_delay»)) (a .first ∷ a .others) rs
+    → Along p (Uncut p) 0 (firstDelivered p (a .first .«pos_bits») (a .first .«vbv_delay»)) (timed (a .first ∷ a .others)) rs

@@ -2,7 +2,6 @@
 -- Assumes nothing.
 use Prim.Native.Nat.{ℕ}
 use Rattle.bits.specs.Refusals.{Answer, value, refused, plain}
-use Rattle.vbv.specs.declared.VbvParams.{VbvParams}
 use Rattle.headers.specs.Answers.{errorNumber}
 use Rattle.vbv.specs.Answers.{errorNumber as modelNumber, violationNumber, violationPicture, violationCoded, violationExpected}
 use Rattle.verify.specs.declared.VbvVerifyError.{VbvVerifyError}
@@ -11,8 +10,6 @@ use Rattle.bits.specs.declared.VbvRefusal.{VbvRefusal}
 use Rattle.verify.specs.declared.VbvStreamReport.{VbvStreamReport}
 use Rattle.verify.specs.declared.VbvVerified.{VbvVerified}
 use Rattle.verify.specs.declared.VbvVerified.the-variants.{Report, Refused}
-use Rattle.verify.specs.declared.Declared.{Declared}
-use Rattle.verify.specs.declared.Declared.the-variants.{Params, Refused as NotDeclared}
 
 -- 9 to 11 carry all three, every other refusal zeros
 abbrev pub refusalOf : VbvVerifyError → VbvRefusal
@@ -32,7 +29,3 @@ refusal e = refused (refusalOf e .number) (refusalOf e .picture) (refusalOf e .c
 abbrev pub verifiedAnswer : VbvVerified → Answer VbvStreamReport
 verifiedAnswer (Report r) = value r
 verifiedAnswer (Refused e) = refusal e
-
-abbrev pub declaredAnswer : Declared → Answer VbvParams
-declaredAnswer (Params p) = value p
-declaredAnswer (NotDeclared e) = refusal e

@@ -1,6 +1,6 @@
--- The check of a stream (paper 01, 'The buffer report'): 14, 3, sequence header, extension (MPEG-2), 6, every picture header in stream order, 4, 5, 12, 15; then the run's 7, 8, 11, 9, 10.
+-- The check of a stream (paper 01, 'The buffer report'): the front (14, 3, sequence header, extension, 6, every picture header, 4), then 5, 12, 15 and the run's 7, 8, 11, 9, 10.
 -- Assumes nothing.
-use Prim.Native.Nat.{ℕ, _*_, _^_}
+use Prim.Native.Nat.{ℕ}
 use mathlib.Core.List.{List, [], _∷_}
 use mathlib.Core.Bool.{not}
 use lib.Dec.{ltb, eqb}
@@ -9,10 +9,10 @@ use Rattle.bits.specs.Refusals.{Answer, value, refused, refuse, andThen}
 use Rattle.vbv.specs.Annex.{firstDelivered}
 use Rattle.vbv.specs.Model.{paramsFit}
 use Rattle.vbv.specs.declared.VbvParams.{VbvParams}
-use Rattle.verify.specs.Sequence.{declared}
-use Rattle.verify.specs.Coded.{codedPictures}
+use Rattle.verify.specs.Coded.{codedOf, timed}
 use Rattle.verify.specs.Run.{run, leastAfter, greatestBefore}
-use Rattle.verify.specs.declared.VbvStandard.{VbvStandard}
+use Rattle.pictures.specs.Front.{front}
+use Rattle.pictures.specs.declared.VbvStandard.{VbvStandard}
 use Rattle.verify.specs.declared.VbvPictureRecord.{VbvPictureRecord}
 use Rattle.verify.specs.declared.VbvStreamReport.{VbvStreamReport}
 use Rattle.verify.specs.declared.CodedPicture.{CodedPicture}
@@ -27,9 +27,9 @@ abbrev pub accepted : VbvParams → List VbvPictureRecord → Answer Accepted
 accepted p [] = refused 4 0 0 0
 accepted p (r ∷ rs) = value (record { params = p; first = r; others = rs })
 
-unfoldable pub withPictures : ℕ → VbvParams → List CodedPicture → Answer Accepted
-withPictures places p [] = refused 4 0 0 0
-withPictures places p (c ∷ cs) =
+-- after the front: the first picture and the others
+unfoldable pub withPictures : ℕ → VbvParams → CodedPicture → List CodedPicture → Answer Accepted
+withPictures places p c cs =
     refuse 5 (eqb (c .«vbv_delay») 0xFFFF)
     (refuse 12 (not (paramsFit p))
     (refuse 15 (ltb places (length (c ∷ cs)))
@@ -37,10 +37,8 @@ withPictures places p (c ∷ cs) =
 
 unfoldable pub verdict : VbvStandard → List ℕ → ℕ → Answer Accepted
 verdict standard s places =
-    refuse 14 (ltb (2 ^ 48) (8 * length s))
-    (andThen (declared standard s) (λ p.
-    andThen (codedPictures standard s) (λ cs.
-    withPictures places p cs)))
+    andThen (front standard s) (λ f.
+    withPictures places (f .params) (codedOf (f .first)) (timed (f .others)))
 
 -- the report, and the records
 abbrev pub reportOf : Accepted → VbvStreamReport

@@ -1,6 +1,6 @@
 -- Which answer the check of a stream is due (paper 01, 'The buffer report'), by conditions in ≤ and <: accepted, or refused by the first test that fails, in the paper's order.
 -- So a bad last header comes before a mismatch at the first picture, and the first violation is the one that is told. Assumes nothing.
-use Prim.Native.Nat.{ℕ, suc, _+_, _*_, _^_, _≤_, _<_}
+use Prim.Native.Nat.{ℕ, suc, _+_, _*_, _≤_, _<_}
 use mathlib.Core.Path.{_≡_}
 use mathlib.Core.Bool.{true, false}
 use mathlib.Core.List.{List, [], _∷_}
@@ -9,11 +9,12 @@ use Rattle.bits.specs.Refusals.{Answer, value, refused}
 use Rattle.vbv.specs.Annex.{unit, firstDelivered, gain, expectedDelay}
 use Rattle.vbv.specs.Model.{paramsFit, periods}
 use Rattle.vbv.specs.declared.VbvParams.{VbvParams}
-use Rattle.verify.specs.Sequence.{declared}
-use Rattle.verify.specs.Coded.{codedPictures}
+use Rattle.pictures.specs.Due.{Read, FrontDue}
+use Rattle.pictures.specs.declared.VbvStandard.{VbvStandard}
+use Rattle.pictures.specs.declared.SeenPicture.{SeenPicture}
+use Rattle.verify.specs.Coded.{timed}
 use Rattle.verify.specs.Check.{Accepted, verdict}
 use Rattle.verify.specs.Accepted.{Conforms}
-use Rattle.verify.specs.declared.VbvStandard.{VbvStandard}
 use Rattle.verify.specs.declared.CodedPicture.{CodedPicture}
 use Rattle.verify.specs.declared.VbvPictureRecord.{VbvPictureRecord}
 
@@ -54,36 +55,25 @@ pub data RunDue (p : VbvParams) : ℕ → ℕ → ℕ → List CodedPicture → 
 
 -- ---- the stream
 
--- passed: 14, 3, sequence header, extension, 6, every picture header, 4
-pub record Read (standard : VbvStandard) (s : List ℕ) (p : VbvParams) (c : CodedPicture) (cs : List CodedPicture) : Type 0 where
-  pub short : 8 * length s ≤ 2 ^ 48
-  pub declares : declared standard s ≡ value p
-  pub pictures-are : codedPictures standard s ≡ value (c ∷ cs)
-
 -- passed: 5, 12, 15 too
-pub record Modelled (standard : VbvStandard) (s : List ℕ) (places : ℕ) (p : VbvParams) (c : CodedPicture) (cs : List CodedPicture) : Type 0 where
-  pub is-read : Read standard s p c cs
-  pub constant-rate : c .«vbv_delay» ≡ 0xFFFF → ⊥
+pub record Modelled (standard : VbvStandard) (s : List ℕ) (places : ℕ) (p : VbvParams) (x : SeenPicture) (xs : List SeenPicture) : Type 0 where
+  pub is-read : Read standard s p x xs
+  pub constant-rate : x .«vbv_delay» ≡ 0xFFFF → ⊥
   pub params-fit : paramsFit p ≡ true
-  pub places-suffice : length (c ∷ cs) ≤ places
+  pub places-suffice : length (x ∷ xs) ≤ places
 
 pub data VerdictDue (standard : VbvStandard) (s : List ℕ) (places : ℕ) : Answer Accepted → Type 0 where
-  too-far : 2 ^ 48 < 8 * length s → VerdictDue standard s places (refused 14 0 0 0)
-  undeclared : {n k i j : ℕ} → 8 * length s ≤ 2 ^ 48 → declared standard s ≡ refused n k i j → VerdictDue standard s places (refused n k i j)
-  unread : {p : VbvParams} {n k i j : ℕ} → 8 * length s ≤ 2 ^ 48 → declared standard s ≡ value p → codedPictures standard s ≡ refused n k i j
-      → VerdictDue standard s places (refused n k i j)
-  no-picture : {p : VbvParams} → 8 * length s ≤ 2 ^ 48 → declared standard s ≡ value p → codedPictures standard s ≡ value []
-      → VerdictDue standard s places (refused 4 0 0 0)
-  variable-rate : {p : VbvParams} {c : CodedPicture} {cs : List CodedPicture} → Read standard s p c cs → c .«vbv_delay» ≡ 0xFFFF
+  unread : {n k i j : ℕ} → FrontDue standard s (refused n k i j) → VerdictDue standard s places (refused n k i j)
+  variable-rate : {p : VbvParams} {x : SeenPicture} {xs : List SeenPicture} → Read standard s p x xs → x .«vbv_delay» ≡ 0xFFFF
       → VerdictDue standard s places (refused 5 0 0 0)
-  unfit : {p : VbvParams} {c : CodedPicture} {cs : List CodedPicture} → Read standard s p c cs → (c .«vbv_delay» ≡ 0xFFFF → ⊥) → paramsFit p ≡ false
+  unfit : {p : VbvParams} {x : SeenPicture} {xs : List SeenPicture} → Read standard s p x xs → (x .«vbv_delay» ≡ 0xFFFF → ⊥) → paramsFit p ≡ false
       → VerdictDue standard s places (refused 12 0 0 0)
-  few-places : {p : VbvParams} {c : CodedPicture} {cs : List CodedPicture} → Read standard s p c cs → (c .«vbv_delay» ≡ 0xFFFF → ⊥) → paramsFit p ≡ true
-      → places < length (c ∷ cs) → VerdictDue standard s places (refused 15 0 0 0)
-  stopped : {p : VbvParams} {c : CodedPicture} {cs : List CodedPicture} {n k i j : ℕ} → Modelled standard s places p c cs
-      → RunDue p 0 0 (firstDelivered p (c .«pos_bits») (c .«vbv_delay»)) (c ∷ cs) (refused n k i j) → VerdictDue standard s places (refused n k i j)
-  accepted : {p : VbvParams} {c : CodedPicture} {cs : List CodedPicture} {r : VbvPictureRecord} {rs : List VbvPictureRecord} → Modelled standard s places p c cs
-      → RunDue p 0 0 (firstDelivered p (c .«pos_bits») (c .«vbv_delay»)) (c ∷ cs) (value (r ∷ rs))
+  few-places : {p : VbvParams} {x : SeenPicture} {xs : List SeenPicture} → Read standard s p x xs → (x .«vbv_delay» ≡ 0xFFFF → ⊥) → paramsFit p ≡ true
+      → places < length (x ∷ xs) → VerdictDue standard s places (refused 15 0 0 0)
+  stopped : {p : VbvParams} {x : SeenPicture} {xs : List SeenPicture} {n k i j : ℕ} → Modelled standard s places p x xs
+      → RunDue p 0 0 (firstDelivered p (x .«pos_bits») (x .«vbv_delay»)) (timed (x ∷ xs)) (refused n k i j) → VerdictDue standard s places (refused n k i j)
+  accepted : {p : VbvParams} {x : SeenPicture} {xs : List SeenPicture} {r : VbvPictureRecord} {rs : List VbvPictureRecord} → Modelled standard s places p x xs
+      → RunDue p 0 0 (firstDelivered p (x .«pos_bits») (x .«vbv_delay»)) (timed (x ∷ xs)) (value (r ∷ rs))
       → VerdictDue standard s places (value (record { params = p; first = r; others = rs }))
 
 -- what is owed

@@ -5,6 +5,10 @@ use mathlib.Core.List.{List, [], _∷_, _++_}
 use Rattle.words.specs.Words.{wordsBytes}
 use Rattle.verify.specs.declared.VbvPictureRecord.{VbvPictureRecord}
 
+-- the bytes of a record
+abbrev pub recordSize : ℕ
+recordSize = 32
+
 unfoldable pub recordBytes : VbvPictureRecord → List ℕ
 recordBytes r = wordsBytes (r .«vbv_delay» ∷ r .«expected_delay» ∷ r .«data_bits» ∷ r .«occupancy_before_bits» ∷ [])
 

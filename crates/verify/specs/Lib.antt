@@ -1,4 +1,3 @@
-pub mod Sequence
 pub mod Coded
 pub mod Run
 pub mod Check
@@ -6,7 +5,6 @@ pub mod Accepted
 pub mod Due
 pub mod Answers
 pub mod Layout
-pub mod Walk
-pub mod Recorder
-pub mod Recording
+pub mod Sizes
 pub mod Numbers
+pub mod Steps

@@ -4,7 +4,7 @@ use Prim.Native.Nat.{ℕ}
 use mathlib.Core.List.{List, [], _∷_}
 use Rattle.bits.specs.Numbers.{Numbered}
 use Rattle.verify.specs.Check.{verdict}
-use Rattle.verify.specs.declared.VbvStandard.{VbvStandard}
+use Rattle.pictures.specs.declared.VbvStandard.{VbvStandard}
 
 -- what is owed; in the order of the tests
 abbrev pub CheckNumbers : Type 0

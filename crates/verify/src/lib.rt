@@ -1,33 +1,29 @@
-// The buffer report of a constant-rate stream: what its headers tell, and the check of Annex C.
+// The buffer report of a constant-rate stream: the check of Annex C over the pictures that its headers show.
 ghost use mathlib.Core.Path.{_≡_};
 ghost use Rattle.verify.specs.Answers.{refusalOf};
 ghost use Rattle.verify.specs.declared.VbvVerifyError.the-variants.{Violation};
 
-mod report; // the check of a stream
-mod reading; // what the headers tell
+pub mod lent; // the check with records in a lent slice of structs
 mod records; // records as bytes
-mod recorder; // the check by value, and its records one by one
+mod recorder; // the records one by one
+mod report; // the check of a stream
 mod run; // one removal after another
 
-pub use crate::reading::interval;
-pub use crate::recorder::VbvRecorded;
-pub use crate::recorder::VbvRecorder;
-pub use crate::recorder::check_stream;
-pub use crate::recorder::record_count;
+pub use crate::report::check_stream;
 pub use crate::report::verify_cbr_stream;
 pub use bits::VbvRefusal;
 pub use bits::plain;
 use headers::Error;
+use pictures::Unread;
+pub use pictures::VbvStandard;
 use vbv::RemovalInterval;
 use vbv::VbvCbrModel;
 use vbv::VbvError;
 use vbv::VbvParams;
 use vbv::VbvViolation;
 
-pub enum VbvStandard {
-    Mpeg1,
-    Mpeg2,
-}
+// The bytes of a record (docs/LAYOUT.md).
+pub const RECORD_BYTES: usize = 32;
 
 // One removal. Occupancy is in whole bits, just before it.
 pub struct VbvPictureRecord {
@@ -66,12 +62,6 @@ pub enum VbvVerified {
     Refused(VbvVerifyError),
 }
 
-// What the first sequence header declares.
-pub enum Declared {
-    Params(VbvParams),
-    Refused(VbvVerifyError),
-}
-
 // A picture as the model sees it: the end of its start code and the end of its data, in bits, its coded delay, and the
 // interval up to the next removal.
 pub struct CodedPicture {
@@ -81,19 +71,7 @@ pub struct CodedPicture {
     pub interval: RemovalInterval,
 }
 
-// What a picture's headers tell.
-enum Told {
-    Delay(u16, RemovalInterval),
-    Refused(Error),
-}
-
-// A picture as the model sees it, or why its headers are refused.
-enum Coded {
-    Picture(CodedPicture),
-    Refused(Error),
-}
-
-// A removal: its record and the model behind it, or why it is refused.
+// A removal: its record and the model after it, or why it is refused.
 enum Removed {
     Recorded(VbvPictureRecord, VbvCbrModel),
     Refused(VbvVerifyError),
@@ -105,7 +83,7 @@ enum Progress {
     Fresh,
     // No model is started, and why.
     Unmodelled(VbvVerifyError),
-    // The model behind the last removal and that removal's record; the least occupancy after one so far, the greatest before.
+    // The model after the last removal and that removal's record; the least occupancy after one so far, the greatest before.
     Running {
         model: VbvCbrModel,
         last: VbvPictureRecord,
@@ -116,10 +94,11 @@ enum Progress {
     Stopped(VbvVerifyError),
 }
 
-// What a walk comes to: a header refused, or the number of pictures and how far the model came.
+// What a walk over the pictures comes to: why the stream's headers are refused, or what it declares, the number of
+// pictures and how far the model came.
 enum Walked {
-    Unread(Error),
-    Read(usize, Progress),
+    Refused(Unread),
+    Read(VbvParams, usize, Progress),
 }
 
 impl VbvVerifyError {

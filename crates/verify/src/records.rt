@@ -3,15 +3,18 @@ ghost use mathlib.Core.Path.{_≡_};
 ghost use Prim.Native.Nat.{_+_, _*_, _≤_};
 ghost use lib.ListN.{length};
 ghost use lib.Seq.{sets};
-ghost use Rattle.verify.specs.Layout.{recordBytes};
-ghost use Rattle.verify.specs.Walk.{putAt};
-use crate::Progress;
+ghost use Rattle.pictures.specs.Sequence.{declared};
+ghost use Rattle.verify.specs.Layout.{recordSize, recordBytes, recordsBytes};
+ghost use Rattle.verify.specs.Steps.{recorderOf, recordsOf};
+use crate::RECORD_BYTES;
 use crate::VbvPictureRecord;
+use crate::recorder::VbvRecorder;
+use pictures::VbvStandard;
 use words::put_words;
 
 // A record, from byte `at` on.
 fn put_record(out: &mut [u8], at: usize, record: VbvPictureRecord)
-    requires { ⌜ at + 32 ≤ length (now out) ⌝ }
+    requires { ⌜ at + recordSize ≤ length (now out) ⌝ }
     ensures { λ r. ⌜ now (out .exit) ≡ sets (now (out .entry)) at (recordBytes «record») ⌝ }
 {
     let words = [
@@ -23,19 +26,17 @@ fn put_record(out: &mut [u8], at: usize, record: VbvPictureRecord)
     put_words(&mut out[at..], &words);
 }
 
-// The last removal's record, at place n if there is such a place.
-pub(crate) fn put_last(out: &mut [u8], places: usize, n: usize, progress: Progress)
-    requires { ⌜ 32 * places ≤ length (now out) ⌝ }
-    ensures { λ r. ⌜ now (out .exit) ≡ putAt places n progress (now (out .entry)) ⌝ }
+// The first `count` records of a stream, each at its place.
+pub(crate) fn store(stream: &[u8], standard: VbvStandard, count: usize, out: &mut [u8])
+    requires { ⌜ recordSize * count ≤ length (now out) ⌝ }
+    ensures { λ r. ⌜ now (out .exit) ≡ sets (now (out .entry)) 0 (recordsBytes (recordsOf (now (stream .entry)) (recorderOf standard (declared standard (now (stream .entry)))) count)) ⌝ }
 {
-    if let Progress::Running {
-        model: _,
-        last,
-        least: _,
-        greatest: _,
-    } = progress {
-        if n < places {
-            put_record(out, 32 * n, last);
-        }
+    let mut recorder = VbvRecorder::new(stream, standard);
+    let mut i: usize = 0;
+    while i < count {
+        let recorded = recorder.next_record(stream);
+        put_record(out, RECORD_BYTES * i, recorded.last);
+        recorder = recorded.recorder;
+        i += 1;
     }
 }

@@ -1,68 +1,93 @@
 // The check of a stream. A first walk reads every picture's headers and runs the model; a second one stores the records of
 // an accepted stream.
 ghost use mathlib.Core.Path.{_≡_};
-ghost use Prim.Native.Nat.{_*_, _/_, _^_, _≤_};
+ghost use mathlib.Core.List.{_∷_};
+ghost use Prim.Native.Nat.{_*_, _/_, _≤_};
 ghost use lib.ListN.{length};
+ghost use Rattle.vbv.specs.Model.{farthest};
+ghost use Rattle.bits.specs.Refusals.{andThen, value};
 ghost use Rattle.bits.specs.Answers.{over};
-ghost use Rattle.scan.specs.Pictures.{pictures};
+ghost use Rattle.pictures.specs.Front.{front as frontOf};
+ghost use Rattle.pictures.specs.Seen.{seenPictures};
 ghost use Rattle.verify.specs.Answers.{verifiedAnswer};
 ghost use Rattle.verify.specs.Check.{verdict, reported, records as recordsOf};
-ghost use Rattle.verify.specs.Layout.{recordsBytes};
-ghost use Rattle.verify.specs.Walk.{walked, walkedAnswer, stored, placed, judgement};
+ghost use Rattle.verify.specs.Layout.{recordSize, recordsBytes};
+ghost use Rattle.verify.specs.Steps.{walkedAnswer, walkedOver, unreadError, ifPlaced, judgement};
 ghost use Rattle.verify.specs.declared.Progress.the-variants.{Fresh};
-use crate::Coded;
-use crate::Declared;
 use crate::Progress;
-use crate::VbvStandard;
+use crate::RECORD_BYTES;
 use crate::VbvStreamReport;
 use crate::VbvVerified;
 use crate::VbvVerifyError;
 use crate::Walked;
-use crate::reading::coded_at;
-use crate::reading::declared_params;
-use crate::records::put_last;
+use crate::recorder::record_count;
+use crate::records::store;
 use crate::run::advance;
-use scan::Next;
-use scan::next_picture;
+use pictures::Declared;
+use pictures::NextSeen;
+use pictures::Unread;
+use pictures::VbvStandard;
+use pictures::declared_params;
+use pictures::next_seen;
+use vbv::FARTHEST;
 use vbv::VbvError;
 use vbv::VbvParams;
 
-// Walks over the pictures as long as their headers can be read. The records of the first ones are stored, as many as there
-// are places.
-pub(crate) fn walk(
-    stream: &[u8],
-    standard: VbvStandard,
-    params: VbvParams,
-    places: usize,
-    records: &mut [u8],
-) -> Walked
-    requires { ⌜ 8 * length (now stream) ≤ 2 ^ 48 ⌝ }
-    requires { ⌜ 32 * places ≤ length (now records) ⌝ }
-    ensures { λ r. ⌜ walkedAnswer r ≡ walked standard (now (stream .entry)) params 0 Fresh (pictures (now (stream .entry))) ⌝ }
-    ensures { λ r. ⌜ now (records .exit) ≡ stored standard (now (stream .entry)) params places 0 Fresh (pictures (now (stream .entry))) (now (records .entry)) ⌝ }
+// Walks over the pictures and runs the model over them, as long as their headers can be read; there must be one.
+fn walk(stream: &[u8], standard: VbvStandard, params: VbvParams) -> Walked
+    requires { ⌜ 8 * length (now stream) ≤ farthest ⌝ }
+    ensures { λ r. ⌜ walkedAnswer r ≡ andThen (seenPictures standard (now (stream .entry))) (walkedOver params 0 Fresh) ⌝ }
 {
     let mut i: usize = 0;
     let mut n: usize = 0;
     let mut progress = Progress::Fresh;
     loop {
-        match next_picture(stream, i) {
-            Next::Done => return Walked::Read(n, progress),
-            Next::Picture { at, end, next } => match coded_at(stream, standard, at, end) {
-                Coded::Refused(error) => return Walked::Unread(error),
-                Coded::Picture(coded) => {
-                    progress = advance(progress, params, coded);
-                    put_last(records, places, n, progress);
-                    n += 1;
-                    i = next;
+        match next_seen(stream, standard, i) {
+            NextSeen::Picture(seen, next) => {
+                progress = advance(progress, params, seen);
+                n += 1;
+                i = next;
+            }
+            NextSeen::Done => {
+                if n == 0 {
+                    return Walked::Refused(Unread::NoPictures);
                 }
-            },
+                return Walked::Read(params, n, progress);
+            }
+            NextSeen::Refused(error) => return Walked::Refused(error),
         }
+    }
+}
+
+// What every report asks first: 14, 3, sequence header, extension, 6, every picture header in stream order, 4. The model
+// runs along, so that the stream is walked over once.
+fn front(stream: &[u8], standard: VbvStandard) -> Walked
+    ensures { λ r. ⌜ walkedAnswer r ≡ andThen (frontOf standard (now (stream .entry))) (λ f. walkedOver (f .params) 0 Fresh (f .first ∷ f .others)) ⌝ }
+{
+    if FARTHEST / 8 < stream.len() as u64 {
+        return Walked::Refused(Unread::Model(VbvError::Range));
+    }
+    match declared_params(stream, standard) {
+        Declared::Refused(error) => Walked::Refused(error),
+        Declared::Params(params) => walk(stream, standard, params),
+    }
+}
+
+// A refusal of the front among those of the check.
+fn unread_error(error: Unread) -> VbvVerifyError
+    ensures { λ r. ⌜ r ≡ unreadError error ⌝ }
+{
+    match error {
+        Unread::Parse(e) => VbvVerifyError::Parse(e),
+        Unread::Model(e) => VbvVerifyError::Model(e),
+        Unread::NoSequenceHeader => VbvVerifyError::NoSequenceHeader,
+        Unread::NoPictures => VbvVerifyError::NoPictures,
     }
 }
 
 // An answer for which the record places are asked first.
 fn if_placed(n: usize, places: usize, answer: VbvVerified) -> VbvVerified
-    ensures { λ r. ⌜ r ≡ placed n places answer ⌝ }
+    ensures { λ r. ⌜ r ≡ ifPlaced n places answer ⌝ }
 {
     if n <= places {
         return answer;
@@ -71,12 +96,12 @@ fn if_placed(n: usize, places: usize, answer: VbvVerified) -> VbvVerified
 }
 
 // A refusal of the run comes after every other one.
-pub(crate) fn judge(params: VbvParams, places: usize, walked: Walked) -> VbvVerified
-    ensures { λ r. ⌜ r ≡ judgement params places walked ⌝ }
+fn judge(walked: Walked, places: usize) -> VbvVerified
+    ensures { λ r. ⌜ r ≡ judgement places walked ⌝ }
 {
     match walked {
-        Walked::Unread(error) => VbvVerified::Refused(VbvVerifyError::Parse(error)),
-        Walked::Read(n, progress) => match progress {
+        Walked::Refused(error) => VbvVerified::Refused(unread_error(error)),
+        Walked::Read(params, n, progress) => match progress {
             Progress::Fresh => VbvVerified::Refused(VbvVerifyError::NoPictures),
             Progress::Unmodelled(error) => VbvVerified::Refused(error),
             Progress::Running {
@@ -99,24 +124,19 @@ pub(crate) fn judge(params: VbvParams, places: usize, walked: Walked) -> VbvVeri
     }
 }
 
-// The buffer report of a stream with its records, or why it is refused. A place is 32 bytes (docs/LAYOUT.md).
-pub fn verify_cbr_stream(stream: &[u8], standard: VbvStandard, records: &mut [u8]) -> VbvVerified
-    ensures { λ r. ⌜ verifiedAnswer r ≡ reported (verdict standard (now (stream .entry)) (length (now (records .entry)) / 32)) ⌝ }
-    ensures { λ r. ⌜ now (records .exit) ≡ over (recordsBytes (recordsOf (verdict standard (now (stream .entry)) (length (now (records .entry)) / 32)))) (now (records .entry)) ⌝ }
+// The buffer report of a stream, given so many record places, without its records; or why it is refused.
+pub fn check_stream(stream: &[u8], standard: VbvStandard, places: usize) -> VbvVerified
+    ensures { λ r. ⌜ verifiedAnswer r ≡ reported (verdict standard (now (stream .entry)) places) ⌝ }
 {
-    // 2^48 bits.
-    if 35184372088832 < stream.len() {
-        return VbvVerified::Refused(VbvVerifyError::Model(VbvError::Range));
-    }
-    match declared_params(stream, standard) {
-        Declared::Refused(error) => VbvVerified::Refused(error),
-        Declared::Params(params) => {
-            let places = records.len() / 32;
-            let answer = judge(params, places, walk(stream, standard, params, 0, records));
-            if let VbvVerified::Report(_) = answer {
-                walk(stream, standard, params, places, records);
-            }
-            answer
-        }
-    }
+    judge(front(stream, standard), places)
+}
+
+// The buffer report of a stream with its records, or why it is refused. A place has the bytes of a record.
+pub fn verify_cbr_stream(stream: &[u8], standard: VbvStandard, records: &mut [u8]) -> VbvVerified
+    ensures { λ r. ⌜ verifiedAnswer r ≡ reported (verdict standard (now (stream .entry)) (length (now (records .entry)) / recordSize)) ⌝ }
+    ensures { λ r. ⌜ now (records .exit) ≡ over (recordsBytes (recordsOf (verdict standard (now (stream .entry)) (length (now (records .entry)) / recordSize)))) (now (records .entry)) ⌝ }
+{
+    let answer = check_stream(stream, standard, records.len() / RECORD_BYTES);
+    store(stream, standard, record_count(answer), records);
+    answer
 }

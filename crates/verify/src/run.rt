@@ -4,12 +4,15 @@ ghost use Prim.Native.Nat.{_-_, min, max};
 ghost use Rattle.vbv.specs.Model.{occupancyBeforeRemoval};
 ghost use Rattle.vbv.specs.Steps.{bitsOf};
 ghost use Rattle.verify.specs.Run.{apart};
-ghost use Rattle.verify.specs.Walk.{withDelays, byOccupancy, removed, onward, first, advanced};
+ghost use Rattle.verify.specs.Coded.{codedOf};
+ghost use Rattle.verify.specs.Steps.{withDelays, removedFrom, removed, progressed, firstRemoved, advanced};
 use crate::CodedPicture;
 use crate::Progress;
 use crate::Removed;
 use crate::VbvPictureRecord;
 use crate::VbvVerifyError;
+use pictures::SeenPicture;
+use pictures::interval;
 use vbv::VbvBits;
 use vbv::VbvCbrModel;
 use vbv::VbvDelay;
@@ -83,7 +86,7 @@ fn with_delays(violation: VbvViolation, coded: u16, expected: u16) -> VbvViolati
 
 // Removes a picture whose coded delay agrees with the expected one.
 fn remove_expected(model: VbvCbrModel, coded: CodedPicture, expected: u16) -> Removed
-    ensures { λ r. ⌜ r ≡ byOccupancy model coded expected (bitsOf (occupancyBeforeRemoval model)) ⌝ }
+    ensures { λ r. ⌜ r ≡ removedFrom model coded expected (bitsOf (occupancyBeforeRemoval model)) ⌝ }
 {
     match model.occupancy_before_removal_bits() {
         VbvBits::Refused(error) => Removed::Refused(VbvVerifyError::Model(error)),
@@ -131,9 +134,9 @@ fn remove(model: VbvCbrModel, coded: CodedPicture) -> Removed
     }
 }
 
-// The progress behind a removal.
+// The progress after a removal.
 fn go_on(removed: Removed, least: u64, greatest: u64) -> Progress
-    ensures { λ r. ⌜ r ≡ onward least greatest «removed» ⌝ }
+    ensures { λ r. ⌜ r ≡ progressed least greatest «removed» ⌝ }
 {
     match removed {
         Removed::Recorded(last, model) => {
@@ -151,7 +154,7 @@ fn go_on(removed: Removed, least: u64, greatest: u64) -> Progress
 
 // The first removal. No occupancy is above B.
 fn begin(params: VbvParams, coded: CodedPicture) -> Progress
-    ensures { λ r. ⌜ r ≡ first params coded ⌝ }
+    ensures { λ r. ⌜ r ≡ firstRemoved params coded ⌝ }
 {
     if coded.vbv_delay == 0xFFFF {
         return Progress::Unmodelled(VbvVerifyError::VariableRate);
@@ -165,10 +168,24 @@ fn begin(params: VbvParams, coded: CodedPicture) -> Progress
     }
 }
 
-// The progress behind one more picture.
-pub(crate) fn advance(progress: Progress, params: VbvParams, coded: CodedPicture) -> Progress
-    ensures { λ r. ⌜ r ≡ advanced params progress coded ⌝ }
+// A picture as the model sees it: a field picture lasts a field period.
+fn coded_picture(seen: SeenPicture) -> CodedPicture
+    ensures { λ r. ⌜ r ≡ codedOf seen ⌝ }
 {
+    let facts = seen.facts;
+    CodedPicture {
+        pos_bits: seen.pos_bits,
+        end_bits: seen.end_bits,
+        vbv_delay: seen.vbv_delay,
+        interval: interval(facts.field),
+    }
+}
+
+// The progress after one more picture.
+pub(crate) fn advance(progress: Progress, params: VbvParams, seen: SeenPicture) -> Progress
+    ensures { λ r. ⌜ r ≡ advanced params progress (codedOf seen) ⌝ }
+{
+    let coded = coded_picture(seen);
     match progress {
         Progress::Fresh => begin(params, coded),
         Progress::Unmodelled(error) => Progress::Unmodelled(error),

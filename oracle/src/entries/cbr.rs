@@ -9,11 +9,11 @@ use crate::entry;
 use crate::place::{Left, Place, lay};
 use crate::run::{Owed, Run};
 use oracle::draw::Draw;
-use oracle::lists::{Call, call, configured, pattern};
-use oracle::state::{BYTES, WORDS, held, limits, words, words_of};
+use oracle::format::pattern;
+use oracle::layout::{CBR_AGAIN, CBR_ANSWER_BYTES, CBR_FIELD, CBR_FRAME, CBR_PLACED, CBR_REFUSED, CBR_STATE_BYTES};
+use oracle::lists::{Call, call, configured};
+use oracle::state::{WORDS, held, limits, words, words_of};
 use oracle::writer::{Config, Offer, Told, Writer};
-
-const ANSWER: usize = 72;
 
 const CREATIONS: &str = "creations";
 const OFFERS: &str = "offers";
@@ -74,14 +74,14 @@ fn alone(number: u64, state: &[u8]) -> Left {
 }
 
 fn refused(n: u8, picture: u64) -> [u64; 9] {
-    [2, n.into(), picture, 0, 0, 0, 0, 0, 0]
+    [CBR_REFUSED, n.into(), picture, 0, 0, 0, 0, 0, 0]
 }
 
 /// The words of an answer; a 9 names the picture, of which so many were placed before.
 fn answer_words(told: Told, placed: u64) -> [u64; 9] {
     match told {
-        Told::Placed { q, delay, bytes, stuffing } => [0, 0, 0, 0, 0, q.into(), delay.into(), bytes, stuffing],
-        Told::Again(q) => [1, 0, 0, 0, 0, q.into(), 0, 0, 0],
+        Told::Placed { q, delay, bytes, stuffing } => [CBR_PLACED, 0, 0, 0, 0, q.into(), delay.into(), bytes, stuffing],
+        Told::Again(q) => [CBR_AGAIN, 0, 0, 0, 0, q.into(), 0, 0, 0],
         Told::Refused(9) => refused(9, placed),
         Told::Refused(n) => refused(n, 0),
     }
@@ -89,9 +89,9 @@ fn answer_words(told: Told, placed: u64) -> [u64; 9] {
 
 /// What stops an offer on a state that holds a writer, or none, before the writer looks at it.
 fn stop(holds: bool, state: &[u8], c: &Offering) -> Option<(u8, &'static str)> {
-    let short = c.answer.len() < ANSWER;
-    let no_state = [!holds && short, !holds && state.len() < BYTES, !holds];
-    let codes = [2 < c.kind, !(1..=2).contains(&c.interval), 1 < c.last];
+    let short = c.answer.len() < CBR_ANSWER_BYTES;
+    let no_state = [!holds && short, !holds && state.len() < CBR_STATE_BYTES, !holds];
+    let codes = [2 < c.kind, ![CBR_FIELD, CBR_FRAME].contains(&c.interval), 1 < c.last];
     let at = no_state.into_iter().chain([short]).chain(codes).position(|stops| stops)?;
     Some((if at == no_state.len() { 19 } else { 12 }, STOPS[at]))
 }
@@ -107,7 +107,7 @@ fn expected(writer: Option<&mut Writer>, state: &[u8], c: &Offering) -> (Left, S
     let offer = Offer {
         headers: c.headers.to_vec(),
         kind: c.kind.into(),
-        field: c.interval == 1,
+        field: c.interval == CBR_FIELD,
         last: c.last == 1,
         layer: c.layer.to_vec(),
     };
@@ -179,12 +179,12 @@ fn another(s: &[u64; WORDS], k: usize, d: &mut Draw) -> u64 {
 fn damaged(state: &[u8], d: &mut Draw) -> Vec<u8> {
     let mut bytes = state.to_vec();
     if d.one_in(12) {
-        bytes.truncate(d.below(BYTES));
+        bytes.truncate(d.below(CBR_STATE_BYTES));
         return bytes;
     }
     while bytes == state || d.one_in(3) {
         if d.one_in(4) {
-            bytes[d.below(BYTES)] = d.byte();
+            bytes[d.below(CBR_STATE_BYTES)] = d.byte();
         } else {
             let (mut s, k) = (words_of(&bytes).unwrap(), d.below(WORDS));
             s[k] = another(&s, k, d);
@@ -198,12 +198,12 @@ impl Run {
     /// A writer and its state, in a place that may be longer.
     fn create(&mut self, c: Config) -> Option<(Writer, Vec<u8>)> {
         if self.d.one_in(16) {
-            let n = self.d.below(BYTES);
+            let n = self.d.below(CBR_STATE_BYTES);
             let place = self.d.bytes(n);
             let found = created(c, &place, &mut self.d);
             self.met(CREATIONS, "refused 19", &found, &alone(19, &place));
         }
-        let n = BYTES + self.d.below(3) * self.d.below(16);
+        let n = CBR_STATE_BYTES + self.d.below(3) * self.d.below(16);
         let mut state = self.d.bytes(n);
         let found = created(c, &state, &mut self.d);
         let made = Writer::create(c);
@@ -244,7 +244,7 @@ impl Run {
         let damage = !d.one_in(4);
         let mut copy = if damage { damaged(state, d) } else { state.to_vec() };
         match d.below(if damage { 16 } else { 4 }) {
-            0 => c.answer.truncate(d.below(ANSWER)),
+            0 => c.answer.truncate(d.below(CBR_ANSWER_BYTES)),
             1 => c.kind = 3 + d.below(253) as u8,
             2 => c.interval = [0, 3 + d.below(253) as u8][d.below(2)],
             3 => c.last = 2 + d.below(254) as u8,
@@ -265,8 +265,8 @@ impl Run {
         let Some((mut w, mut state)) = self.create(configured(input)) else { return };
         let mut rest = &input[11..];
         while !rest.is_empty() {
-            let (call, part, behind) = call(rest);
-            rest = behind;
+            let (call, part, after) = call(rest);
+            rest = after;
             match call {
                 Call::State(end, whole) => {
                     w.set(end, whole);
@@ -278,11 +278,11 @@ impl Run {
                     self.withdraw(why, Some(&mut w), &mut state);
                 }
                 Call::Offer(o) => {
-                    let n = ANSWER + self.d.below(3) * self.d.below(16);
+                    let n = CBR_ANSWER_BYTES + self.d.below(3) * self.d.below(16);
                     let c = Offering {
                         headers: &o.headers,
                         kind: o.kind as u8,
-                        interval: if o.field { 1 } else { 2 },
+                        interval: if o.field { CBR_FIELD } else { CBR_FRAME },
                         last: o.last.into(),
                         layer: &o.layer,
                         out: pattern(part),

@@ -5,15 +5,12 @@
 use crate::entry;
 use crate::place::{Left, Place};
 use crate::run::{Owed, Run};
-use oracle::answers::number;
 use oracle::check::judged;
 use oracle::draw::Draw;
+use oracle::format::number;
+use oracle::layout::{VBV_MPEG1, VBV_MPEG2, VBV_RECORD_BYTES, VBV_REFUSAL_BYTES, VBV_REPORT_BYTES};
 use oracle::model::patched;
 use original::vbv::VbvStandard;
-
-const REPORT: usize = 40;
-const RECORD: usize = 32;
-const REFUSAL: usize = 32;
 
 const CHECKS: [&str; 2] = ["checks of MPEG-1 streams", "checks of MPEG-2 streams"];
 const STOPPED: &str = "checks stopped before the stream";
@@ -21,7 +18,7 @@ const PATCHES: &str = "patches";
 
 const ANSWERS: [&str; 15] = [
     "accepted",
-    "accepted, with bytes behind the records",
+    "accepted, with bytes after the records",
     "refused 1",
     "refused 2",
     "refused 3",
@@ -67,8 +64,8 @@ struct Check<'a> {
 
 /// What stops a check before it looks at the stream.
 fn stop(c: &Check) -> Option<(u64, &'static str)> {
-    let (report, refusal) = (c.report.len() < REPORT, c.refusal.len() < REFUSAL);
-    let no_standard = !(1..=2).contains(&c.standard);
+    let (report, refusal) = (c.report.len() < VBV_REPORT_BYTES, c.refusal.len() < VBV_REFUSAL_BYTES);
+    let no_standard = ![VBV_MPEG1, VBV_MPEG2].contains(&c.standard);
     let short = [no_standard && (report || refusal), report && refusal, report, refusal];
     let none = [c.standard == 0, c.standard == 3, no_standard];
     let at = short.into_iter().chain(none).position(|stops| stops)?;
@@ -82,11 +79,11 @@ fn expected(c: &Check) -> (Left, &'static str, String) {
         left.number = number;
         return (left.with("refusal", &[number, 0, 0, 0]), STOPPED, why.into());
     }
-    let standard = if c.standard == 1 { VbvStandard::Mpeg1 } else { VbvStandard::Mpeg2 };
+    let standard = if c.standard == VBV_MPEG1 { VbvStandard::Mpeg1 } else { VbvStandard::Mpeg2 };
     let what = CHECKS[usize::from(c.standard) - 1];
     let ((number, _), words) = judged(standard, c.stream, left.at("records"));
     if number == 0 {
-        let more = RECORD * (words[2] as usize) < c.records.len();
+        let more = VBV_RECORD_BYTES * (words[2] as usize) < c.records.len();
         return (left.with("report", &words), what, ANSWERS[usize::from(more)].into());
     }
     left.number = number.into();
@@ -120,10 +117,10 @@ fn odd<'a>(c: &Check<'a>, d: &mut Draw) -> Check<'a> {
     let mut c = c.clone();
     let which = d.below(4);
     if which == 0 || which == 2 {
-        c.report.truncate(d.below(REPORT));
+        c.report.truncate(d.below(VBV_REPORT_BYTES));
     }
     if which == 1 || which == 2 {
-        c.refusal.truncate(d.below(REFUSAL));
+        c.refusal.truncate(d.below(VBV_REFUSAL_BYTES));
     }
     if which == 3 || d.one_in(4) {
         c.standard = [0, 3, 3 + d.below(253) as u8][d.below(3)];
@@ -148,7 +145,7 @@ impl Run {
     pub fn stream(&mut self, standard: u8, input: &[u8]) {
         let (part, stream) = input.split_at(2);
         let d = &mut self.d;
-        let [report, refusal] = [REPORT, REFUSAL].map(|n| n + d.below(3) * d.below(16));
+        let [report, refusal] = [VBV_REPORT_BYTES, VBV_REFUSAL_BYTES].map(|n| n + d.below(3) * d.below(16));
         let [report, records, refusal] = [report, number(part) as usize, refusal].map(|n| d.bytes(n));
         let c = Check { stream, standard, report, records, refusal };
         if self.d.one_in(4) {

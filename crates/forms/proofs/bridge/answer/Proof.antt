@@ -50,14 +50,14 @@ use denote.Triple.Clauses.{ensured, Lasts, lasts}
 use denote.Exit.{yes}
 use Rattle.verify.specs.Answers.{verifiedAnswer}
 use Rattle.verify.specs.Check.{verdict, reported, records}
-use Rattle.verify.specs.declared.VbvStandard.{VbvStandard}
+use Rattle.pictures.specs.declared.VbvStandard.{VbvStandard}
 use Rattle.verify.specs.declared.VbvVerified.{VbvVerified}
 use Rattle.verify.specs.declared.VbvPictureRecord.{VbvPictureRecord}
 use Rattle.bits.specs.Answers.{over}
 use Rattle.verify.proofs.VbvPictureRecord as T
 use Rattle.verify.proofs.VbvPictureRecord.Laws as T′
-use Rattle.verify.proofs.VbvStandard as N
-use Rattle.verify.proofs.VbvStandard.Laws as N′
+use Rattle.pictures.proofs.VbvStandard as N
+use Rattle.pictures.proofs.VbvStandard.Laws as N′
 use Rattle.verify.proofs.VbvVerified as E
 use Rattle.verify.proofs.VbvVerified.Laws as E′
 use Rattle.lent.proofs.verify_cbr_stream as callee

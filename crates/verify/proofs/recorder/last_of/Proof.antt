@@ -1,7 +1,7 @@
 use mathlib.Core.Path.{_∙_}
 use mathlib.Core.Logic.{⊎-elim}
 use native.Mathlib.Omega.{arith}
-use Rattle.verify.specs.Recorder.{lastOf}
+use Rattle.verify.specs.Steps.{lastOf}
 use Rattle.verify.proofs.Recording.{last-other}
 use borrow.Author.Needs.{needs}
 use Rattle.verify.proofs.recorder.last_of.Statement.{statement}

@@ -1,4 +1,4 @@
-use Rattle.verify.specs.Recorder.{recordCount}
+use Rattle.verify.specs.Steps.{recordCount}
 use borrow.Author.Needs.{needs}
 use Rattle.verify.proofs.recorder.record_count.Statement.{statement}
 use Rattle.verify.proofs.recorder.record_count.Tie as tie

@@ -1,10 +1,13 @@
-use Rattle.verify.specs.Walk.{judgement, judgedAs}
+use Rattle.verify.specs.Steps.{judgement, judgedAs}
 use borrow.Author.Needs.{needs}
 use Rattle.verify.proofs.report.judge.Statement.{statement}
 use Rattle.verify.proofs.report.judge.Tie as tie
 
 enum-known-walked : tie.Need-enum-known-walked
 enum-known-walked c = search needs
+
+unread-error-requires : tie.Need-unread-error-requires
+unread-error-requires c κs = search needs
 
 enum-known-walked-2 : tie.Need-enum-known-walked-2
 enum-known-walked-2 c = search needs
@@ -28,8 +31,8 @@ if-placed-requires-2 : tie.Need-if-placed-requires-2
 if-placed-requires-2 c κs = search needs
 
 returns : tie.Need-returns
-unfolding judgement
-returns c = rw (c .before .walked .given .1)
+unfolding judgement judgedAs
+returns c = rw (c .before .before .walked .given .1, c .unread-error .ensures)
 
 returns-2 : tie.Need-returns-2
 unfolding judgement judgedAs
@@ -52,6 +55,7 @@ judge-spec =
     tie.close
     (tie.spec
     enum-known-walked
+    unread-error-requires
     enum-known-walked-2
     enum-told
     enum-known-progress

@@ -1,13 +1,13 @@
 use Rattle.vbv.proofs.Numbers.{model-case}
 use Rattle.bits.specs.Bits.{pick}
 use borrow.Author.Tests.{ne-eqb}
-use Rattle.verify.specs.Walk.{first, made, begun}
+use Rattle.verify.specs.Steps.{firstRemoved, firstMade, firstStarted}
 use borrow.Author.Needs.{needs}
 use Rattle.verify.proofs.run.begin.Statement.{statement}
 use Rattle.verify.proofs.run.begin.Tie as tie
 
 returns : tie.Need-returns
-unfolding first pick
+unfolding firstRemoved pick
 returns c = rw (c .if1 .taken)
 
 new-requires : tie.Need-new-requires
@@ -35,15 +35,15 @@ go-on-requires : tie.Need-go-on-requires
 go-on-requires c κs = search needs
 
 returns-2 : tie.Need-returns-2
-unfolding first made pick
+unfolding firstRemoved firstMade pick
 returns-2 c = rw (ne-eqb _ _ (c .before .before .before .before .if1 .left), model-case (c .before .unfit .given .1) (c .before .before .before .new .ensures))
 
 returns-3 : tie.Need-returns-3
-unfolding first made begun pick
+unfolding firstRemoved firstMade firstStarted pick
 returns-3 c = let k = c .before .before .before .before in rw (ne-eqb _ _ (k .before .before .before .before .if1 .left), model-case (k .before .model .given .1) (k .before .before .before .new .ensures), model-case (c .before .error .given .1) (c .before .before .before .start .ensures))
 
 returns-4 : tie.Need-returns-4
-unfolding first made begun pick
+unfolding firstRemoved firstMade firstStarted pick
 returns-4 c = let k = c .before .before .before .before .before .before in rw (ne-eqb _ _ (k .before .before .before .before .if1 .left), model-case (k .before .model .given .1) (k .before .before .before .new .ensures), model-case (c .before .before .before .started .given .1) (c .before .before .before .before .before .start .ensures), ← c .before .remove .ensures) (c .go-on .ensures)
 
 pub begin-spec : {M : Type 1} → statement M

@@ -1,5 +1,5 @@
 use Rattle.verify.specs.Run.{occupancyAfter}
-use Rattle.verify.specs.Walk.{onward}
+use Rattle.verify.specs.Steps.{progressed}
 use borrow.Author.Needs.{needs}
 use Rattle.verify.proofs.run.go_on.Statement.{statement}
 use Rattle.verify.proofs.run.go_on.Tie as tie
@@ -20,11 +20,11 @@ enum-known-removed-2 : tie.Need-enum-known-removed-2
 enum-known-removed-2 c = search needs
 
 returns : tie.Need-returns
-unfolding onward occupancyAfter
+unfolding progressed occupancyAfter
 returns c = rw (c .before .before .before .before .removed .given .1, c .greatest-of .ensures, c .before .least-of .ensures, c .before .before .less .ensures)
 
 returns-2 : tie.Need-returns-2
-unfolding onward
+unfolding progressed
 returns-2 c = rw (c .before .removed2 .given .1)
 
 pub go-on-spec : {M : Type 1} → statement M

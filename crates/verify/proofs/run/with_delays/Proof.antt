@@ -1,4 +1,4 @@
-use Rattle.verify.specs.Walk.{withDelays}
+use Rattle.verify.specs.Steps.{withDelays}
 use borrow.Author.Needs.{needs}
 use Rattle.verify.proofs.run.with_delays.Statement.{statement}
 use Rattle.verify.proofs.run.with_delays.Tie as tie

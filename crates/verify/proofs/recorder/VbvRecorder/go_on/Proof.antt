@@ -1,4 +1,4 @@
-use Rattle.verify.specs.Recorder.{wentOn}
+use Rattle.verify.specs.Steps.{wentOn}
 use borrow.Author.Needs.{needs}
 use Rattle.verify.proofs.recorder.VbvRecorder.go_on.Statement.{statement}
 use Rattle.verify.proofs.recorder.VbvRecorder.go_on.Tie as tie

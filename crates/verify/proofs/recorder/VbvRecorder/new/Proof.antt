@@ -1,4 +1,4 @@
-use Rattle.verify.specs.Recorder.{recorderOf}
+use Rattle.verify.specs.Steps.{recorderOf}
 use borrow.Author.Needs.{needs}
 use Rattle.verify.proofs.recorder.VbvRecorder.new.Statement.{statement}
 use Rattle.verify.proofs.recorder.VbvRecorder.new.Tie as tie

@@ -1,4 +1,4 @@
-use Rattle.verify.specs.Recorder.{stayed}
+use Rattle.verify.specs.Steps.{stayed}
 use borrow.Author.Needs.{needs}
 use Rattle.verify.proofs.recorder.VbvRecorder.stay.Statement.{statement}
 use Rattle.verify.proofs.recorder.VbvRecorder.stay.Tie as tie

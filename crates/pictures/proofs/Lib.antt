@@ -1,0 +1,5 @@
+pub mod Seeing
+pub mod Showing
+pub mod Order
+pub mod Due
+pub mod Numbering

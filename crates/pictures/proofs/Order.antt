@@ -1,0 +1,92 @@
+-- The steps of the walk give the pictures of a stream, which lie one after another within it.
+-- Assumes nothing.
+use mathlib.Core.Path.{_≡_, refl, sym, ap, _∙_}
+use Prim.Native.Nat.{ℕ, _+_, _*_, _≤_, _<_}
+use mathlib.Core.List.{List, [], _∷_}
+use mathlib.Core.Bool.{false}
+use native.Mathlib.Omega.{arith}
+use lib.ListN.{length, drop}
+use Rattle.vbv.specs.Model.{farthest}
+use Rattle.bits.specs.Refusals.{Answer, value, refused, andThen}
+use Rattle.bits.proofs.Following.{then-value}
+use Rattle.picture_header.specs.PictureHeader.{pictureHeader}
+use Rattle.picture_header.specs.Picture.{picture}
+use Rattle.picture_header.specs.declared.PictureStructure.the-variants.{Frame as FramePicture}
+use Rattle.picture_header.proofs.PictureHeader.{picture-header-parsed, delay-high}
+use Rattle.picture_header.proofs.Picture.{picture-parsed}
+use Rattle.scan.specs.declared.Next.{Next}
+use Rattle.scan.specs.declared.Next.the-variants.{Picture, Done}
+use Rattle.scan.specs.Pictures.{Pic, pictures}
+use Rattle.scan.specs.Walk as scanned
+use Rattle.scan.specs.Walk.{nextPicture, Steps, InOrder}
+use Rattle.scan.proofs.Pictures.{walk-gives, in-order}
+use Rattle.pictures.specs.Seen.{shown, factsBy, factsOf, seenOf, seenAt, seenEach, seenPictures, sightAt, nextSeen, nothing, one}
+use Rattle.pictures.specs.Order.{Visits, ended, stopped, went-on, stopped-later, StepsGivePictures, Placed, Rising, last, next, SeenRising}
+use Rattle.pictures.specs.declared.VbvStandard.{VbvStandard}
+use Rattle.pictures.specs.declared.VbvStandard.the-variants.{Mpeg1, Mpeg2}
+use Rattle.pictures.specs.declared.PictureFacts.{PictureFacts}
+use Rattle.pictures.specs.declared.SeenPicture.{SeenPicture}
+use Rattle.pictures.proofs.Seeing.{next-is}
+
+-- ---- the steps
+
+module _ (standard : VbvStandard) (s : List ℕ) (short : 8 * length s ≤ farthest) where
+  visits : {i : ℕ} {qs : List Pic} → Steps s i qs → Visits standard s i (seenEach standard s qs)
+  unfolding seenEach sightAt
+  visits (scanned.done {from = i} h) = ended (next-is standard s short i ∙ ap (sightAt standard s) h)
+  visits (scanned.step {from = i} {start = a} {end = b} {next = k} {qs = qs} h t) = go (seenAt standard s (record { start = a; end = b })) (next-is standard s short i ∙ ap (sightAt standard s) h) (seenEach standard s qs) (visits t)
+    where
+      go : (o : Answer SeenPicture) → nextSeen standard s i ≡ andThen o (λ x. value (one x k)) → (a : Answer (List SeenPicture)) → Visits standard s k a
+          → Visits standard s i (andThen o (λ x. andThen a (λ xs. value (x ∷ xs))))
+      go (refused n j c d) e a v = stopped e
+      go (value x) e (refused n j c d) v = stopped-later e v
+      go (value x) e (value xs) v = went-on e v
+
+pub steps-give : StepsGivePictures
+unfolding seenPictures
+steps-give standard s short = visits standard s short (walk-gives s)
+
+-- ---- where the pictures lie
+
+-- a coded delay is a number of 16 bits
+shown-small : (standard : VbvStandard) (s : List ℕ) (t : ℕ × PictureFacts) → shown standard s ≡ value t → t .0 < 65536
+unfolding shown
+shown-small Mpeg1 s t e =
+    let a = then-value (pictureHeader s) e in
+    let x : _≡_ {A = ℕ × PictureFacts} (a .0 .«vbv_delay», factsBy (a .0 .«picture_coding_type») FramePicture false false) t = cc in
+    omega (arith, ap (λ (y : ℕ × PictureFacts). y .0) x, delay-high (picture-header-parsed s (a .0) (a .1)))
+shown-small Mpeg2 s t e =
+    let a = then-value (picture s) e in
+    let x : _≡_ {A = ℕ × PictureFacts} (a .0 .0 .«vbv_delay», factsOf (a .0 .0) (a .0 .1)) t = cc in
+    omega (arith, ap (λ (y : ℕ × PictureFacts). y .0) x, delay-high (picture-header-parsed s (a .0 .0) (picture-parsed s (a .0 .0) (a .0 .1) (a .1) .header)))
+
+seen-from : (standard : VbvStandard) (s : List ℕ) (q : Pic) (x : SeenPicture) → seenAt standard s q ≡ value x
+    → (x .«pos_bits» ≡ 8 * (q .start + 4)) × (x .«end_bits» ≡ 8 * q .end) × (x .«vbv_delay» < 65536)
+unfolding seenAt seenOf
+seen-from standard s q x h =
+    let a = then-value (shown standard (drop (q .start) s)) h in
+    let e : seenOf q (a .0) ≡ x = cc in (
+      sym (ap (λ (y : SeenPicture). y .«pos_bits») e),
+      sym (ap (λ (y : SeenPicture). y .«end_bits») e),
+      omega (arith, ap (λ (y : SeenPicture). y .«vbv_delay») e, shown-small standard (drop (q .start) s) (a .0) (a .1)),
+    )
+
+module _ (standard : VbvStandard) (s : List ℕ) (short : 8 * length s ≤ farthest) where
+  -- after what ends at byte e
+  rising : {qs : List Pic} {e : ℕ} → InOrder (length s) e qs → (xs : List SeenPicture) → seenEach standard s qs ≡ value xs → Rising (8 * e) xs
+  unfolding seenEach
+  rising scanned.none xs h = let e : [] ≡ xs = cc in rw (← e) last
+  rising {e = e} (scanned.more {q = q} {qs = qs} l r b o) xs h =
+      let a = then-value (seenAt standard s q) h in
+      let c = then-value (seenEach standard s qs) (a .2) in
+      let f = seen-from standard s q (a .0) (a .1) in
+      let ee : a .0 .«end_bits» ≡ 8 * q .end = f .1 in
+      let y : a .0 ∷ c .0 ≡ xs = cc in
+      rw (← y)
+      (next {previous = 8 * e} {x = a .0} {xs = c .0}
+      (record { position-far = omega arith; grows = omega arith; end-far = omega arith; delay-small = f .2 })
+      (rw ee (rising o (c .0) (c .1))))
+
+pub seen-rising : SeenRising
+unfolding seenPictures
+seen-rising standard s xs short h = rising standard s short (in-order s) xs h

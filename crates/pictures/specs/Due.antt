@@ -1,0 +1,34 @@
+-- Which answer the front is due, by conditions: what is shown, or refused by the first test that fails, in the paper's order.
+-- Assumes nothing.
+use Prim.Native.Nat.{ℕ, _*_, _≤_, _<_}
+use mathlib.Core.Path.{_≡_}
+use mathlib.Core.List.{List, [], _∷_}
+use lib.ListN.{length}
+use Rattle.vbv.specs.Model.{farthest}
+use Rattle.bits.specs.Refusals.{Answer, value, refused}
+use Rattle.vbv.specs.declared.VbvParams.{VbvParams}
+use Rattle.pictures.specs.Sequence.{declared}
+use Rattle.pictures.specs.Seen.{seenPictures}
+use Rattle.pictures.specs.Front.{Front, front}
+use Rattle.pictures.specs.declared.VbvStandard.{VbvStandard}
+use Rattle.pictures.specs.declared.SeenPicture.{SeenPicture}
+
+-- a stream of 2^48 bits at most that declares p, with pictures x and xs: 14, 3, sequence header, extension, 6, every picture header and 4 are passed
+pub record Read (standard : VbvStandard) (s : List ℕ) (p : VbvParams) (x : SeenPicture) (xs : List SeenPicture) : Type 0 where
+  pub short : 8 * length s ≤ farthest
+  pub declares : declared standard s ≡ value p
+  pub pictures-are : seenPictures standard s ≡ value (x ∷ xs)
+
+pub data FrontDue (standard : VbvStandard) (s : List ℕ) : Answer Front → Type 0 where
+  too-far : farthest < 8 * length s → FrontDue standard s (refused 14 0 0 0)
+  undeclared : {n k i j : ℕ} → 8 * length s ≤ farthest → declared standard s ≡ refused n k i j → FrontDue standard s (refused n k i j)
+  unread : {p : VbvParams} {n k i j : ℕ} → 8 * length s ≤ farthest → declared standard s ≡ value p → seenPictures standard s ≡ refused n k i j
+      → FrontDue standard s (refused n k i j)
+  no-picture : {p : VbvParams} → 8 * length s ≤ farthest → declared standard s ≡ value p → seenPictures standard s ≡ value []
+      → FrontDue standard s (refused 4 0 0 0)
+  shown : {p : VbvParams} {x : SeenPicture} {xs : List SeenPicture} → Read standard s p x xs
+      → FrontDue standard s (value (record { params = p; first = x; others = xs }))
+
+-- what is owed
+abbrev pub FrontIsDue : Type 0
+FrontIsDue = (standard : VbvStandard) (s : List ℕ) → FrontDue standard s (front standard s)

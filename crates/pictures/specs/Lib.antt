@@ -1,0 +1,8 @@
+pub mod Sequence
+pub mod Seen
+pub mod Front
+pub mod Answers
+pub mod Order
+pub mod Due
+pub mod Numbers
+pub mod Steps

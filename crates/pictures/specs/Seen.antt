@@ -1,0 +1,96 @@
+-- The pictures of a stream as their headers show them, in stream order: where each is, its coded delay and its facts; or the first header refused.
+-- Assumes nothing.
+use Prim.Native.Nat.{ℕ, _+_, _*_}
+use mathlib.Core.List.{List, [], _∷_}
+use mathlib.Core.Bool.{Bool, true, false}
+use lib.Dec.{ltb}
+use lib.ListN.{length, drop}
+use Rattle.vbv.specs.Model.{farthest}
+use Rattle.bits.specs.Refusals.{Answer, value, refuse, andThen}
+use Rattle.picture_header.specs.PictureHeader.{pictureHeader}
+use Rattle.picture_header.specs.Picture.{picture}
+use Rattle.picture_header.specs.declared.PictureCodingType.{PictureCodingType}
+use Rattle.picture_header.specs.declared.PictureCodingType.the-variants.{Intra, Predictive, Bidirectional, DcIntra}
+use Rattle.picture_header.specs.declared.PictureStructure.{PictureStructure}
+use Rattle.picture_header.specs.declared.PictureStructure.the-variants.{TopField, BottomField, Frame as FramePicture}
+use Rattle.picture_header.specs.declared.Mpeg2PictureHeader.{Mpeg2PictureHeader}
+use Rattle.picture_header.specs.declared.PictureCodingExtension.{PictureCodingExtension}
+use Rattle.vbv.specs.declared.RemovalInterval.{RemovalInterval}
+use Rattle.vbv.specs.declared.RemovalInterval.the-variants.{Frame, Field}
+use Rattle.scan.specs.Pictures.{Pic, pictures}
+use Rattle.scan.specs.Walk.{nextPicture}
+use Rattle.scan.specs.declared.Next.{Next}
+use Rattle.scan.specs.declared.Next.the-variants.{Picture, Done}
+use Rattle.pictures.specs.declared.VbvStandard.{VbvStandard}
+use Rattle.pictures.specs.declared.VbvStandard.the-variants.{Mpeg1, Mpeg2}
+use Rattle.pictures.specs.declared.PictureFacts.{PictureFacts}
+use Rattle.pictures.specs.declared.SeenPicture.{SeenPicture}
+
+-- ---- a picture's facts
+
+-- I or P
+unfoldable pub isAnchor : PictureCodingType → Bool
+isAnchor Intra = true
+isAnchor Predictive = true
+isAnchor Bidirectional = false
+isAnchor DcIntra = false
+
+unfoldable pub isField : PictureStructure → Bool
+isField TopField = true
+isField BottomField = true
+isField FramePicture = false
+
+unfoldable pub factsBy : PictureCodingType → PictureStructure → Bool → Bool → PictureFacts
+factsBy type structure repeat top = record { anchor = isAnchor type; field = isField structure; repeat = repeat; top = top }
+
+unfoldable pub factsOf : Mpeg2PictureHeader → PictureCodingExtension → PictureFacts
+factsOf h x = factsBy (h .«picture_coding_type») (x .«picture_structure») (x .«repeat_first_field») (x .«top_field_first»)
+
+-- C.11: a field picture lasts a field period, a frame a frame period; repeat_first_field does not count (docs/DIFFERENCES.md)
+unfoldable pub intervalOf : Bool → RemovalInterval
+intervalOf true = Field
+intervalOf false = Frame
+
+-- ---- a picture
+
+-- what the picture whose start code begins s shows: its coded delay and its facts. MPEG-1 pictures are all frames
+unfoldable pub shown : VbvStandard → List ℕ → Answer (ℕ × PictureFacts)
+shown Mpeg1 s = andThen (pictureHeader s) (λ h. value (h .«vbv_delay», factsBy (h .«picture_coding_type») FramePicture false false))
+shown Mpeg2 s = andThen (picture s) (λ p. value (p .0 .«vbv_delay», factsOf (p .0) (p .1)))
+
+-- in bits: the end of the picture's start code, and the end of its data
+unfoldable pub seenOf : Pic → ℕ × PictureFacts → SeenPicture
+seenOf q t = record { «pos_bits» = 8 * (q .start + 4); «end_bits» = 8 * q .end; «vbv_delay» = t .0; facts = t .1 }
+
+unfoldable pub seenAt : VbvStandard → List ℕ → Pic → Answer SeenPicture
+seenAt standard s q = andThen (shown standard (drop (q .start) s)) (λ t. value (seenOf q t))
+
+-- ---- the pictures
+
+-- each in its turn: 1 or 2 for the first header refused
+unfoldable pub seenEach : VbvStandard → List ℕ → List Pic → Answer (List SeenPicture)
+seenEach standard s [] = value []
+seenEach standard s (q ∷ qs) =
+    andThen (seenAt standard s q) (λ x.
+    andThen (seenEach standard s qs) (λ xs.
+    value (x ∷ xs)))
+
+unfoldable pub seenPictures : VbvStandard → List ℕ → Answer (List SeenPicture)
+seenPictures standard s = seenEach standard s (pictures s)
+
+-- ---- one after another
+
+-- a picture and where the walk goes on, or no picture
+pub data Sight : Type 0 where
+  nothing : Sight
+  one : SeenPicture → ℕ → Sight
+
+unfoldable pub sightAt : VbvStandard → List ℕ → Next → Answer Sight
+sightAt standard s Done = value nothing
+sightAt standard s (Picture start end next) = andThen (seenAt standard s (record { start = start; end = end })) (λ x. value (one x next))
+
+-- the first picture that begins at a code which a scan from `from` finds; 14 for a stream above 2^48 bits
+unfoldable pub nextSeen : VbvStandard → List ℕ → ℕ → Answer Sight
+nextSeen standard s from =
+    refuse 14 (ltb farthest (8 * length s))
+    (sightAt standard s (nextPicture s from))

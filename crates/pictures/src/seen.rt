@@ -1,0 +1,134 @@
+// The pictures of a stream as their headers show them, one after another.
+ghost use mathlib.Core.Path.{_≡_};
+ghost use Prim.Native.Nat.{_+_, _*_, _≤_};
+ghost use lib.ListN.{length};
+ghost use Rattle.vbv.specs.Model.{farthest};
+ghost use Rattle.pictures.specs.Answers.{nextAnswer};
+ghost use Rattle.pictures.specs.Seen.{isAnchor, isField, intervalOf, factsBy, shown, seenOf, nextSeen};
+ghost use Rattle.pictures.specs.Steps.{shownAnswer};
+use crate::NextSeen;
+use crate::PictureFacts;
+use crate::SeenPicture;
+use crate::Shown;
+use crate::Unread;
+use crate::VbvStandard;
+use picture_header::Mpeg2PictureHeader;
+use picture_header::PictureCodingType;
+use picture_header::PictureHeaderRead;
+use picture_header::PictureRead;
+use picture_header::PictureStructure;
+use scan::Next;
+use scan::next_picture;
+use vbv::FARTHEST;
+use vbv::RemovalInterval;
+use vbv::VbvError;
+
+// An I or P picture.
+fn is_anchor(coding_type: PictureCodingType) -> bool
+    ensures { λ r. ⌜ r ≡ isAnchor «coding_type» ⌝ }
+{
+    match coding_type {
+        PictureCodingType::Intra => true,
+        PictureCodingType::Predictive => true,
+        PictureCodingType::Bidirectional => false,
+        PictureCodingType::DcIntra => false,
+    }
+}
+
+pub fn is_field(structure: PictureStructure) -> bool
+    ensures { λ r. ⌜ r ≡ isField structure ⌝ }
+{
+    match structure {
+        PictureStructure::TopField => true,
+        PictureStructure::BottomField => true,
+        PictureStructure::Frame => false,
+    }
+}
+
+// A field picture lasts a field period.
+pub fn interval(field: bool) -> RemovalInterval
+    ensures { λ r. ⌜ r ≡ intervalOf field ⌝ }
+{
+    if field {
+        return RemovalInterval::Field;
+    }
+    RemovalInterval::Frame
+}
+
+fn facts(
+    coding_type: PictureCodingType,
+    structure: PictureStructure,
+    repeat: bool,
+    top: bool,
+) -> PictureFacts
+    ensures { λ r. ⌜ r ≡ factsBy «coding_type» structure repeat top ⌝ }
+{
+    PictureFacts {
+        anchor: is_anchor(coding_type),
+        field: is_field(structure),
+        repeat,
+        top,
+    }
+}
+
+// What the picture that begins a part of the stream shows.
+fn shown_at(part: &[u8], standard: VbvStandard) -> Shown
+    ensures { λ r. ⌜ shownAnswer r ≡ shown standard (now (part .entry)) ⌝ }
+{
+    match standard {
+        VbvStandard::Mpeg1 => match Mpeg2PictureHeader::parse(part) {
+            PictureHeaderRead::Parsed(header) => {
+                let coding_type = header.picture_coding_type;
+                Shown::Picture(
+                    header.vbv_delay,
+                    facts(coding_type, PictureStructure::Frame, false, false),
+                )
+            }
+            PictureHeaderRead::Refused(error) => Shown::Refused(error),
+        },
+        VbvStandard::Mpeg2 => match Mpeg2PictureHeader::parse_with_extension(part) {
+            PictureRead::Parsed(header, extension) => {
+                let coding_type = header.picture_coding_type;
+                let structure = extension.picture_structure;
+                let repeat = extension.repeat_first_field;
+                let top = extension.top_field_first;
+                Shown::Picture(header.vbv_delay, facts(coding_type, structure, repeat, top))
+            }
+            PictureRead::Refused(error) => Shown::Refused(error),
+        },
+    }
+}
+
+// The picture whose start code stands at `at` and whose data ends at `end`.
+fn seen_picture(at: usize, end: usize, vbv_delay: u16, facts: PictureFacts) -> SeenPicture
+    requires { ⌜ 8 * (at + 4) ≤ farthest ⌝ }
+    requires { ⌜ 8 * end ≤ farthest ⌝ }
+    ensures { λ r. ⌜ r ≡ seenOf (record { start = at; end = end }) («vbv_delay», facts) ⌝ }
+{
+    let pos_bits = 8 * ((at + 4) as u64);
+    let end_bits = 8 * (end as u64);
+    SeenPicture {
+        pos_bits,
+        end_bits,
+        vbv_delay,
+        facts,
+    }
+}
+
+// The first picture that begins at a code which a scan from `from` finds, as its headers show it.
+pub fn next_seen(stream: &[u8], standard: VbvStandard, from: usize) -> NextSeen
+    ensures { λ r. ⌜ nextAnswer r ≡ nextSeen standard (now (stream .entry)) from ⌝ }
+{
+    if FARTHEST / 8 < stream.len() as u64 {
+        return NextSeen::Refused(Unread::Model(VbvError::Range));
+    }
+    match next_picture(stream, from) {
+        Next::Done => NextSeen::Done,
+        Next::Picture { at, end, next } => match shown_at(&stream[at..], standard) {
+            Shown::Refused(error) => NextSeen::Refused(Unread::Parse(error)),
+            Shown::Picture(vbv_delay, facts) => {
+                NextSeen::Picture(seen_picture(at, end, vbv_delay, facts), next)
+            }
+        },
+    }
+}

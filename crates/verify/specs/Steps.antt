@@ -1,0 +1,190 @@
+-- The check as the code goes: a picture at a time, with the model and what the report needs of the removals so far; and the records of a stream one by one.
+-- The promises of private functions; proofs/Verdict.antt and Recording.antt say that they come to specs/Check.antt. Assumes nothing.
+use Prim.Native.Nat.{ℕ, zero, suc, _+_, _-_, min, max}
+use mathlib.Core.List.{List, [], _∷_}
+use lib.Dec.{eqb, leb}
+use lib.ListN.{length}
+use Rattle.bits.specs.Bits.{pick}
+use Rattle.bits.specs.Refusals.{Answer, value, refused, refuse, andThen, orElse}
+use Rattle.vbv.specs.Model.{newModel, startModel, delayForPicture, removePicture, occupancyBeforeRemoval}
+use Rattle.vbv.specs.Steps.{modelOf, delayOf, bitsOf, removalOf}
+use Rattle.vbv.specs.declared.VbvParams.{VbvParams}
+use Rattle.vbv.specs.declared.VbvCbrModel.{VbvCbrModel}
+use Rattle.vbv.specs.declared.VbvViolation.{VbvViolation}
+use Rattle.vbv.specs.declared.VbvViolation.the-variants.{Overflow, Underflow, DelayMismatch}
+use Rattle.vbv.specs.declared.VbvModel.{VbvModel}
+use Rattle.vbv.specs.declared.VbvModel.the-variants as md
+use Rattle.vbv.specs.declared.VbvRemoval.{VbvRemoval}
+use Rattle.vbv.specs.declared.VbvRemoval.the-variants as rm
+use Rattle.vbv.specs.declared.VbvDelay.{VbvDelay}
+use Rattle.vbv.specs.declared.VbvDelay.the-variants as dl
+use Rattle.vbv.specs.declared.VbvBits.{VbvBits}
+use Rattle.vbv.specs.declared.VbvBits.the-variants as bt
+use Rattle.pictures.specs.Seen.{Sight, nothing, one, nextSeen}
+use Rattle.pictures.specs.Answers.{unread}
+use Rattle.pictures.specs.declared.VbvStandard.{VbvStandard}
+use Rattle.pictures.specs.declared.SeenPicture.{SeenPicture}
+use Rattle.pictures.specs.declared.Unread.{Unread}
+use Rattle.pictures.specs.declared.Unread.the-variants as un
+use Rattle.verify.specs.Coded.{codedOf, timed}
+use Rattle.verify.specs.Run.{apart, occupancyAfter}
+use Rattle.verify.specs.declared.CodedPicture.{CodedPicture}
+use Rattle.verify.specs.declared.VbvPictureRecord.{VbvPictureRecord}
+use Rattle.verify.specs.declared.VbvVerifyError.{VbvVerifyError}
+use Rattle.verify.specs.declared.VbvVerifyError.the-variants.{Parse, Model, NoSequenceHeader, NoPictures, VariableRate, RecordPlaces, Violation}
+use Rattle.verify.specs.declared.VbvVerified.{VbvVerified}
+use Rattle.verify.specs.declared.VbvVerified.the-variants as vf
+use Rattle.verify.specs.declared.Removed.{Removed}
+use Rattle.verify.specs.declared.Removed.the-variants.{Recorded, Refused}
+use Rattle.verify.specs.declared.Progress.{Progress}
+use Rattle.verify.specs.declared.Progress.the-variants.{Fresh, Unmodelled, Running, Stopped}
+use Rattle.verify.specs.declared.Walked.{Walked}
+use Rattle.verify.specs.declared.Walked.the-variants as wk
+use Rattle.verify.specs.declared.recorder.VbvRecorder.{VbvRecorder}
+use Rattle.verify.specs.declared.recorder.VbvRecorded.{VbvRecorded}
+
+-- ---- a removal, by what the model answers
+
+-- a violation with its delays
+unfoldable pub withDelays : ℕ → ℕ → VbvViolation → VbvViolation
+withDelays coded expected (Overflow n c x) = Overflow n coded expected
+withDelays coded expected (Underflow n c x) = Underflow n coded expected
+withDelays coded expected (DelayMismatch n c x) = DelayMismatch n coded expected
+
+unfoldable pub recordedIf : VbvCbrModel → CodedPicture → ℕ → ℕ → VbvRemoval → Removed
+recordedIf m c expected before (rm.Model next) =
+    Recorded
+    (record {
+      «vbv_delay» = c .«vbv_delay»;
+      «expected_delay» = expected;
+      «data_bits» = c .«end_bits» - m .«prev_end_bits»;
+      «occupancy_before_bits» = before;
+    })
+    next
+recordedIf m c expected before (rm.Refused e) = Refused (Model e)
+recordedIf m c expected before (rm.Violation v) = Refused (Violation (withDelays (c .«vbv_delay») expected v))
+
+unfoldable pub removedFrom : VbvCbrModel → CodedPicture → ℕ → VbvBits → Removed
+removedFrom m c expected (bt.Bits before) = recordedIf m c expected before (removalOf (removePicture m (c .«end_bits») (c .interval)))
+removedFrom m c expected (bt.Refused e) = Refused (Model e)
+
+unfoldable pub removedAfter : VbvCbrModel → CodedPicture → VbvDelay → Removed
+removedAfter m c (dl.Delay expected) =
+    pick (apart (c .«vbv_delay») expected)
+    (Refused (Violation (DelayMismatch (m .removed) (c .«vbv_delay») expected)))
+    (removedFrom m c expected (bitsOf (occupancyBeforeRemoval m)))
+removedAfter m c (dl.Refused e) = Refused (Model e)
+
+unfoldable pub removed : VbvCbrModel → CodedPicture → Removed
+removed m c = removedAfter m c (delayOf (delayForPicture m (c .«pos_bits»)))
+
+-- ---- the progress
+
+unfoldable pub progressed : ℕ → ℕ → Removed → Progress
+progressed least greatest (Recorded r m) = Running m r (min least (occupancyAfter r)) (max greatest (r .«occupancy_before_bits»))
+progressed least greatest (Refused e) = Stopped e
+
+-- the first removal; no occupancy is above B
+unfoldable pub firstStarted : CodedPicture → ℕ → VbvModel → Progress
+firstStarted c buffer (md.Model m) = progressed buffer 0 (removed m c)
+firstStarted c buffer (md.Refused e) = Unmodelled (Model e)
+
+unfoldable pub firstMade : CodedPicture → ℕ → VbvModel → Progress
+firstMade c buffer (md.Model m) = firstStarted c buffer (modelOf (startModel m (c .«vbv_delay») (c .«pos_bits»)))
+firstMade c buffer (md.Refused e) = Unmodelled (Model e)
+
+unfoldable pub firstRemoved : VbvParams → CodedPicture → Progress
+firstRemoved p c = pick (eqb (c .«vbv_delay») 0xFFFF) (Unmodelled VariableRate) (firstMade c (p .«buffer_size_bits») (modelOf (newModel p)))
+
+unfoldable pub advanced : VbvParams → Progress → CodedPicture → Progress
+advanced p Fresh c = firstRemoved p c
+advanced p (Unmodelled e) c = Unmodelled e
+advanced p (Running m r least greatest) c = progressed least greatest (removed m c)
+advanced p (Stopped e) c = Stopped e
+
+-- over all pictures
+unfoldable pub advancedAll : VbvParams → Progress → List CodedPicture → Progress
+advancedAll p st [] = st
+advancedAll p st (c ∷ cs) = advancedAll p (advanced p st c) cs
+
+-- ---- the walk
+
+abbrev pub walkedAnswer : Walked → Answer (VbvParams × (ℕ × Progress))
+walkedAnswer (wk.Refused e) = unread e
+walkedAnswer (wk.Read p n st) = value (p, (n, st))
+
+-- after n pictures, and those still to come: their number and the progress; 4 where there are none
+unfoldable pub walkedOver : VbvParams → ℕ → Progress → List SeenPicture → Answer (VbvParams × (ℕ × Progress))
+walkedOver p n st xs =
+    refuse 4 (eqb (n + length xs) 0)
+    (value (p, (n + length xs, advancedAll p st (timed xs))))
+
+-- ---- the answer
+
+unfoldable pub unreadError : Unread → VbvVerifyError
+unreadError (un.Parse e) = Parse e
+unreadError (un.Model e) = Model e
+unreadError un.NoSequenceHeader = NoSequenceHeader
+unreadError un.NoPictures = NoPictures
+
+-- what is answered if there are places for n records
+unfoldable pub ifPlaced : ℕ → ℕ → VbvVerified → VbvVerified
+ifPlaced n places answer = pick (leb n places) answer (vf.Refused RecordPlaces)
+
+unfoldable pub judgedAs : VbvParams → ℕ → ℕ → Progress → VbvVerified
+judgedAs p places n Fresh = vf.Refused NoPictures
+judgedAs p places n (Unmodelled e) = vf.Refused e
+judgedAs p places n (Running m r least greatest) =
+    ifPlaced n places
+    (vf.Report record {
+      «bit_rate» = p .«bit_rate»;
+      «buffer_size_bits» = p .«buffer_size_bits»;
+      pictures = n;
+      «min_occupancy_after_bits» = least;
+      «max_occupancy_before_bits» = greatest;
+    })
+judgedAs p places n (Stopped e) = ifPlaced n places (vf.Refused e)
+
+unfoldable pub judgement : ℕ → Walked → VbvVerified
+judgement places (wk.Refused e) = vf.Refused (unreadError e)
+judgement places (wk.Read p n st) = judgedAs p places n st
+
+-- ---- the records one by one
+
+unfoldable pub recordCount : VbvVerified → ℕ
+recordCount (vf.Report x) = x .pictures
+recordCount (vf.Refused e) = 0
+
+-- before the first picture; where the sequence header is refused (3, 1, 2, 6) the recorder gives no record
+unfoldable pub recorderOf : VbvStandard → Answer VbvParams → VbvRecorder
+recorderOf standard (value p) = record { standard = standard; params = p; at = 0; progress = Fresh }
+recorderOf standard (refused n k c e) =
+    record { standard = standard; params = record { «bit_rate» = 0; «buffer_size_bits» = 0; frn = 0; frd = 0 }; at = 0; progress = Unmodelled NoSequenceHeader }
+
+unfoldable pub noRecord : VbvPictureRecord
+noRecord = record { «vbv_delay» = 0; «expected_delay» = 0; «data_bits» = 0; «occupancy_before_bits» = 0 }
+
+unfoldable pub lastOf : Progress → VbvPictureRecord
+lastOf Fresh = noRecord
+lastOf (Unmodelled e) = noRecord
+lastOf (Running m r least greatest) = r
+lastOf (Stopped e) = noRecord
+
+unfoldable pub stayed : VbvRecorder → VbvRecorded
+stayed w = record { recorder = w; last = noRecord }
+
+unfoldable pub wentOn : VbvRecorder → ℕ → Progress → VbvRecorded
+wentOn w next st =
+    record { recorder = record { standard = w .standard; params = w .params; at = next; progress = st }; last = lastOf st }
+
+unfoldable pub recordedBy : VbvRecorder → Sight → VbvRecorded
+recordedBy w nothing = stayed w
+recordedBy w (one x next) = wentOn w next (advanced (w .params) (w .progress) (codedOf x))
+
+unfoldable pub nextRecord : List ℕ → VbvRecorder → VbvRecorded
+nextRecord s w = orElse (stayed w) (andThen (nextSeen (w .standard) s (w .at)) (λ g. value (recordedBy w g)))
+
+-- the first i records
+unfoldable pub recordsOf : List ℕ → VbvRecorder → ℕ → List VbvPictureRecord
+recordsOf s w zero = []
+recordsOf s w (suc i) = nextRecord s w .last ∷ recordsOf s (nextRecord s w .recorder) i
