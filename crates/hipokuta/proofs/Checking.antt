@@ -15,7 +15,7 @@ use Rattle.bits.specs.Refusals.{plain}
 use Rattle.verify.specs.Answers.{refusalOf, verifiedAnswer}
 use Rattle.verify.specs.Check.{Accepted, reported, verdict, records}
 use Rattle.verify.proofs.Storing.{no-records}
-use Rattle.verify.specs.Layout.{recordsBytes}
+use Rattle.verify.specs.Layout.{recordSize, recordsBytes}
 use Rattle.pictures.specs.declared.VbvStandard.the-variants.{Mpeg1, Mpeg2}
 use Rattle.verify.specs.declared.VbvVerified.{VbvVerified}
 use Rattle.verify.specs.declared.VbvVerified.the-variants.{Report, Refused}
@@ -73,12 +73,12 @@ module _ (s : List ℕ) (standard : ℕ) (p q f : List ℕ) where
     no-standard a b e n w = rw (h, ne-eqb standard 1 a, ne-eqb standard 2 b) (leaves-refused 12 e n w)
 
     module _ (a : Answer VbvStreamReport) {n : ℕ} {p' q' f' : List ℕ} (t : Reported a n p' f') where
-      pub mpeg1 : standard ≡ 1 → a ≡ reported (verdict Mpeg1 s (length q / 32)) → q' ≡ over (recordsBytes (records (verdict Mpeg1 s (length q / 32)))) q
+      pub mpeg1 : standard ≡ 1 → a ≡ reported (verdict Mpeg1 s (length q / recordSize)) → q' ≡ over (recordsBytes (records (verdict Mpeg1 s (length q / recordSize)))) q
           → Leaves (checked s standard p q f) n p' q' f'
       unfolding checked pick
-      mpeg1 e b w = rw (h, e) (leaves-verdict (verdict Mpeg1 s (length q / 32)) w (subst (λ x. Reported x n p' f') b t))
+      mpeg1 e b w = rw (h, e) (leaves-verdict (verdict Mpeg1 s (length q / recordSize)) w (subst (λ x. Reported x n p' f') b t))
 
-      pub mpeg2 : standard ≡ 2 → a ≡ reported (verdict Mpeg2 s (length q / 32)) → q' ≡ over (recordsBytes (records (verdict Mpeg2 s (length q / 32)))) q
+      pub mpeg2 : standard ≡ 2 → a ≡ reported (verdict Mpeg2 s (length q / recordSize)) → q' ≡ over (recordsBytes (records (verdict Mpeg2 s (length q / recordSize)))) q
           → Leaves (checked s standard p q f) n p' q' f'
       unfolding checked pick
-      mpeg2 e b w = rw (h, e) (leaves-verdict (verdict Mpeg2 s (length q / 32)) w (subst (λ x. Reported x n p' f') b t))
+      mpeg2 e b w = rw (h, e) (leaves-verdict (verdict Mpeg2 s (length q / recordSize)) w (subst (λ x. Reported x n p' f') b t))

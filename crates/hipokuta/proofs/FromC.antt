@@ -27,7 +27,7 @@ use Rattle.words.specs.Words.{laid}
 use Rattle.layout.proofs.RoundTrip.{read-put, length-state}
 use Rattle.words.proofs.Laying.{laid-laid}
 use Rattle.hipokuta.specs.Send.{stateAfter, createIn, COffer, choicesFit, offerOf, reach, offerIn, offerState, offerOut, offerPlace, withdrawIn}
-use Rattle.hipokuta.specs.Calls.{CCall, offers, withdraws, callState, offerSteps, callSteps, stepsFromC, finalState, forWriter, allForWriter, seenOf, seenOfAll, shownAs, shownStep, shown, shownAll, FromCreation, OwedFromC}
+use Rattle.hipokuta.specs.Calls.{CCall, offers, withdraws, callState, offerSteps, callSteps, stepsFromC, finalState, forWriter, allForWriter, cSees, cSeesAll, showsAnswer, showsStep, writerShows, writerShowsAll, FromCreation, OwedFromC}
 use Rattle.layout.specs.Answers.{answerSize}
 
 -- ---- a call on a writer's state in a place
@@ -49,14 +49,14 @@ module _ (w : CbrWriter) (h : Whole w) (place : List ℕ) (room : stateSize ≤ 
       laid-laid _ _ place (length-state (leftByCall w c) (n .targets) (n .inv .three) ∙ sym (length-state w (h .targets) (h .inv .three)))
 
   -- what C sees
-  sees-offer : (o : COffer) (a f : Bool) → ltb (length (o .answer)) answerSize ≡ a → choicesFit o ≡ f → seenOf bytes (offers o) ≡ shown w (offers o)
-  unfolding seenOf shown shownAs shownStep reach offerIn offerOut offerPlace pick
+  sees-offer : (o : COffer) (a f : Bool) → ltb (length (o .answer)) answerSize ≡ a → choicesFit o ≡ f → cSees bytes (offers o) ≡ writerShows w (offers o)
+  unfolding cSees writerShows showsAnswer showsStep reach offerIn offerOut offerPlace pick
   sees-offer o true f e g = rw (fits, e)
   sees-offer o false false e g = rw (fits, e, g)
   sees-offer o false true e g = rw (fits, e, g, read, step-offer w (offerOf o))
 
-  sees : (c : CCall) → seenOf bytes c ≡ shown w c
-  unfolding seenOf shown shownStep withdrawIn pick
+  sees : (c : CCall) → cSees bytes c ≡ writerShows w c
+  unfolding cSees writerShows showsStep withdrawIn pick
   sees (offers o) = sees-offer o _ _ refl refl
   sees withdraws = rw (fits, read, step-withdrawal w)
 
@@ -106,11 +106,11 @@ module _ (w : CbrWriter) (h : Whole w) (place : List ℕ) (room : stateSize ≤ 
 
 record AskAll (w : CbrWriter) (place : List ℕ) (cs : List CCall) : Type 0 where
   same : stepsFromC (laid (stateBytes w) place) cs ≡ stepsOf w (allForWriter cs)
-  sees : seenOfAll (laid (stateBytes w) place) cs ≡ shownAll w cs
+  sees : cSeesAll (laid (stateBytes w) place) cs ≡ writerShowsAll w cs
   left : finalState (laid (stateBytes w) place) cs ≡ laid (stateBytes (final w (allForWriter cs))) place
 
 ask-all : (w : CbrWriter) → Whole w → (place : List ℕ) → stateSize ≤ length place → (cs : List CCall) → AskAll w place cs
-unfolding stepsFromC finalState seenOfAll shownAll allForWriter
+unfolding stepsFromC finalState cSeesAll writerShowsAll allForWriter
 ask-all w h place room [] = record { same = sym (steps-none w); sees = refl; left = rw (final-none w) }
 ask-all w h place room (c ∷ cs) =
     let a = asks w h place room c in

@@ -20,26 +20,26 @@ use Rattle.hipokuta.specs.Numbers.{EntryNumbers}
 abbrev Checks : Answer Accepted → Type 0
 Checks a = Numbered (19 ∷ 12 ∷ 14 ∷ 3 ∷ 1 ∷ 2 ∷ 6 ∷ 4 ∷ 5 ∷ 15 ∷ 7 ∷ 8 ∷ []) [] (11 ∷ 9 ∷ 10 ∷ []) a
 
-checked-numbered : (s : List ℕ) (standard : ℕ) (report recs refusal : List ℕ) → Checks (checked s standard report recs refusal)
+vbv-check-numbered : (s : List ℕ) (standard : ℕ) (report recs refusal : List ℕ) → Checks (checked s standard report recs refusal)
 unfolding checked
-checked-numbered s standard report recs refusal =
+vbv-check-numbered s standard report recs refusal =
     pick-elim Checks _ (λ e. by-number refl) λ e.
     pick-elim Checks _ (λ e. wider refl refl refl (check-numbers Mpeg1 s _)) λ e.
     pick-elim Checks _ (λ e. wider refl refl refl (check-numbers Mpeg2 s _)) λ e.
     by-number refl
 
-create-numbered : (c : CbrConfig) (place : List ℕ) → Numbered (19 ∷ 12 ∷ 6 ∷ []) [] [] (createIn c place)
+cbr-create-numbered : (c : CbrConfig) (place : List ℕ) → Numbered (19 ∷ 12 ∷ 6 ∷ []) [] [] (createIn c place)
 unfolding createIn
-create-numbered c place =
+cbr-create-numbered c place =
     pick-elim (Numbered (19 ∷ 12 ∷ 6 ∷ []) [] []) _ (λ e. by-number refl) λ e.
     wider refl refl refl (writer-numbers .creation c)
 
 abbrev Offers : {X : Type 0} → Answer X → Type 0
 Offers a = Numbered (12 ∷ 19 ∷ 17 ∷ 18 ∷ 20 ∷ 14 ∷ 7 ∷ 21 ∷ 22 ∷ []) (9 ∷ []) [] a
 
-offer-numbered : (s : List ℕ) (o : COffer) → Offers (offerIn s o)
+cbr-offer-numbered : (s : List ℕ) (o : COffer) → Offers (offerIn s o)
 unfolding offerIn reach
-offer-numbered s o =
+cbr-offer-numbered s o =
     and-then _
     (pick-elim Offers _ (λ e. by-number refl) λ e.
     pick-elim Offers _ (λ e. by-number refl) λ e.
@@ -47,15 +47,15 @@ offer-numbered s o =
     a-value)
     λ x. wider refl refl refl (writer-numbers .offers (x .0) (x .1))
 
-withdraw-numbered : (s : List ℕ) → Numbered (12 ∷ []) [] [] (withdrawIn s)
+cbr-withdraw-numbered : (s : List ℕ) → Numbered (12 ∷ []) [] [] (withdrawIn s)
 unfolding withdrawIn
-withdraw-numbered s = pick-elim (Numbered (12 ∷ []) [] []) _ (λ e. by-number refl) λ e. wider refl refl refl (writer-numbers .withdrawals _)
+cbr-withdraw-numbered s = pick-elim (Numbered (12 ∷ []) [] []) _ (λ e. by-number refl) λ e. wider refl refl refl (writer-numbers .withdrawals _)
 
 pub numbers : EntryNumbers
 numbers = record {
-  vbv-check = checked-numbered;
+  vbv-check = vbv-check-numbered;
   vbv-patch-delay = model-numbers .patch;
-  cbr-create = create-numbered;
-  cbr-offer = offer-numbered;
-  cbr-withdraw = withdraw-numbered;
+  cbr-create = cbr-create-numbered;
+  cbr-offer = cbr-offer-numbered;
+  cbr-withdraw = cbr-withdraw-numbered;
 }

@@ -69,39 +69,39 @@ pub record SeenByC : Type 0 where
   pub answer : List ℕ
 
 -- of calls on a state's bytes, by the promises of the entries
-unfoldable pub seenOf : List ℕ → CCall → SeenByC
-seenOf s (offers o) = record { returned = number (offerIn s o); out = offerOut s o; answer = offerPlace s o }
-seenOf s withdraws = record { returned = number (withdrawIn s); out = []; answer = [] }
+unfoldable pub cSees : List ℕ → CCall → SeenByC
+cSees s (offers o) = record { returned = number (offerIn s o); out = offerOut s o; answer = offerPlace s o }
+cSees s withdraws = record { returned = number (withdrawIn s); out = []; answer = [] }
 
-unfoldable pub seenOfAll : List ℕ → List CCall → List SeenByC
-seenOfAll s [] = []
-seenOfAll s (c ∷ cs) = seenOf s c ∷ seenOfAll (callState s c) cs
+unfoldable pub cSeesAll : List ℕ → List CCall → List SeenByC
+cSeesAll s [] = []
+cSeesAll s (c ∷ cs) = cSees s c ∷ cSeesAll (callState s c) cs
 
 -- of the same calls on a writer: what it answered and put out, as number and words; or the refusal that stops an offer ahead of it
-unfoldable pub shownAs : Answer Given → List ℕ → List ℕ → SeenByC
-shownAs a out place = record { returned = number a; out = out; answer = laid (wordsBytes (answerWords a)) place }
+unfoldable pub showsAnswer : Answer Given → List ℕ → List ℕ → SeenByC
+showsAnswer a out place = record { returned = number a; out = out; answer = laid (wordsBytes (answerWords a)) place }
 
-unfoldable pub shownStep : Step → List ℕ → SeenByC
-shownStep (offered o a out) place = shownAs a out place
-shownStep (withdrawn n) place = record { returned = n; out = []; answer = place }
+unfoldable pub showsStep : Step → List ℕ → SeenByC
+showsStep (offered o a out) place = showsAnswer a out place
+showsStep (withdrawn n) place = record { returned = n; out = []; answer = place }
 
-unfoldable pub shown : CbrWriter → CCall → SeenByC
-shown w (offers o) =
-    pick (ltb (length (o .answer)) answerSize) (shownAs (refused 19 0 0 0) (o .out) (o .answer))
-    (pick (not (choicesFit o)) (shownAs (refused 12 0 0 0) (o .out) (o .answer))
-    (shownStep (stepOf w (offering (offerOf o))) (o .answer)))
-shown w withdraws = shownStep (stepOf w withdrawing) []
+unfoldable pub writerShows : CbrWriter → CCall → SeenByC
+writerShows w (offers o) =
+    pick (ltb (length (o .answer)) answerSize) (showsAnswer (refused 19 0 0 0) (o .out) (o .answer))
+    (pick (not (choicesFit o)) (showsAnswer (refused 12 0 0 0) (o .out) (o .answer))
+    (showsStep (stepOf w (offering (offerOf o))) (o .answer)))
+writerShows w withdraws = showsStep (stepOf w withdrawing) []
 
-unfoldable pub shownAll : CbrWriter → List CCall → List SeenByC
-shownAll w [] = []
-shownAll w (c ∷ cs) = shown w c ∷ shownAll (final w (forWriter c)) cs
+unfoldable pub writerShowsAll : CbrWriter → List CCall → List SeenByC
+writerShowsAll w [] = []
+writerShowsAll w (c ∷ cs) = writerShows w c ∷ writerShowsAll (final w (forWriter c)) cs
 
 -- of calls on the state of the writer w, created with c in a place, the frame rate of its code being f
 pub record FromC (c : CbrConfig) (f : ℕ × ℕ) (w : CbrWriter) (place : List ℕ) (cs : List CCall) : Type 0 where
   -- the writer is asked these calls, in order, each on what the one before left, and these are its answers
   pub same : stepsFromC (stateAfter (createIn c place) place) cs ≡ stepsOf w (allForWriter cs)
   -- C sees of every call what the writer shows of it; no call finds the state unfit
-  pub sees : seenOfAll (stateAfter (createIn c place) place) cs ≡ shownAll w cs
+  pub sees : cSeesAll (stateAfter (createIn c place) place) cs ≡ writerShowsAll w cs
   -- the bytes that are left are those of the writer that is left
   pub left : finalState (stateAfter (createIn c place) place) cs ≡ laid (stateBytes (final w (allForWriter cs))) place
   pub demand : DemandOf c f w (allForWriter cs)

@@ -10,19 +10,19 @@ use Rattle.bits.specs.Bits.{pick}
 use Rattle.bits.specs.Answers.{over}
 use Rattle.bits.specs.Refusals.{Answer, value, refused, refuse}
 use Rattle.verify.specs.Check.{Accepted, verdict}
-use Rattle.verify.specs.Layout.{recordsBytes}
+use Rattle.verify.specs.Layout.{recordSize, recordsBytes}
 use Rattle.pictures.specs.declared.VbvStandard.the-variants.{Mpeg1, Mpeg2}
 use Rattle.verify.specs.declared.VbvStreamReport.{VbvStreamReport}
 use Rattle.words.specs.Words.{wordsBytes, laid}
 use Rattle.layout.specs.Answers.{reportSize, refusalSize, reportWords, refusalWords}
 use Rattle.hipokuta.specs.Lent.{Slice}
 
--- of a stream, the standard's number and the places for report, records and refusal; a record place is 32 bytes
+-- of a stream, the standard's number and the places for report, records and refusal
 unfoldable pub checked : List ℕ → ℕ → List ℕ → List ℕ → List ℕ → Answer Accepted
 checked s standard report recs refusal =
     refuse 19 (ltb (length refusal) refusalSize || ltb (length report) reportSize)
-    (pick (eqb standard 1) (verdict Mpeg1 s (length recs / 32))
-    (pick (eqb standard 2) (verdict Mpeg2 s (length recs / 32))
+    (pick (eqb standard 1) (verdict Mpeg1 s (length recs / recordSize))
+    (pick (eqb standard 2) (verdict Mpeg2 s (length recs / recordSize))
     (refused 12 0 0 0)))
 
 -- by what the slices hold when `vbv_check` is called

@@ -77,20 +77,23 @@ config-ranges c h =
 
 module _ (p : VbvParams) (between anchors : ℕ) (h : TargetsFit p between anchors) where
   -- no product passes 64 bits
-  pub pictures-most : anchors * (between + 1) ≤ 4080
-  pictures-most = mul-le-mul {n₂ = 255} {m₂ = 16} (omega arith) (omega arith)
+  pub pictures-low : groupPictures between anchors ≤ 4081
+  unfolding groupPictures
+  pictures-low = omega (arith, mul-le-mul {n₁ = anchors} {m₁ = between + 1} {n₂ = 255} {m₂ = 16} (omega arith) (omega arith))
 
-  pub share-most : p .«bit_rate» * p .frd ≤ 3358785830400
-  share-most = mul-le-mul {n₂ = 104857200} {m₂ = 32032} (omega arith) (omega arith)
+  pub share-low : p .«bit_rate» * p .frd ≤ 3358785830400
+  share-low = mul-le-mul {n₂ = 104857200} {m₂ = 32032} (omega arith) (omega arith)
 
-  pub gop-most : p .«bit_rate» * p .frd / p .frn * (1 + anchors * (between + 1)) ≤ 13707204973862400
-  gop-most =
+  pub group-bits-low : groupBits p between anchors ≤ 13707204973862400
+  unfolding groupBits
+  group-bits-low =
       mul-le-mul {n₂ = 3358785830400} {m₂ = 4081}
-      (omega (arith, share-most, div-le-self (p .«bit_rate» * p .frd) (p .frn)))
-      (omega (arith, pictures-most))
+      (omega (arith, share-low, div-le-self (p .«bit_rate» * p .frd) (p .frn)))
+      pictures-low
 
-  pub between-most : anchors * between ≤ 3825
-  between-most = mul-le-mul {n₂ = 255} {m₂ = 15} (omega arith) (omega arith)
+  pub weight-low : groupWeight between anchors ≤ 38545
+  unfolding groupWeight
+  weight-low = omega (arith, mul-le-mul {n₁ = anchors} {m₁ = between} {n₂ = 255} {m₂ = 15} (omega arith) (omega arith))
 
   -- the weights of a group are at least its pictures
   target-low : (weight : ℕ) → weight ≤ 40 → target p between anchors weight ≤ farthest
@@ -100,7 +103,7 @@ module _ (p : VbvParams) (between anchors : ℕ) (h : TargetsFit p between ancho
       let pictures = 1 + anchors * (between + 1) in
       let all = 40 + 16 * anchors + 9 * (anchors * between) in
       let b : share ≤ p .«bit_rate» * p .frd = div-le-self (p .«bit_rate» * p .frd) (p .frn) in
-      let c : share * weight ≤ 3358785830400 * 40 = mul-le-mul {n₁ = share} {m₁ = weight} {n₂ = 3358785830400} {m₂ = 40} (omega (arith, share-most)) w in
+      let c : share * weight ≤ 3358785830400 * 40 = mul-le-mul {n₁ = share} {m₁ = weight} {n₂ = 3358785830400} {m₂ = 40} (omega (arith, share-low)) w in
       let f : share * weight * pictures ≤ farthest * all = mul-le-mul {n₁ = share * weight} {m₁ = pictures} {n₂ = farthest} {m₂ = all} (omega arith) (omega arith) in
       let g = div-lt-iff-lt-mul {k = all} {x = share * pictures * weight} {y = farthest + 1} (omega arith) .1 (omega arith) in
       omega arith

@@ -93,9 +93,9 @@ module _ (w : CbrWriter) (o : Offer) (g : Placing w o) where
   pub params-fitted : paramsFit (w .model .params) ≡ true
   params-fitted = fits-params (w .model) (writer-fits (g .fitted) .model-fits)
 
-  pub delay-told : delay w o ≤ 65534
+  pub delay-low : delay w o ≤ 65534
   unfolding delay position
-  delay-told = delay-most (w .model .params) params-fitted (w .model .«prev_end_bits») (position w o) (deliveredAt w o) (g .no-overflow) (omega arith)
+  delay-low = delay-most (w .model .params) params-fitted (w .model .«prev_end_bits») (position w o) (deliveredAt w o) (g .no-overflow) (omega arith)
 
   pub first-told : w .model .started ≡ false → delay w o ≡ firstDelay (w .model .params)
   unfolding delay

@@ -20,7 +20,7 @@ use Rattle.rate_control.specs.Sent.{positionOf, contentOf, Stuffs, Sent,
 use Rattle.rate_control.specs.declared.Pending.the-variants.{Nothing}
 use Rattle.rate_control.specs.declared.CbrWriter.{CbrWriter}
 use Rattle.rate_control.proofs.Chain.{Placing, Outcome, stays, closes, retries, hands-out, outcome}
-use Rattle.rate_control.proofs.Placing.{delivered-later, end-is, stuffing-last, stuffing-least, params-fitted, delay-told, delivered-told}
+use Rattle.rate_control.proofs.Placing.{delivered-later, end-is, stuffing-last, stuffing-least, params-fitted, delay-low, delivered-told}
 use Rattle.rate_control.proofs.Creation.{Fresh}
 use Rattle.rate_control.proofs.Invariant.{Inv, call-inv, withdraw-is}
 
@@ -69,7 +69,7 @@ module _ (n : ℕ) (w : CbrWriter) (o : Offer) (k : w .model .«prev_end_bits» 
       let p = w .model .params in
       record {
         in-buffer = record { no-overflow = over-units p _ _ (g .no-overflow); no-underflow = rw end-same (beyond-units p _ _ (g .no-underflow)) };
-        as-placed = record { bytes-are = refl; delay-exact = rw position-same; delay-told = delay-told w o g };
+        as-placed = record { bytes-are = refl; delay-exact = rw position-same; delay-told = delay-low w o g };
         least = stuffs-same g;
         in-time = rw position-same (g .in-time);
         begins = k;

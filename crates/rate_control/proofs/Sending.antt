@@ -28,7 +28,7 @@ use Rattle.rate_control.specs.Demand.{AllBytes}
 use Rattle.rate_control.specs.declared.CbrWriter.{CbrWriter}
 use Rattle.rate_control.proofs.Storage.{end-code-last, end-code-none}
 use Rattle.rate_control.proofs.Chain.{Placing, Outcome, stays, closes, retries, hands-out, outcome}
-use Rattle.rate_control.proofs.Placing.{delay-told}
+use Rattle.rate_control.proofs.Placing.{delay-low}
 use Rattle.rate_control.proofs.Invariant.{Inv, outcome-inv, call-inv, withdraw-is}
 use Rattle.rate_control.proofs.Removing.{sentOf, finished-none}
 
@@ -128,7 +128,7 @@ place-fit {w} {o} g b = record {
   headers-fit = g .headers-fit;
   layer-fits = g .layer-fits;
   layer-bytes = b;
-  delay-bits = omega (arith, delay-told w o g);
+  delay-bits = omega (arith, delay-low w o g);
 }
 
 same-sending : {p q : VbvParams} {a c : Bool} {n : ℕ} {xs : List Sent} → p ≡ q → a ≡ c → Sending p a n xs → Sending q c n xs

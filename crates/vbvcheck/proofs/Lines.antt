@@ -8,7 +8,7 @@ use lib.ListN.{length, take, drop}
 use lib.Seq.{drop-drop, drop-at}
 use Rattle.words.specs.Words.{wordsBytes, wordAt}
 use Rattle.words.proofs.Bytes.{AllSmall as EachSmall, none as no-word, some as word, length-words, word-put}
-use Rattle.verify.specs.Layout.{recordsBytes}
+use Rattle.verify.specs.Layout.{recordSize, recordsBytes}
 use Rattle.verify.specs.declared.VbvPictureRecord.{VbvPictureRecord}
 use Rattle.verify.proofs.Storing.{records-more}
 use Rattle.bits.proofs.Reading.{rest-is}
@@ -22,15 +22,15 @@ pub line-read : (s : List ℕ) (i : ℕ) {a b d e : ℕ} → a ≡ wordAt (take 
 unfolding lineOf
 line-read s i a b d e = rw (a, b, d, e, rest-is s i)
 
-pub lines-step : (n k : ℕ) (s p : List ℕ) {q : List ℕ} → k < n → q ≡ p ++ lineOf (drop (32 * k) s)
-    → q ++ linesOf (n - (k + 1)) (drop (32 * (k + 1)) s) ≡ p ++ linesOf (n - k) (drop (32 * k) s)
+pub lines-step : (n k : ℕ) (s p : List ℕ) {q : List ℕ} → k < n → q ≡ p ++ lineOf (drop (recordSize * k) s)
+    → q ++ linesOf (n - (k + 1)) (drop (recordSize * (k + 1)) s) ≡ p ++ linesOf (n - k) (drop (recordSize * k) s)
 unfolding linesOf
 lines-step n k s p h e =
     let a : n - k ≡ suc (n - (k + 1)) = omega arith in
-    let b : 32 * k + 32 ≡ 32 * (k + 1) = omega arith in
-    rw (e, a, drop-drop 32 (32 * k) s, b, append-assoc)
+    let b : recordSize * k + recordSize ≡ recordSize * (k + 1) = omega arith in
+    rw (e, a, drop-drop recordSize (recordSize * k) s, b, append-assoc)
 
-pub lines-end : (n k : ℕ) (s p : List ℕ) → n ≤ k → p ++ linesOf (n - k) (drop (32 * k) s) ≡ p
+pub lines-end : (n k : ℕ) (s p : List ℕ) → n ≤ k → p ++ linesOf (n - k) (drop (recordSize * k) s) ≡ p
 unfolding linesOf
 lines-end n k s p h = let a : n - k ≡ 0 = omega arith in rw (a, append-nil)
 
@@ -52,6 +52,6 @@ lines-are (r ∷ rs) rest (some q t) =
       word-put small more 1 (omega arith),
       word-put small more 2 (omega arith),
       word-put small more 3 (omega arith),
-      drop-at (wordsBytes ws) more 32 (length-words ws),
+      drop-at (wordsBytes ws) more recordSize (length-words ws),
       lines-are rs rest t,
     )

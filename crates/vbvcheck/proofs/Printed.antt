@@ -12,7 +12,7 @@ use Rattle.bits.specs.Answers.{over}
 use Rattle.bits.specs.Refusals.{Answer, value, refused}
 use Rattle.verify.specs.Answers.{refusal, refusalOf, verifiedAnswer}
 use Rattle.verify.specs.Check.{Accepted, verdict, reportOf, reported, records}
-use Rattle.verify.specs.Layout.{recordsBytes}
+use Rattle.verify.specs.Layout.{recordSize, recordsBytes}
 use Rattle.pictures.specs.declared.VbvStandard.the-variants.{Mpeg2}
 use Rattle.verify.specs.declared.VbvVerified.{VbvVerified}
 use Rattle.verify.specs.declared.VbvVerified.the-variants.{Report, Refused}
@@ -35,7 +35,7 @@ too-long s h = rw (lt-leb (length s) 65536 h)
 
 -- the records' part is as long as before, so the records fit it
 pub pictures-fit : (s : List ℕ) (places : ℕ) (r : VbvVerified) (x : VbvStreamReport) (old new : List ℕ) → r ≡ Report x
-    → verifiedAnswer r ≡ reported (verdict Mpeg2 s places) → new ≡ over (recordsBytes (records (verdict Mpeg2 s places))) old → 32 * x .pictures ≤ length new
+    → verifiedAnswer r ≡ reported (verdict Mpeg2 s places) → new ≡ over (recordsBytes (records (verdict Mpeg2 s places))) old → recordSize * x .pictures ≤ length new
 pictures-fit s places r x old new q h w =
     let v = verdict Mpeg2 s places in
     rw (w, over-is (recordsBytes (records v)) old, length-append (recordsBytes (records v)) (drop (length (recordsBytes (records v))) old))

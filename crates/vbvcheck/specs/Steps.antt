@@ -4,6 +4,7 @@ use Prim.Native.Nat.{ℕ, zero, suc}
 use mathlib.Core.List.{List, [], _∷_, _++_}
 use lib.ListN.{drop}
 use Rattle.words.specs.Words.{wordAt}
+use Rattle.verify.specs.Layout.{recordSize}
 use Rattle.vbvcheck.specs.Text.{line}
 
 -- the first four words, as a line
@@ -13,4 +14,4 @@ lineOf s = line (wordAt s 0 ∷ wordAt s 1 ∷ wordAt s 2 ∷ wordAt s 3 ∷ [])
 -- the lines of the first n places
 unfoldable pub linesOf : ℕ → List ℕ → List ℕ
 linesOf zero s = []
-linesOf (suc n) s = lineOf s ++ linesOf n (drop 32 s)
+linesOf (suc n) s = lineOf s ++ linesOf n (drop recordSize s)

@@ -4,9 +4,11 @@ ghost use Prim.Native.Nat.{_+_, _*_, _≤_};
 ghost use mathlib.Core.List.{[], _∷_, _++_};
 ghost use lib.ListN.{length, take, drop};
 ghost use Rattle.io.specs.Counts.{Counts};
+ghost use Rattle.verify.specs.Layout.{recordSize};
 ghost use Rattle.vbvcheck.specs.Text.{ascii, decimal, line, reportText, refusalText, printed};
 ghost use Rattle.vbvcheck.specs.Steps.{lineOf, linesOf};
 use bits::VbvRefusal;
+use verify::RECORD_BYTES;
 use verify::VbvStandard;
 use verify::VbvStreamReport;
 use verify::VbvVerified;
@@ -58,11 +60,11 @@ fn put_line(out: &mut [u8], at: usize, numbers: &[u64]) -> usize
 // The record at place k, as a line.
 fn put_record(out: &mut [u8], at: usize, records: &[u8], k: usize) -> usize
     requires { ⌜ at + 84 ≤ length (now out) ⌝ }
-    requires { ⌜ 32 * (k + 1) ≤ length (now records) ⌝ }
+    requires { ⌜ recordSize * (k + 1) ≤ length (now records) ⌝ }
     ensures { λ r. ⌜ r ≤ at + 84 ⌝ }
-    ensures { λ r. ⌜ take r (now (out .exit)) ≡ take at (now (out .entry)) ++ lineOf (drop (32 * k) (now (records .entry))) ⌝ }
+    ensures { λ r. ⌜ take r (now (out .exit)) ≡ take at (now (out .entry)) ++ lineOf (drop (recordSize * k) (now (records .entry))) ⌝ }
 {
-    let from = 32 * k;
+    let from = RECORD_BYTES * k;
     let record = &records[from..];
     let numbers = [
         word_at(record, 0),
@@ -76,7 +78,7 @@ fn put_record(out: &mut [u8], at: usize, records: &[u8], k: usize) -> usize
 // The records of the first n places, a line each.
 fn put_records(out: &mut [u8], at: usize, records: &[u8], n: usize) -> usize
     requires { ⌜ at + 84 * n ≤ length (now out) ⌝ }
-    requires { ⌜ 32 * n ≤ length (now records) ⌝ }
+    requires { ⌜ recordSize * n ≤ length (now records) ⌝ }
     ensures { λ r. ⌜ r ≤ at + 84 * n ⌝ }
     ensures { λ r. ⌜ take r (now (out .exit)) ≡ take at (now (out .entry)) ++ linesOf n (now (records .entry)) ⌝ }
 {
@@ -127,7 +129,7 @@ fn put_refusal(out: &mut [u8], r: VbvRefusal) -> usize
 // A report and the lines of its records.
 fn put_accepted(out: &mut [u8], r: VbvStreamReport, records: &[u8]) -> usize
     requires { ⌜ 90000 ≤ length (now out) ⌝ }
-    requires { ⌜ 32 * r .pictures ≤ length (now records) ⌝ }
+    requires { ⌜ recordSize * r .pictures ≤ length (now records) ⌝ }
     requires { ⌜ r .pictures ≤ 1024 ⌝ }
     ensures { λ n. ⌜ n ≤ length (now (out .exit)) ⌝ }
     ensures { λ n. ⌜ take n (now (out .exit)) ≡ reportText r ++ (ascii "delay expected data_bits occupancy_before\n" ++ linesOf (r .pictures) (now (records .entry))) ⌝ }

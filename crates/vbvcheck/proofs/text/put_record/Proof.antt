@@ -1,6 +1,7 @@
 use mathlib.Core.Path.{_∙_}
 use Prim.Native.Nat.{_*_}
 use native.Mathlib.Omega.{arith}
+use Rattle.verify.specs.Layout.{recordSize}
 use Rattle.vbvcheck.proofs.Lines.{line-read}
 use borrow.Author.Needs.{needs}
 use Rattle.vbvcheck.proofs.text.put_record.Statement.{statement}
@@ -44,7 +45,7 @@ returns c =
     let l = c .before .before .put-line .ensures in
     let w = c .before .before .before .before .before in
     let a = c .before .before .before .before .before .before .before .before .before .before .before .before .args in
-    let e = line-read (a .records .now) (32 * a .k) (w .before .before .before .word-at .ensures) (w .before .before .word-at2 .ensures) (w .before .word-at3 .ensures) (w .word-at4 .ensures) in
+    let e = line-read (a .records .now) (recordSize * a .k) (w .before .before .before .word-at .ensures) (w .before .before .word-at2 .ensures) (w .before .word-at3 .ensures) (w .word-at4 .ensures) in
     (omega (arith, l .0), l .1 ∙ rw e)
 
 pub put-record-spec : {M : Type 1} → statement M

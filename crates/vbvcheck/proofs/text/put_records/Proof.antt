@@ -5,6 +5,7 @@ use native.Mathlib.Omega.{arith}
 use native.Mathlib.Nat.{sub-zero}
 use lib.ListN.{length, take, drop}
 use borrow.Author.Needs.{needs}
+use Rattle.verify.specs.Layout.{recordSize}
 use Rattle.vbvcheck.specs.Steps.{linesOf}
 use Rattle.vbvcheck.proofs.Lines.{lines-step, lines-end}
 use Rattle.vbvcheck.proofs.text.put_records.Statement.{statement}
@@ -12,7 +13,7 @@ use Rattle.vbvcheck.proofs.text.put_records.Tie as tie
 
 abbrev Inv-loop : tie.InvT-loop
 Inv-loop out₀ at records n next₀ k₀ out next k =
-    (take next out ++ linesOf (n - k) (drop (32 * k) records) ≡ take at out₀ ++ linesOf n records)
+    (take next out ++ linesOf (n - k) (drop (recordSize * k) records) ≡ take at out₀ ++ linesOf n records)
     × (length out ≡ length out₀)
     × (next ≤ at + 84 * k)
     × (k ≤ n)
