@@ -19,11 +19,11 @@ use Rattle.pictures.specs.declared.VbvStandard.{VbvStandard}
 use Rattle.pictures.specs.declared.PictureFacts.{PictureFacts}
 use Rattle.pictures.specs.declared.SeenPicture.{SeenPicture}
 use Rattle.pictures.specs.declared.NextSeen.{NextSeen}
-use Rattle.pictures.specs.Answers.{nextAnswer}
+use Rattle.pictures.specs.Answers.{seenAnswer}
 
 -- the case, by what is told of it
-pub next-case : {r x : NextSeen} {a : Answer Sight} → r ≡ x → nextAnswer r ≡ a → a ≡ nextAnswer x
-next-case e f = sym f ∙ ap nextAnswer e
+pub next-case : {r x : NextSeen} {a : Answer Sight} → r ≡ x → seenAnswer r ≡ a → a ≡ seenAnswer x
+next-case e f = sym f ∙ ap seenAnswer e
 
 -- ---- a list of places
 

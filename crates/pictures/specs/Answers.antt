@@ -26,7 +26,7 @@ abbrev pub declaredAnswer : Declared → Answer VbvParams
 declaredAnswer (dc.Params p) = value p
 declaredAnswer (dc.Refused e) = unread e
 
-abbrev pub nextAnswer : NextSeen → Answer Sight
-nextAnswer (nx.Picture x next) = value (one x next)
-nextAnswer nx.Done = value nothing
-nextAnswer (nx.Refused e) = unread e
+abbrev pub seenAnswer : NextSeen → Answer Sight
+seenAnswer (nx.Picture x next) = value (one x next)
+seenAnswer nx.Done = value nothing
+seenAnswer (nx.Refused e) = unread e

@@ -3,7 +3,7 @@ ghost use mathlib.Core.Path.{_≡_};
 ghost use Prim.Native.Nat.{_+_, _*_, _≤_};
 ghost use lib.ListN.{length};
 ghost use Rattle.vbv.specs.Model.{farthest};
-ghost use Rattle.pictures.specs.Answers.{nextAnswer};
+ghost use Rattle.pictures.specs.Answers.{seenAnswer};
 ghost use Rattle.pictures.specs.Seen.{isAnchor, isField, intervalOf, factsBy, shown, seenOf, nextSeen};
 ghost use Rattle.pictures.specs.Steps.{shownAnswer};
 use crate::NextSeen;
@@ -117,7 +117,7 @@ fn seen_picture(at: usize, end: usize, vbv_delay: u16, facts: PictureFacts) -> S
 
 // The first picture that begins at a code which a scan from `from` finds, as its headers show it.
 pub fn next_seen(stream: &[u8], standard: VbvStandard, from: usize) -> NextSeen
-    ensures { λ r. ⌜ nextAnswer r ≡ nextSeen standard (now (stream .entry)) from ⌝ }
+    ensures { λ r. ⌜ seenAnswer r ≡ nextSeen standard (now (stream .entry)) from ⌝ }
 {
     if FARTHEST / 8 < stream.len() as u64 {
         return NextSeen::Refused(Unread::Model(VbvError::Range));
