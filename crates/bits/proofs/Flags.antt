@@ -1,7 +1,7 @@
 -- What `&&`, `||` and a choice by a test say of their parts.
 -- Assumes nothing.
 use mathlib.Core.Path.{_≡_, refl}
-use mathlib.Core.Bool.{Bool, true, false, _&&_, _||_}
+use mathlib.Core.Bool.{Bool, true, false, _&&_, _||_, true≢false}
 use Rattle.bits.specs.Bits.{pick}
 
 pub and-left : (a b : Bool) → (a && b) ≡ true → a ≡ true
@@ -19,6 +19,13 @@ or-left false b e = refl
 pub or-right : (a b : Bool) → (a || b) ≡ false → b ≡ false
 or-right true b e = cc
 or-right false b e = e
+
+pub or-no : (a b : Bool) → a ≡ false → b ≡ false → (a || b) ≡ false
+or-no a b f h = rw (f, h)
+
+pub or-other : (a b : Bool) → (a || b) ≡ true → a ≡ false → b ≡ true
+or-other true b h e = absurd (true≢false e)
+or-other false b h e = h
 
 -- a test is the one, where it is not the other
 pub is-true : (b : Bool) → (b ≡ false → ⊥) → b ≡ true
