@@ -14,15 +14,12 @@ use Rattle.bits.specs.Bits.{pick, bitsAt, there}
 use Rattle.bits.specs.Refusals.{Answer, value, refused, andThen, number}
 use Rattle.bits.specs.Fields.{Field, field, any, obeys, readFields, sameBytes, readHeader, total}
 use Rattle.bits.specs.Answers.{readBits, bitsAnswer, greatest, tableOf, places, placed, outcomeAnswer, fieldsAnswer}
-use Rattle.bits.proofs.Flags.{and-left, and-right, pick-elim}
+use Rattle.bits.proofs.Flags.{and-left, and-right, pick-elim, clash, both-true}
 use Rattle.bits.proofs.Laws.{bits-bound, bits-append, bits-drop}
 use Rattle.bits.specs.declared.Bits.{Bits}
 use Rattle.bits.specs.declared.Fields.{Fields}
 use Rattle.bits.specs.declared.Outcome.{Outcome}
 use Rattle.bits.specs.declared.Outcome.the-variants.{Done, Short, Bad}
-
-pub both-true : (a b : Bool) → a && b ≡ true → (a ≡ true) × (b ≡ true)
-both-true a b e = (and-left a b e, and-right a b e)
 
 -- bits are there
 module _ (s : List ℕ) (i n : ℕ) where
@@ -201,7 +198,7 @@ fields-seen (f ∷ fs) s i =
 
 -- no rule is broken where there is none
 pub never-bad : (n w : ℕ) (s : List ℕ) (i : ℕ) → readFields (replicate n (any w)) s i ≡ refused 2 0 0 0 → ⊥
-never-bad zero w s i e = let z : _≡_ {A = ℕ} 0 1 = cc (read-none s i) in omega arith
+never-bad zero w s i e = clash (cc (read-none s i))
 never-bad (suc n) w s i e = case (bits-seen s i w) refl (fields-seen (replicate n (any w)) s (i + w)) refl (never-bad n w s (i + w))
   where
     case : {b : Answer ℕ} → Bit s i w b → b ≡ readBits s i w → {p : Answer (List ℕ)} → Seen p → readFields (replicate n (any w)) s (i + w) ≡ p
@@ -269,7 +266,7 @@ InRange fs vs = (k : ℕ) → (getD fs k (field 0 0 0) .low ≤ getD vs k 0) × 
 pub read-range : (fs : List Field) (s : List ℕ) (i : ℕ) (vs : List ℕ) → readFields fs s i ≡ value vs → InRange fs vs
 unfolding readFields
 read-range [] s i [] e k = (zero-le, zero-le)
-read-range [] s i (v ∷ vs) e k = let z : _≡_ {A = ℕ} 0 1 = cc in omega arith
+read-range [] s i (v ∷ vs) e k = absurd (clash cc)
 read-range (f ∷ fs) s i vs e zero =
     let t = step f fs s i vs e in
     rw (t .all) (obeys-true f (bitsAt s i (f .width)) (t .obeyed))
@@ -431,7 +428,7 @@ header-got code fs s vs e = case (ltb (length s) 4) (sameBytes (take 4 s) code) 
         → pick b (refused 1 0 0 0) (pick (not o) (refused 2 0 0 0) (readFields fs s 32)) ≡ value vs → HeaderRead code fs s vs
     case false true l t q = record { long = ltb-false _ _ l; code-first = same-bytes (take 4 s) code t; fields-read = q }
     case false false l t q = record { long = ltb-false _ _ l; code-first = cc; fields-read = cc }
-    case true o l t q = record { long = let z : _≡_ {A = ℕ} 0 1 = cc in omega arith; code-first = cc; fields-read = cc }
+    case true o l t q = record { long = absurd (clash cc); code-first = cc; fields-read = cc }
 
 pub header-of : {code : List ℕ} {fs : List Field} {s vs : List ℕ} → HeaderRead code fs s vs → readHeader code fs s ≡ value vs
 header-of {code} {fs} {s} {vs} r = header-more code fs s (r .long) (rw (r .code-first) (same-self code)) ∙ r .fields-read

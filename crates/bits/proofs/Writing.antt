@@ -20,6 +20,7 @@ use Rattle.bits.proofs.Reading.{there-is, there-true, obeys-is, obeys-t
 use Rattle.bits.proofs.Appending.{Below, lt-or-le, digits-bits, below-append, below-front, below-drop, length-pack, pack-bit, pack-take, pack-bytes, append-zero}
 use Rattle.bits.proofs.Checking.{Fits, fits-none, fits-more, fits-of, fits-all, fits-length}
 use Rattle.bits.proofs.Putting.{field-bits-bound, length-field-bits}
+use Rattle.bits.proofs.Flags.{clash}
 
 -- how long the bytes are
 pub length-fields : (fs : List Field) (vs : List ℕ) → length vs ≡ length fs → length (writeFields fs vs) ≡ (total fs + 7) / 8
@@ -182,7 +183,7 @@ write-read fs s vs b e z =
 read-fit : (fs : List Field) (s : List ℕ) (i : ℕ) (vs : List ℕ) → readFields fs s i ≡ value vs → Fits fs vs
 unfolding readFields
 read-fit [] s i [] e = fits-none
-read-fit [] s i (v ∷ vs) e = let z : _≡_ {A = ℕ} 0 1 = cc in absurd (omega arith)
+read-fit [] s i (v ∷ vs) e = absurd (clash cc)
 read-fit (f ∷ fs) s i vs e =
     let w = f .width in
     let t = step f fs s i vs e in

@@ -9,7 +9,8 @@ use lib.ListN.{getD}
 use Rattle.bits.specs.Refusals.{Answer, value, refused, orElse}
 use Rattle.bits.specs.Fields.{readHeader}
 use Rattle.bits.specs.StartCodes.{startCode, sequenceHeaderCode}
-use Rattle.bits.proofs.Reading.{both-true, Seen, whole, then-seen, header-seen as table-seen, read-range, header-got, header-append}
+use Rattle.bits.proofs.Flags.{both-true}
+use Rattle.bits.proofs.Reading.{Seen, whole, then-seen, header-seen as table-seen, read-range, header-got, header-append}
 use Rattle.bits.proofs.Following.{then-value, then-stays, short-cut}
 use Rattle.headers.specs.Answers.{flagOf, refusal, headerAnswer}
 use Rattle.headers.specs.Steps.{matrixAt, matrixAnswer}

@@ -14,7 +14,7 @@ use Rattle.bits.specs.Bits.{pick}
 use Rattle.bits.specs.Refusals.{Answer, value, refused}
 use Rattle.bits.specs.Fields.{sameBytes}
 use Rattle.bits.specs.StartCodes.{startCodePrefix}
-use Rattle.bits.proofs.Flags.{pick-elim}
+use Rattle.bits.proofs.Flags.{pick-elim, clash}
 use Rattle.bits.proofs.Reading.{Seen, broken, whole, same-bytes, same-self, rest-is}
 use Rattle.headers.specs.StartCode.{zeros, prefixAt, nextStartCode}
 use Rattle.headers.specs.Answers.{nextAnswer}
@@ -70,9 +70,9 @@ prefix-true s p e =
     record { room = long (drop p s) q (length-drop p s); is = q }
   where
     long : (d : List ℕ) → take 3 d ≡ startCodePrefix → length d ≡ length s - p → p + 3 ≤ length s
-    long [] q l = let z : _≡_ {A = ℕ} 0 1 = cc in omega arith
-    long (a ∷ []) q l = let z : _≡_ {A = ℕ} 0 1 = cc in omega arith
-    long (a ∷ b ∷ []) q l = let z : _≡_ {A = ℕ} 0 1 = cc in omega arith
+    long [] q l = absurd (clash cc)
+    long (a ∷ []) q l = absurd (clash cc)
+    long (a ∷ b ∷ []) q l = absurd (clash cc)
     long (a ∷ b ∷ c ∷ d) q l = omega arith
 
 pub prefix-none : (s : List ℕ) (p : ℕ) → length s < p + 3 → prefixAt s p ≡ false
@@ -85,9 +85,9 @@ prefix-none s p h = case (prefixAt s p) refl
 -- a prefix at byte 0 has two zeros to pass over, so that none ends before byte 2
 first-zeros : (s : List ℕ) (k : ℕ) → take 3 s ≡ startCodePrefix → 2 ≤ k + zeros (drop k s)
 unfolding zeros
-first-zeros [] k q = let z : _≡_ {A = ℕ} 0 1 = cc in omega arith
+first-zeros [] k q = absurd (clash cc)
 first-zeros (suc a ∷ s) k q = let z : suc a ≡ 0 = cc in omega arith
-first-zeros (zero ∷ []) k q = let z : _≡_ {A = ℕ} 0 1 = cc in omega arith
+first-zeros (zero ∷ []) k q = absurd (clash cc)
 first-zeros (zero ∷ suc b ∷ s) k q = let z : suc b ≡ 0 = cc in omega arith
 first-zeros (zero ∷ zero ∷ s) zero q = omega arith
 first-zeros (zero ∷ zero ∷ s) (suc zero) q = omega arith
@@ -143,7 +143,7 @@ next-found s k p e = case (prefixAt s (k + zeros (drop k s) - 2)) refl e
         let x : p ≡ k + zeros (drop k s) - 2 = cc in
         let r = prefix-true s p (rw x t) in
         record { prefix = r; ends = late p x r }
-    case false t q = let z : _≡_ {A = ℕ} 0 1 = cc in absurd (omega arith)
+    case false t q = absurd (clash cc)
 
 -- it is the same in a list with the same bytes from k on and from it on
 pub next-same : (s t : List ℕ) (k p : ℕ) → drop k t ≡ drop k s → drop p t ≡ drop p s → nextStartCode s k ≡ value p → nextStartCode t k ≡ value p

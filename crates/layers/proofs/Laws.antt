@@ -13,8 +13,8 @@ use lib.ListN.{length, take, drop, take-append-drop}
 use lib.Seq.{take-take}
 use borrow.Author.Tests.{not-true, eqb-true, ne-eqb}
 use Rattle.bits.specs.Bits.{bitsAt}
-use Rattle.bits.proofs.Flags.{and-left}
-use Rattle.bits.proofs.Reading.{both-true, same-self}
+use Rattle.bits.proofs.Flags.{and-left, both-true}
+use Rattle.bits.proofs.Reading.{same-self}
 use Rattle.bits.proofs.Appending.{Below}
 use Rattle.headers.specs.StartCode.{zeros}
 use Rattle.picture_header.specs.Picture.{picture}

@@ -13,7 +13,7 @@ use borrow.Author.Tests.{not-true, leb-true, eqb-true}
 use Rattle.bits.specs.Bits.{bitsAt}
 use Rattle.bits.specs.Refusals.{Answer, value, refused, andThen, orElse}
 use Rattle.bits.proofs.Laws.{bits-bound, bits-split}
-use Rattle.bits.proofs.Reading.{both-true}
+use Rattle.bits.proofs.Flags.{both-true}
 use Rattle.bits.proofs.Appending.{Below}
 use Rattle.bits.proofs.Patching.{byte-bits}
 use Rattle.headers.specs.StartCode.{zeros}

@@ -20,6 +20,7 @@ use Rattle.picture_header.specs.PictureHeader.{extra, extraAt}
 use Rattle.picture_header.specs.Answers.{extraAnswer}
 use Rattle.picture_header.specs.declared.ExtraRead.{ExtraRead}
 use Rattle.bits.proofs.Following.{Stays, then-stays}
+use Rattle.bits.proofs.Flags.{clash}
 
 -- the case, by what is told of it
 pub extra-case : {r x : ExtraRead} {a : Answer ℕ} → r ≡ x → extraAnswer r ≡ a → extraAnswer x ≡ a
@@ -123,7 +124,7 @@ module _ (s : List ℕ) (f n : ℕ) (h : n < length s) where
       case true q = leb-true _ _ q
       case false q =
           let t = there-is s (f + 9 * n) 1 (lit≤ tt) (omega (arith, leb-false (8 * length s) (f + 9 * n) q)) in
-          let z : _≡_ {A = ℕ} 0 1 = cc gone in omega arith
+          clash (cc gone)
 
 -- what it finds
 extra-found : (k : ℕ) (bs : List ℕ) → Seen (extra k bs)
@@ -139,14 +140,14 @@ extra-seen s f = extra-found 0 (drop f (bitList s))
 -- an extra information that ends, ends within the bits
 extra-within : (k : ℕ) (bs : List ℕ) (n : ℕ) → extra k bs ≡ value n → k + 9 * n + 1 ≤ length bs
 unfolding extra
-extra-within k [] n e = let z : _≡_ {A = ℕ} 0 1 = cc in omega arith
+extra-within k [] n e = absurd (clash cc)
 extra-within (suc k) (b ∷ bs) n e = omega (arith, extra-within k bs n e)
 extra-within zero (zero ∷ bs) n e = let z : 0 ≡ n = cc in omega arith
 extra-within zero (suc b ∷ bs) n e = case (extra 8 bs) refl e (λ m. extra-within 8 bs m)
   where
     case : (x : Answer ℕ) → extra 8 bs ≡ x → oneMore x ≡ value n → ((m : ℕ) → extra 8 bs ≡ value m → 8 + 9 * m + 1 ≤ length bs)
         → 0 + 9 * n + 1 ≤ suc (length bs)
-    case (refused a b c d) q y rec = let z : _≡_ {A = ℕ} 0 1 = cc in omega arith
+    case (refused a b c d) q y rec = absurd (clash cc)
     case (value m) q y rec = let z : suc m ≡ n = cc in omega (arith, rec m q)
 
 pub extra-inside : (s : List ℕ) (f n : ℕ) → extraAt s f ≡ value n → f + 9 * n + 1 ≤ 8 * length s

@@ -17,6 +17,7 @@ use Rattle.bits.specs.StartCodes.{startCode, pictureStartCode}
 use Rattle.bits.proofs.Laws.{bits-bound, bit-list-at}
 use Rattle.bits.proofs.Reading.{step, there-is, obeys-is, read-none, read-more, header-got, header-of}
 use Rattle.bits.proofs.Same.{bits-one, read-same, bit-list-same}
+use Rattle.bits.proofs.Flags.{clash}
 use Rattle.headers.specs.StartCode.{zeros}
 use Rattle.picture_header.specs.PictureHeader.{pictureFields, forward, backward, vectorFields, motionFields, codingType, codeIf, extra, extraAt, extraBit, pictureOf, behindDelay, pictureHeader, pictureHeaderBits, pictureHeaderBytes}
 use Rattle.picture_header.specs.Picture.{picture}
@@ -141,7 +142,7 @@ unfolding codingType forward pick
 forward-type t k = case (eqb t 1) (eqb t 2) (eqb t 3) refl refl refl k
   where
     never : {A : Type 0} → {k : PictureCodingType} → k ≡ Intra → (k ≡ Predictive) ⊎ (k ≡ Bidirectional) → A
-    never q u = absurd (⊎-elim (λ v. let z : _≡_ {A = ℕ} 0 1 = cc in omega arith) (λ v. let z : _≡_ {A = ℕ} 0 1 = cc in omega arith) u)
+    never q u = absurd (⊎-elim (λ v. clash cc) (λ v. clash cc) u)
 
     case : (a b d : Bool) → eqb t 1 ≡ a → eqb t 2 ≡ b → eqb t 3 ≡ d
         → (pick a Intra (pick b Predictive (pick d Bidirectional DcIntra)) ≡ Predictive) ⊎ (pick a Intra (pick b Predictive (pick d Bidirectional DcIntra)) ≡ Bidirectional)
@@ -149,12 +150,12 @@ forward-type t k = case (eqb t 1) (eqb t 2) (eqb t 3) refl refl refl k
     case true b d x y z u = never refl u
     case false true d x y z u = refl
     case false false true x y z u = refl
-    case false false false x y z u = absurd (⊎-elim (λ v. let z : _≡_ {A = ℕ} 0 1 = cc in omega arith) (λ v. let z : _≡_ {A = ℕ} 0 1 = cc in omega arith) u)
+    case false false false x y z u = absurd (⊎-elim (λ v. clash cc) (λ v. clash cc) u)
 
 -- a flag that extra information follows is set
 flag-set : (bs : List ℕ) (n : ℕ) → extra 0 bs ≡ value n → 1 ≤ n → 1 ≤ getD bs 0 0
 unfolding extra
-flag-set [] n e l = absurd (let z : _≡_ {A = ℕ} 0 1 = cc in omega arith)
+flag-set [] n e l = absurd (clash cc)
 flag-set (zero ∷ bs) n e l = absurd (let z : 0 ≡ n = cc in omega arith)
 flag-set (suc b ∷ bs) n e l = omega arith
 

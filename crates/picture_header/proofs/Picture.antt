@@ -11,7 +11,7 @@ use lib.Seq.{getD-drop, drop-append-le}
 use Rattle.bits.specs.Bits.{pick}
 use Rattle.bits.specs.Refusals.{Answer, value, refused, andThen}
 use Rattle.bits.specs.StartCodes.{startCode, extensionStartCode}
-use Rattle.bits.proofs.Flags.{pick-elim}
+use Rattle.bits.proofs.Flags.{pick-elim, clash}
 use Rattle.bits.proofs.Reading.{Seen, broken, whole, then-seen, rest-is}
 use Rattle.headers.specs.StartCode.{nextStartCode}
 use Rattle.picture_header.specs.Answers.{pictureAnswer}
@@ -45,7 +45,7 @@ no-dc DcIntra n = absurd (n refl)
 
 was-no-dc : (t : PictureCodingType) → isDc t ≡ false → t ≡ DcIntra → ⊥
 unfolding isDc
-was-no-dc t e d = let z : true ≡ false = rw d at (e) in let n : _≡_ {A = ℕ} 0 1 = cc in omega arith
+was-no-dc t e d = let z : true ≡ false = rw d at (e) in absurd (clash cc)
 
 -- the ways behind a header, and of both
 module _ (s : List ℕ) (h : Mpeg2PictureHeader) where
@@ -138,7 +138,7 @@ picture-append s t h x e =
     let a = r .header in
     let c = r .coded in
     let b : pictureHeader (s ++ t) ≡ value h =
-    picture-header-append s t (λ z. let n : _≡_ {A = ℕ} 0 1 = cc in omega arith) ∙ a in
+    picture-header-append s t (λ z. clash cc) ∙ a in
     sym (picture-behind (s ++ t) h b (r .not-dc))
     ∙ sym (behind-at (s ++ t) h p (next-append s t (pictureHeaderBytes h) p (r .next)))
-    ∙ rw (drop-append-le p s t (omega arith), coding-append (drop p s) t (λ z. let n : _≡_ {A = ℕ} 0 1 = cc in omega arith), c)
+    ∙ rw (drop-append-le p s t (omega arith), coding-append (drop p s) t (λ z. clash cc), c)

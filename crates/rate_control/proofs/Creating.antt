@@ -7,12 +7,10 @@ use native.Mathlib.Omega.{arith}
 use native.Mathlib.Decide.{decLt}
 use borrow.Author.Tests.{le-leb, not-true, not-false}
 use Rattle.bits.specs.Refusals.{Answer, value, refused, andThen}
-use Rattle.bits.proofs.Flags.{is-false, pick-elim}
-use Rattle.bits.proofs.Reading.{both-true}
+use Rattle.bits.proofs.Flags.{is-false, pick-elim, held, failed, both-true}
 use Rattle.vbv.specs.Answers.{frameRate}
 use Rattle.vbv.specs.Model.{paramsFit, newModel}
 use Rattle.vbv.specs.declared.VbvCbrModel.{VbvCbrModel}
-use Rattle.vbv.proofs.Picks.{held, failed}
 use Rattle.vbv.proofs.Fitting.{params-fit, fitting-params}
 use Rattle.rate_control.specs.Create.{within, configFits, configParams, freshWriter, create}
 use Rattle.rate_control.specs.Due.{atFirst, holding, Ranges, rateOf, bufferOf, paramsOf, targetsOf, CreationDue, bad-range, bad-code, bad-ratio, created}

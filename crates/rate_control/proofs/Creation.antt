@@ -9,11 +9,10 @@ use native.Mathlib.Nat.{mul-le-mul, div-le-self, div-lt-iff-lt-mul}
 use lib.Dec.{leb}
 use borrow.Author.Tests.{le-leb}
 use Rattle.bits.specs.Bits.{pick}
-use Rattle.bits.proofs.Reading.{both-true}
-use Rattle.bits.proofs.Following.{then-value}
+use Rattle.bits.proofs.Following.{then-value, refused-value}
 use Rattle.bits.specs.Refusals.{value, orElse}
 use Rattle.vbv.specs.Answers.{frameRate, modelAnswer, rateAnswer}
-use Rattle.vbv.proofs.Picks.{was-held}
+use Rattle.bits.proofs.Flags.{was-held, both-true}
 use Rattle.vbv.specs.Model.{paramsFit, newModel}
 use Rattle.vbv.specs.declared.FrameRate.{FrameRate}
 use Rattle.vbv.specs.declared.FrameRate.the-variants.{Rate, Refused as NoRate}
@@ -24,7 +23,7 @@ use Rattle.vbv.specs.declared.VbvError.the-variants.{Params}
 use Rattle.vbv.specs.declared.VbvModel.{VbvModel}
 use Rattle.vbv.specs.declared.VbvModel.the-variants.{Model, Refused as NoModel}
 use Rattle.vbv.proofs.Fitting.{params-fit}
-use Rattle.vbv.proofs.Laws.{refused-value, made}
+use Rattle.vbv.proofs.Laws.{made}
 use Rattle.rate_control.specs.Targets.{groupPictures, groupBits, groupWeight, target, targets}
 use Rattle.rate_control.specs.Answers.{createdAnswer}
 use Rattle.rate_control.specs.Create.{within, configFits, configParams, freshWriter, noWriter, create}

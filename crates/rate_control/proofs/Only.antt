@@ -10,11 +10,10 @@ use lib.ListN.{length}
 use borrow.Author.Tests.{ltb-false, lt-ltb, le-ltb, eq-eqb, ne-eqb}
 use Rattle.bits.specs.Bits.{pick}
 use Rattle.bits.specs.Refusals.{Answer, refuse, violate}
-use Rattle.bits.proofs.Flags.{or-left, or-right, is-true, is-false}
+use Rattle.bits.proofs.Flags.{or-left, or-right, is-true, is-false, yes, no, held, failed}
 use Rattle.vbv.specs.Annex.{unit, overflows, beyond}
 use Rattle.vbv.specs.declared.VbvParams.{VbvParams}
 use Rattle.vbv.proofs.Laws.{over-units, units-over, beyond-units, units-beyond}
-use Rattle.vbv.proofs.Picks.{yes, no, held, failed}
 use Rattle.layers.specs.Headers.{headersFit}
 use Rattle.layers.specs.Layer.{layerFits}
 use Rattle.rate_control.specs.Answers.{Given}

@@ -9,8 +9,8 @@ use native.Mathlib.Nat.{add-assoc, add-zero, zero-add}
 use lib.ListN.{length, length-append, length-map}
 use lib.Dec.{eqb}
 use Rattle.bits.specs.Bits.{pick}
-use Rattle.bits.specs.StartCodes.{sequenceEndCode}
-use Rattle.bits.proofs.Reading.{both-true}
+use Rattle.bits.specs.StartCodes.{pictureStartCode, sequenceEndCode}
+use Rattle.bits.proofs.Flags.{both-true, pick-in}
 use Rattle.scan.specs.Codes.{Code, codes, codesFrom, every, sequenceEnd}
 use Rattle.scan.specs.Pictures.{Pic, skip, isSlice, notSlice, notPicture, afterSlices, endAt, picturesF, picturesOf, pictures}
 use Rattle.scan.proofs.Codes.{fresh, fresh-code, moved, codes-append}
@@ -95,18 +95,13 @@ endAt-moved d e (c ∷ cs) = go (eqb (c .code) sequenceEndCode)
     go true = omega arith
     go false = refl
 
-map-pick : {A B : Type 0} (f : A → B) (t : Bool) (a b : List A) → map f (pick t a b) ≡ pick t (map f a) (map f b)
-unfolding pick
-map-pick f true a b = refl
-map-pick f false a b = refl
-
 picturesF-moved : (d e n : ℕ) (cs : List Code) → picturesF (d + e) n (map (moved d) cs) ≡ map (movedPic d) (picturesF e n cs)
 unfolding picturesF pick moved movedPic
 picturesF-moved d e zero cs = refl
 picturesF-moved d e (suc n) [] = refl
 picturesF-moved d e (suc n) (c ∷ cs) =
     rw (after-moved d cs, endAt-moved d e (afterSlices cs), picturesF-moved d e n (afterSlices cs), picturesF-moved d e n cs)
-    (sym (map-pick (movedPic d) (eqb (c .code) 0) _ _))
+    (sym (pick-in (map (movedPic d)) (eqb (c .code) pictureStartCode) _ _))
 
 picturesOf-moved : (d e : ℕ) (cs : List Code) → picturesOf (d + e) (map (moved d) cs) ≡ map (movedPic d) (picturesOf e cs)
 unfolding picturesOf

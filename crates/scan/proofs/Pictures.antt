@@ -11,6 +11,7 @@ use lib.Dec.{eqb}
 use borrow.Author.Tests.{not-true, not-false, eqb-true, ne-eqb}
 use Rattle.bits.specs.Bits.{pick}
 use Rattle.bits.specs.StartCodes.{sequenceEndCode}
+use Rattle.bits.proofs.Flags.{clash}
 use Rattle.scan.specs.declared.Found.{Found}
 use Rattle.scan.specs.declared.Found.the-variants.{At, Nothing}
 use Rattle.scan.specs.declared.Next.{Next}
@@ -100,7 +101,7 @@ unfolding passed
 behind s k g c h = go (found (skip (passed AtSlice) (codesAt s k))) refl
   where
     go : (f : Found) → found (skip (passed AtSlice) (codesAt s k)) ≡ f → Behind s k g c
-    go Nothing e = let z : Nothing ≡ At g c = after-none s k e ∙ h in let w : _≡_ {A = ℕ} 0 1 = cc in absurd (omega arith)
+    go Nothing e = let z : Nothing ≡ At g c = after-none s k e ∙ h in absurd (clash cc)
     go (At b d) e =
         let m : Sought notSlice s k b d = sought notSlice s k b d e in
         let n : Sought isSlice s b g c = sought isSlice s b g c (ap found (after-some s k b d e) ∙ h) in
@@ -150,7 +151,7 @@ unfolding passed
 taken s i a b n h = go (found (skip (passed AtPicture) (codesAt s i))) refl
   where
     go : (f : Found) → found (skip (passed AtPicture) (codesAt s i)) ≡ f → Taken s i a b n
-    go Nothing e = let z : Done ≡ Picture a b n = next-none s i e ∙ h in let w : _≡_ {A = ℕ} 0 1 = cc in absurd (omega arith)
+    go Nothing e = let z : Done ≡ Picture a b n = next-none s i e ∙ h in absurd (clash cc)
     go (At o c) e =
         let x : Picture o (endAt (length s) (afterSlices (codesAt s (o + 4)))) (goOn (length s) (afterSlices (codesAt s (o + 4)))) ≡ Picture a b n
         = next-some s i o c e ∙ h in
@@ -254,11 +255,11 @@ steps-from s i [] l = go (nextPicture s i) refl
   where
     go : (o : Next) → nextPicture s i ≡ o → Steps s i []
     go Done h = walk.done h
-    go (Picture a b k) h = let z = sym (walked s i a b k h .list) ∙ l in let w : _≡_ {A = ℕ} 0 1 = cc in absurd (omega arith)
+    go (Picture a b k) h = let z = sym (walked s i a b k h .list) ∙ l in absurd (clash cc)
 steps-from s i (q ∷ qs) l = go (λ k x. steps-from s k qs x) (nextPicture s i) refl
   where
     go : ((k : ℕ) → picturesAt s k ≡ qs → Steps s k qs) → (o : Next) → nextPicture s i ≡ o → Steps s i (q ∷ qs)
-    go ih Done h = let z = sym (pictures-done s i h) ∙ l in let w : _≡_ {A = ℕ} 0 1 = cc in absurd (omega arith)
+    go ih Done h = let z = sym (pictures-done s i h) ∙ l in absurd (clash cc)
     go ih (Picture a b k) h =
         let x = sym (walked s i a b k h .list) ∙ l in
         let y : _≡_ {A = Pic} (record { start = a; end = b }) q = cc in

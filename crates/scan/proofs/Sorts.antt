@@ -7,7 +7,7 @@ use mathlib.Core.Bool.{Bool, true, false, and-false}
 use borrow.Author.Tests.{lt-leb, ne-eqb}
 use Rattle.bits.specs.Bits.{pick}
 use Rattle.bits.specs.StartCodes.{lastSliceCode, sequenceHeaderCode}
-use Rattle.bits.proofs.Reading.{both-true}
+use Rattle.bits.proofs.Flags.{both-true}
 use Rattle.scan.specs.Codes.{Code, every, found}
 use Rattle.scan.specs.Pictures.{isSlice, notSlice, notPicture, notSequence, skip}
 use Rattle.scan.specs.declared.Found.the-variants.{At}

@@ -9,6 +9,7 @@ use native.Mathlib.Nat.{add-suc, add-zero, suc-add}
 use lib.ListN.{length, getD, drop, length-drop}
 use lib.Seq.{drop-drop}
 use Rattle.bits.specs.Bits.{pick}
+use Rattle.bits.proofs.Flags.{clash}
 use Rattle.scan.specs.declared.Found.the-variants.{At, Nothing}
 use Rattle.scan.specs.Codes.{Code, starts, codesFrom, codesAt, found, nextCode}
 use Rattle.scan.specs.Pictures.{skip}
@@ -57,7 +58,7 @@ hit-later h b m e = record {
 
 hit : (p : ℕ → Bool) (l : List ℕ) (o k q c : ℕ) → found (skip p (codesFrom o k l)) ≡ At q c → Hit p l o k q c
 unfolding codesFrom skip found pick
-hit p [] o k q c e = let z : _≡_ {A = ℕ} 0 1 = cc in absurd (omega arith)
+hit p [] o k q c e = absurd (clash cc)
 hit p (b ∷ l) o (suc k) q c e = hit-later (hit p l (suc o) k q c e) b (suc k) refl
 hit p (b ∷ l) o zero q c e = go (λ k. hit p l (suc o) k q c) (starts (b ∷ l)) refl e
   where

@@ -16,10 +16,6 @@ use Rattle.vbv.specs.Annex.{unit}
 use Rattle.vbv.specs.Steps.{ParamsFit, ModelFits, EndFits}
 use Rattle.vbv.specs.Model.{farthest, mostDelivered, paramsInRange, ratioFits, paramsFit, delivered, modelFits, periods, endFits}
 
--- a flag that a callee returned and a branch tested
-pub told-by : (r v t : Bool) → r ≡ v → r ≡ t → v ≡ t
-told-by r v t p q = sym p ∙ q
-
 -- the ranges keep the test of the ratio in 64 bits
 pub in-range : (p : VbvParams) → paramsInRange p ≡ true → (p .«bit_rate» ≤ 429496729200) × (p .«buffer_size_bits» ≤ 4294950912)
 unfolding paramsInRange

@@ -10,6 +10,7 @@ use lib.Arith.{digits-div}
 use lib.Dec.{ltb}
 use borrow.Author.Tests.{ltb-true, ltb-false, le-ltb}
 use Rattle.bits.specs.Refusals.{value, refused}
+use Rattle.bits.proofs.Following.{refused-value}
 use Rattle.bits.proofs.Appending.{lt-or-le}
 use Rattle.vbv.specs.declared.RemovalInterval.{RemovalInterval}
 use Rattle.vbv.specs.declared.VbvParams.{VbvParams}
@@ -18,7 +19,7 @@ use Rattle.vbv.specs.Annex.{unit, firstDelivered, gain, overflows, beyon
 use Rattle.vbv.specs.Model.{farthest, mostDelivered, paramsFit, delivered, modelFits, atDelivered, afterRemoval, periods, nextDelivered, newModel, startModel, delayForPicture, endFits, removePicture, ofStarted, maxEndBits, minEndBits, occupancyBeforeRemoval}
 use Rattle.vbv.specs.Steps.{ModelFits, EndFits}
 use Rattle.vbv.proofs.Arith.{same-lt, below-floor, above-ceiling, ceiling-beyond, start-div, next-div, ticks-most, next-most}
-use Rattle.vbv.proofs.Picks.{no, held, was-no, was-held}
+use Rattle.bits.proofs.Flags.{no, held, was-no, was-held}
 use Rattle.vbv.proofs.Fitting.{params-fit, model-fits, end-fits, fitting-params, fitting-model, unit-pos, periods-most}
 
 -- the tests as orders of units, both ways
@@ -198,10 +199,6 @@ removal-stays m end i v g o =
       end-high = omega arith;
       removed-high = omega arith;
     }
-
--- no refusal is a value
-pub refused-value : {X : Type 0} {n p c e : ℕ} {x : X} → refused n p c e ≡ value x → ⊥
-refused-value h = let z : _≡_ {A = ℕ} 0 1 = cc in omega arith
 
 -- a model made of parameters
 pub record Made (p : VbvParams) (m : VbvCbrModel) : Type 0 where

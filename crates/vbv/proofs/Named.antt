@@ -6,6 +6,7 @@ use Prim.Native.Nat.{ℕ, _^_, _≤_}
 use lib.Dec.{ltb}
 use Rattle.bits.specs.Bits.{pick}
 use Rattle.bits.specs.Refusals.{value, refused}
+use Rattle.bits.proofs.Flags.{pick-in}
 use Rattle.vbv.specs.declared.RemovalInterval.{RemovalInterval}
 use Rattle.vbv.specs.declared.VbvParams.{VbvParams}
 use Rattle.vbv.specs.declared.VbvCbrModel.{VbvCbrModel}
@@ -20,12 +21,6 @@ use Rattle.vbv.specs.Model.{farthest, paramsFit, delivered, modelFits, a
 use Rattle.vbv.specs.Steps.{EndFits, errorOf, modelOf, delayOf, bitsOf, removalOf}
 use Rattle.vbv.proofs.Laws.{starts, delays, occupancy-told, max-end, min-end}
 use Rattle.vbv.proofs.Told.{unmade, makes, delay-told, removal-told}
-
--- what is made of an answer that a test chooses
-pub pick-in : {A B : Type 0} (f : A → B) (t : Bool) (x y : A) → f (pick t x y) ≡ pick t (f x) (f y)
-unfolding pick
-pick-in f true x y = refl
-pick-in f false x y = refl
 
 pub unmade-named : (p : VbvParams) → paramsFit p ≡ false → modelOf (newModel p) ≡ Refused Params
 unfolding modelOf errorOf pick

@@ -11,14 +11,13 @@ use lib.Seq.{getD-set-other, take-set-le, drop-set-lt}
 use borrow.Author.Tests.{leb-true, le-leb, lt-leb}
 use Rattle.bits.specs.Bits.{bitsAt, digits, setBits}
 use Rattle.bits.specs.Fields.{sameBytes}
-use Rattle.bits.proofs.Flags.{and-left}
+use Rattle.bits.proofs.Flags.{and-left, yes, no, held, failed}
 use Rattle.bits.proofs.Laws.{bits-bound, bits-split, length-digits}
 use Rattle.bits.proofs.Appending.{Below, below-take, below-drop, digit-bound}
 use Rattle.bits.proofs.Patching.{byte-bits, set-length, set-below, set-before, set-behind, set-digits, set-within}
 use Rattle.bits.specs.Refusals.{value, refused}
 use Rattle.bits.specs.StartCodes.{startCode, pictureStartCode}
 use Rattle.vbv.specs.Patch.{startsPicture, patchPicture, patched}
-use Rattle.vbv.proofs.Picks.{yes, no, held, failed}
 
 -- the test of a picture header
 pub starts-short : (s : List ℕ) → length s < 8 → false ≡ startsPicture s

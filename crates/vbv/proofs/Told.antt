@@ -12,7 +12,7 @@ use Rattle.vbv.specs.declared.VbvCbrModel.{VbvCbrModel}
 use Rattle.vbv.specs.Annex.{gain, overflows, beyond, expectedDelay}
 use Rattle.vbv.specs.Model.{farthest, paramsFit, delivered, modelFits, afterRemoval, periods, nextDelivered, newModel, delayForPicture, removePicture}
 use Rattle.vbv.specs.Steps.{EndFits}
-use Rattle.vbv.proofs.Picks.{no, held, failed}
+use Rattle.bits.proofs.Flags.{no, held, failed}
 use Rattle.vbv.proofs.Fitting.{fitting-end}
 
 pub unmade : (p : VbvParams) → paramsFit p ≡ false → newModel p ≡ refused 12 0 0 0

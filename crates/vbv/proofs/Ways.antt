@@ -14,7 +14,7 @@ use Rattle.vbv.specs.Annex.{unit, firstDelivered, gain, overflows, beyon
 use Rattle.vbv.specs.Steps.{ModelFits, EndFits}
 use Rattle.vbv.specs.Model.{farthest, delivered, modelFits, atDelivered, afterRemoval, periods, nextDelivered, delayForPicture, endFits, removePicture, ofStarted}
 use Rattle.vbv.proofs.Arith.{ceiling-whole, ceiling-more, above, floor-beyond, start-div, start-mod, next-div, next-mod, delay-split, delay-large}
-use Rattle.vbv.proofs.Picks.{yes, no, held, failed}
+use Rattle.bits.proofs.Flags.{yes, no, held, failed}
 use Rattle.vbv.proofs.Fitting.{model-fits, fitting-params, fitting-model, fitting-end, unit-pos, delivered-div}
 use Rattle.vbv.proofs.Laws.{beyond-is, overflow-is, least-is, fits-params, delivered-at, next-whole}
 

@@ -13,8 +13,9 @@ use Rattle.bits.specs.Refusals.{Answer, value, refused, andThen}
 use Rattle.vbv.specs.Annex.{unit, firstDelivered, gain}
 use Rattle.vbv.specs.Model.{paramsFit, periods}
 use Rattle.vbv.specs.declared.VbvParams.{VbvParams}
-use Rattle.vbv.proofs.Picks.{was-no, was-held}
-use Rattle.vbv.proofs.Laws.{refused-value, units-beyond, occupancy-least}
+use Rattle.bits.proofs.Flags.{was-no, was-held}
+use Rattle.bits.proofs.Following.{refused-value}
+use Rattle.vbv.proofs.Laws.{units-beyond, occupancy-least}
 use Rattle.scan.specs.Pictures.{pictures}
 use Rattle.verify.specs.declared.VbvStandard.{VbvStandard}
 use Rattle.verify.specs.declared.CodedPicture.{CodedPicture}

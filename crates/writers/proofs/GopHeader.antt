@@ -12,7 +12,8 @@ use Rattle.bits.specs.Bits.{pick}
 use Rattle.bits.specs.Refusals.{Answer, value, refused, andThen}
 use Rattle.bits.specs.Fields.{fitsAll, total}
 use Rattle.bits.specs.StartCodes.{startCode, groupStartCode}
-use Rattle.bits.proofs.Reading.{both-true, total-none, total-more}
+use Rattle.bits.proofs.Flags.{both-true, clash}
+use Rattle.bits.proofs.Reading.{total-none, total-more}
 use Rattle.bits.proofs.Checking.{fits-none, fits-more, fits-all}
 use Rattle.bits.proofs.Writing.{header-read-written}
 use Rattle.bits.proofs.Joining.{write-over}
@@ -73,7 +74,7 @@ rate-bound c p e = case (leb 1 c && leb c 8) refl e
         let r = both-true (leb 1 c) (leb c 8) t in
         let m : p ≡ getD nominalRates c 0 = cc in
         rw m (rates c (leb-true 1 c (r .0)) (leb-true c 8 (r .1)))
-    case false t q = let z : _≡_ {A = ℕ} 0 1 = cc in absurd (omega arith)
+    case false t q = absurd (clash cc)
 
 -- a written group header reads as the values given
 pub group-read-back : GroupWrittenReads

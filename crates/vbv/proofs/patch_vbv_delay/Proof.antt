@@ -1,6 +1,6 @@
 use mathlib.Core.Path.{sym, _∙_}
 use lib.ListN.{length-set}
-use Rattle.vbv.proofs.Fitting.{told-by}
+use Rattle.bits.proofs.Flags.{told-by}
 use Rattle.vbv.proofs.Patching.{starts-long, patch-done, patch-none}
 use borrow.Author.Needs.{needs}
 use native.Mathlib.Omega.{arith}
