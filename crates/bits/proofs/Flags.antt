@@ -80,11 +80,6 @@ unfolding pick
 failed t x y h e = rw h e
 
 -- an answer that is not the one side comes from the other
-pub was-yes : {A : Type 0} (t : Bool) (x y : A) {z : A} → (y ≡ z → ⊥) → pick t x y ≡ z → (t ≡ true) × (x ≡ z)
-unfolding pick
-was-yes true x y n h = (refl, h)
-was-yes false x y n h = absurd (n h)
-
 pub was-no : {A : Type 0} (t : Bool) (x y : A) {z : A} → (x ≡ z → ⊥) → pick t x y ≡ z → (t ≡ false) × (y ≡ z)
 unfolding pick
 was-no true x y n h = absurd (n h)

@@ -83,15 +83,6 @@ sequence-parts s q e =
       sequence-is = cc;
     }
 
--- it is a sequence, or refused with 1 or 2
-pub sequence-seen : (s : List ℕ) → Seen (sequence s)
-unfolding sequence
-sequence-seen s =
-    then-seen (header-seen s) (λ h.
-    then-seen (next-seen s (sequenceHeaderBytes h)) (λ place.
-    then-seen (extension-seen (drop place s)) (λ x.
-    whole _)))
-
 -- what stands behind a parsed sequence does not matter
 pub sequence-append : SequenceStays
 unfolding sequence

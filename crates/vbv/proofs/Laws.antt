@@ -53,10 +53,6 @@ module _ (p : VbvParams) where
   unfolding firstDelivered
   first-in-time position delay = units-beyond position (firstDelivered p position delay) (omega arith)
 
-  -- what was all there stays so
-  pub later-under : (end d later : ℕ) → d ≤ later → beyond p end d ≡ false → beyond p end later ≡ false
-  later-under end d later h g = units-beyond end later (omega (arith, beyond-units end d g))
-
 -- the ends: a test of either kind is a comparison with the greatest or the least end
 module _ (p : VbvParams) (f : paramsFit p ≡ true) where
   pub beyond-is : (end d : ℕ) → beyond p end d ≡ ltb (greatestEnd p d) end
@@ -77,24 +73,6 @@ module _ (p : VbvParams) (f : paramsFit p ≡ true) where
       ∙ same-lt _ _ _ _
       (λ (h : end + p .«buffer_size_bits» < (d + (unit p - 1)) / unit p). rw (least-is d) (omega arith))
       (λ (h : end < leastEnd p d). let g = rw (least-is d) at (h) in omega arith)
-
-  -- the same for ends on a byte edge, counted in bytes
-  pub least-byte : (k d : ℕ) → overflows p (8 * k) d ≡ ltb k ((leastEnd p d + 7) / 8)
-  least-byte k d =
-      least-end (8 * k) d
-      ∙ same-lt _ _ _ _ (λ (h : 8 * k < leastEnd p d). omega arith) (λ (h : k < (leastEnd p d + 7) / 8). omega arith)
-
-  pub not-beyond : (end d : ℕ) → end ≤ greatestEnd p d → beyond p end d ≡ false
-  not-beyond end d h = beyond-is end d ∙ le-ltb _ _ h
-
-  pub not-over : (end d : ℕ) → leastEnd p d ≤ end → overflows p end d ≡ false
-  not-over end d h = least-end end d ∙ le-ltb _ _ h
-
-  -- a position is in time where a later end is
-  pub before-end : (position end d : ℕ) → position ≤ end → beyond p end d ≡ false → beyond p position d ≡ false
-  before-end position end d h g =
-      let l : end ≤ greatestEnd p d = ltb-false _ _ (sym (beyond-is end d) ∙ g) in
-      not-beyond position d (omega arith)
 
   -- the buffer: at most full before a removal, and all of the picture is in it
   pub occupancy-most : (previous d : ℕ) → overflows p previous d ≡ false → occupancy p previous d ≤ p .«buffer_size_bits»

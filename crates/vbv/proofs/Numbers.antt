@@ -84,6 +84,3 @@ bits-case {r} e h = ap bitsOf (sym h) ∙ bits-back r ∙ e
 
 pub removal-case : {r x : VbvRemoval} {a : Answer VbvCbrModel} → r ≡ x → removalAnswer r ≡ a → removalOf a ≡ x
 removal-case {r} e h = ap removalOf (sym h) ∙ removal-back r ∙ e
-
-pub rate-case : {r x : FrameRate} {a : Answer (ℕ × ℕ)} → r ≡ x → rateAnswer r ≡ a → rateOf a ≡ x
-rate-case {r} e h = ap rateOf (sym h) ∙ rate-back r ∙ e

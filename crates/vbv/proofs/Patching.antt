@@ -135,11 +135,3 @@ module _ (s : List ℕ) (d : ℕ) (h : startsPicture s ≡ true) where
   pub patched-behind : (k n : ℕ) → 61 ≤ k → bitsAt (patched s d) k n ≡ bitsAt s k n
   patched-behind k n l =
       rw (patched-is s d h) (set-behind s 45 (digits 16 d) room (digit-bound 16 d) k n (omega (arith, length-digits 16 d)))
-
-  -- it still starts a picture
-  pub patched-starts : Below 256 s → d < 65536 → startsPicture (patched s d) ≡ true
-  unfolding startsPicture
-  patched-starts b l =
-      let e : take 4 (patched s d) ≡ take 4 s =
-      rw (patched-bytes s d h b l, take-set-le 4 _ 7 _ (omega arith), take-set-le 4 _ 6 _ (omega arith), take-set-le 4 s 5 _ (omega arith)) in
-      rw (patched-length, e) h
