@@ -6,6 +6,7 @@ ghost use lib.ListN.{drop};
 ghost use Rattle.headers.specs.Answers.{errorNumber, nextAnswer, flagOf};
 ghost use Rattle.headers.specs.StartCode.{zeros, prefixAt, nextStartCode};
 
+pub mod gop_header; // group_of_pictures_header(), and the time code
 pub mod quant_matrix_extension; // the 64-byte matrices
 pub mod sequence_extension; // sequence_extension(), and both sequence headers together
 pub mod sequence_header; // sequence_header()

@@ -7,13 +7,13 @@ use lib.Dec.{leb}
 use lib.ListN.{getD}
 use Rattle.bits.specs.Refusals.{Answer, value, refused, refuse, andThen}
 use Rattle.bits.specs.Fields.{Field, any, exactly}
 use Rattle.headers.specs.Answers.{flagOf}
-use Rattle.writers.specs.declared.gop_header.TimeCode.{TimeCode}
-use Rattle.writers.specs.declared.gop_header.TimeCodeAnswer.{TimeCodeAnswer}
-use Rattle.writers.specs.declared.gop_header.TimeCodeAnswer.the-variants.{Code, Refused as NoCode}
-use Rattle.writers.specs.declared.gop_header.NominalRate.{NominalRate}
-use Rattle.writers.specs.declared.gop_header.NominalRate.the-variants.{PicturesPerSecond, Refused}
-use Rattle.writers.specs.declared.gop_header.Mpeg2Gop.{Mpeg2Gop}
+use Rattle.headers.specs.declared.gop_header.TimeCode.{TimeCode}
+use Rattle.headers.specs.declared.gop_header.TimeCodeAnswer.{TimeCodeAnswer}
+use Rattle.headers.specs.declared.gop_header.TimeCodeAnswer.the-variants.{Code, Refused as NoCode}
+use Rattle.headers.specs.declared.gop_header.NominalRate.{NominalRate}
+use Rattle.headers.specs.declared.gop_header.NominalRate.the-variants.{PicturesPerSecond, Refused}
+use Rattle.headers.specs.declared.gop_header.Mpeg2Gop.{Mpeg2Gop}
 
 -- Table 6-11; the writer holds its values to their widths alone (docs/DIFFERENCES.md)
 abbrev pub groupFields : List Field
