@@ -124,7 +124,7 @@ module _ (s : List ℕ) (f n : ℕ) (h : n < length s) where
       case true q = leb-true _ _ q
       case false q =
           let t = there-is s (f + 9 * n) 1 (lit≤ tt) (omega (arith, leb-false (8 * length s) (f + 9 * n) q)) in
-          clash (cc gone)
+          absurd (clash (cc gone))
 
 -- what it finds
 extra-found : (k : ℕ) (bs : List ℕ) → Seen (extra k bs)
