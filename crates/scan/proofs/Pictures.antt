@@ -18,9 +18,9 @@ use Rattle.scan.specs.declared.Next.{Next}
 use Rattle.scan.specs.declared.Next.the-variants.{Picture, Done}
 use Rattle.scan.specs.declared.Stop.the-variants.{AtPicture, AtSlice, AfterSlices}
 use Rattle.scan.specs.Codes.{Code, codesFrom, codes, codesAt, found}
-use Rattle.scan.specs.Pictures.{Pic, skip, isSlice, notSlice, notPicture, notSequence, afterSlices, endAt, picturesF, picturesOf, pictures}
-use Rattle.scan.specs.Walk as walk
-use Rattle.scan.specs.Walk.{goOn, nextIn, nextPicture, Steps, WalkGivesPictures, InOrder, PicturesInOrder}
+use Rattle.scan.specs.Pictures.{Pic, skip, isSlice, notSlice, notPicture, notSequence, afterSlices, endAt, picturesF, picturesOf, pictures, goOn, nextIn, nextPicture}
+use Rattle.scan.specs.Order as walk
+use Rattle.scan.specs.Order.{WalkGives, WalkGivesPictures, InOrder, PicturesInOrder}
 use Rattle.scan.specs.Steps.{passed}
 use Rattle.scan.proofs.Walk.{Sought, sought, unsought}
 
@@ -250,15 +250,15 @@ pub pictures-walk : (s : List ℕ) → picturesAt s 0 ≡ pictures s
 unfolding picturesAt pictures codes codesAt
 pictures-walk s = refl
 
-steps-from : (s : List ℕ) (i : ℕ) (qs : List Pic) → picturesAt s i ≡ qs → Steps s i qs
-steps-from s i [] l = go (nextPicture s i) refl
+walk-from : (s : List ℕ) (i : ℕ) (qs : List Pic) → picturesAt s i ≡ qs → WalkGives s i qs
+walk-from s i [] l = go (nextPicture s i) refl
   where
-    go : (o : Next) → nextPicture s i ≡ o → Steps s i []
+    go : (o : Next) → nextPicture s i ≡ o → WalkGives s i []
     go Done h = walk.done h
     go (Picture a b k) h = let z = sym (walked s i a b k h .list) ∙ l in absurd (clash cc)
-steps-from s i (q ∷ qs) l = go (λ k x. steps-from s k qs x) (nextPicture s i) refl
+walk-from s i (q ∷ qs) l = go (λ k x. walk-from s k qs x) (nextPicture s i) refl
   where
-    go : ((k : ℕ) → picturesAt s k ≡ qs → Steps s k qs) → (o : Next) → nextPicture s i ≡ o → Steps s i (q ∷ qs)
+    go : ((k : ℕ) → picturesAt s k ≡ qs → WalkGives s k qs) → (o : Next) → nextPicture s i ≡ o → WalkGives s i (q ∷ qs)
     go ih Done h = let z = sym (pictures-done s i h) ∙ l in absurd (clash cc)
     go ih (Picture a b k) h =
         let x = sym (walked s i a b k h .list) ∙ l in
@@ -267,10 +267,10 @@ steps-from s i (q ∷ qs) l = go (λ k x. steps-from s k qs x) (nextPicture s i)
         rw (← y) (walk.step h (ih k z))
 
 pub walk-gives : WalkGivesPictures
-walk-gives s = steps-from s 0 (pictures s) (pictures-walk s)
+walk-gives s = walk-from s 0 (pictures s) (pictures-walk s)
 
 -- from place i on, behind what ends at e
-ordered : {s : List ℕ} {i : ℕ} {qs : List Pic} (e : ℕ) → ((a b k : ℕ) → nextPicture s i ≡ Picture a b k → e ≤ a) → Steps s i qs → InOrder (length s) e qs
+ordered : {s : List ℕ} {i : ℕ} {qs : List Pic} (e : ℕ) → ((a b k : ℕ) → nextPicture s i ≡ Picture a b k → e ≤ a) → WalkGives s i qs → InOrder (length s) e qs
 ordered e clear (walk.done h) = walk.none
 ordered {s} {i} e clear (walk.step {start = a} {end = b} {next = k} h t) =
     let w = walked s i a b k h in

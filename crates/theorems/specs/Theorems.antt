@@ -7,7 +7,7 @@ use Rattle.picture_header.specs.Numbers.{PictureNumbers}
 use Rattle.writers.specs.RoundTrips.{GroupWrittenReads, TimeCodeWrites}
 use Rattle.vbv.specs.Fractions.{Owed as InFractions}
 use Rattle.vbv.specs.Numbers.{ModelNumbers, ModelStays}
-use Rattle.scan.specs.Walk.{WalkGivesPictures, PicturesInOrder}
+use Rattle.scan.specs.Order.{WalkGivesPictures, PicturesInOrder}
 use Rattle.verify.specs.Accepted.{AcceptedExactly, NothingCut}
 use Rattle.verify.specs.Due.{CheckDue}
 use Rattle.verify.specs.Numbers.{CheckNumbers}

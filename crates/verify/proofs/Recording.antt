@@ -17,9 +17,9 @@ use Rattle.verify.specs.declared.VbvPictureRecord.{VbvPictureRecord}
 use Rattle.verify.specs.declared.Progress.{Progress}
 use Rattle.verify.specs.declared.Progress.the-variants.{Fresh, Unmodelled, Running, Stopped}
 use Rattle.verify.specs.declared.recorder.VbvRecorder.{VbvRecorder}
-use Rattle.scan.specs.Pictures.{Pic}
-use Rattle.scan.specs.Walk as walk
-use Rattle.scan.specs.Walk.{nextPicture, Steps}
+use Rattle.scan.specs.Pictures.{Pic, nextPicture}
+use Rattle.scan.specs.Order as walk
+use Rattle.scan.specs.Order.{WalkGives}
 use Rattle.verify.specs.Sequence.{declared}
 use Rattle.verify.specs.Check.{Accepted, verdict, reportOf, records}
 use Rattle.verify.specs.declared.VbvVerified.{VbvVerified}
@@ -72,7 +72,7 @@ abbrev standing : VbvStandard → VbvParams → ℕ → Progress → VbvRecorder
 standing standard p i st = record { standard = standard; params = p; at = i; progress = st }
 
 yields : {standard : VbvStandard} {s : List ℕ} → length s ≤ 35184372088832 → (p : VbvParams) {qs : List Pic} {cs : List CodedPicture} {i : ℕ} (st : Progress)
-    → Steps s i qs → Reads standard s qs (value cs) → Yields s (standing standard p i st) (lastsAll p st cs)
+    → WalkGives s i qs → Reads standard s qs (value cs) → Yields s (standing standard p i st) (lastsAll p st cs)
 unfolding lastsAll wentOn
 yields short p st (walk.done h) none = no-more
 yields {standard} {s} short p {i = i} st (walk.step {start = a} {end = b} {next = k} h t) (good {c = c} {cs = cs} q r) =

@@ -15,8 +15,8 @@ use Rattle.verify.specs.declared.VbvStandard.{VbvStandard}
 use Rattle.verify.specs.declared.VbvStandard.the-variants.{Mpeg1, Mpeg2}
 use Rattle.verify.specs.declared.CodedPicture.{CodedPicture}
 use Rattle.scan.specs.Pictures.{Pic, pictures}
-use Rattle.scan.specs.Walk as walk
-use Rattle.scan.specs.Walk.{InOrder}
+use Rattle.scan.specs.Order as walk
+use Rattle.scan.specs.Order.{InOrder}
 use Rattle.verify.specs.Coded.{intervalOf, told, codedOf, codedAt}
 use Rattle.bits.proofs.Following.{then-value}
 use Rattle.vbv.specs.declared.RemovalInterval.the-variants.{Frame}

@@ -19,8 +19,7 @@ use Rattle.verify.specs.declared.CodedPicture.{CodedPicture}
 use Rattle.verify.specs.declared.Progress.{Progress}
 use Rattle.verify.specs.declared.Progress.the-variants.{Fresh, Unmodelled, Running, Stopped}
 use Rattle.verify.specs.Layout.{recordBytes}
-use Rattle.scan.specs.Pictures.{pictures}
-use Rattle.scan.specs.Walk.{nextPicture}
+use Rattle.scan.specs.Pictures.{pictures, nextPicture}
 use Rattle.verify.specs.Coded.{codedAt}
 use Rattle.verify.specs.Walk.{advanced, putAt, walked, stored}
 use Rattle.scan.proofs.Pictures.{picturesAt, walked as walked-on, pictures-done, pictures-walk}

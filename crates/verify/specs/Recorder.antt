@@ -7,7 +7,7 @@ use lib.ListN.{length}
 use Rattle.bits.specs.Bits.{pick}
 use Rattle.bits.specs.Refusals.{Answer, value, refused, andThen, orElse}
 use Rattle.vbv.specs.declared.VbvParams.{VbvParams}
-use Rattle.scan.specs.Walk.{nextPicture}
+use Rattle.scan.specs.Pictures.{nextPicture}
 use Rattle.verify.specs.Coded.{codedAt}
 use Rattle.verify.specs.Walk.{advanced}
 use Rattle.scan.specs.declared.Next.{Next}

@@ -4,7 +4,7 @@ use native.Mathlib.Omega.{arith}
 use lib.ListN.{length}
 use borrow.Author.Needs.{needs}
 use Rattle.scan.specs.declared.Next.the-variants.{Picture}
-use Rattle.scan.specs.Walk.{nextPicture}
+use Rattle.scan.specs.Pictures.{nextPicture}
 use Rattle.scan.proofs.Pictures.{Walked, walked}
 use Rattle.verify.proofs.Fold.{coded-case}
 use Rattle.verify.proofs.Walking.{Walking, walking-none, walking-done, walking-unread, walking-more}
