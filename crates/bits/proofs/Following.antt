@@ -5,7 +5,7 @@ use Prim.Native.Nat.{ℕ}
 use native.Mathlib.Omega.{arith}
 use Rattle.bits.specs.Refusals.{Answer, value, refused, andThen, number}
 use Rattle.bits.proofs.Flags.{clash}
-use Rattle.bits.proofs.Reading.{Seen, cut, broken, whole}
+use Rattle.bits.proofs.Reading.{ParseOutcome, cut, broken, whole}
 
 -- no refusal is a value
 pub refused-value : {X : Type 0} {n p c e : ℕ} {x : X} → refused n p c e ≡ value x → ⊥
@@ -25,7 +25,7 @@ then-stays (refused n p c k) b f g same more h = rw (same (λ z. h (ap (λ x. an
 then-stays (value x) b f g same more h = rw (same (λ z. let n = ap number z in omega arith)) (more x h)
 
 -- so what is too short with more behind it is too short
-pub short-cut : {X : Type 0} {a b : Answer X} → Seen a → Stays a b → b ≡ refused 1 0 0 0 → a ≡ refused 1 0 0 0
+pub short-cut : {X : Type 0} {a b : Answer X} → ParseOutcome a → Stays a b → b ≡ refused 1 0 0 0 → a ≡ refused 1 0 0 0
 short-cut cut same e = refl
 short-cut broken same e = sym (same (λ z. let n = ap number z in omega arith)) ∙ e
 short-cut (whole x) same e = sym (same (λ z. let n = ap number z in omega arith)) ∙ e

@@ -52,8 +52,8 @@ tableOf (suc n) (w ∷ l ∷ h ∷ t) = field w l (greatest w h) ∷ tableOf n t
 unfoldable pub places : List ℕ → List ℕ
 places vs = vs ++ replicate (24 - length vs) 0
 
-abbrev pub placed : Answer (List ℕ) → Answer (List ℕ)
-placed a = andThen a (λ vs. value (places vs))
+abbrev pub inPlaces : Answer (List ℕ) → Answer (List ℕ)
+inPlaces a = andThen a (λ vs. value (places vs))
 
 -- 24 zeros stand beside a refusal
 abbrev pub noValues : List ℕ

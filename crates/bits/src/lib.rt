@@ -6,7 +6,7 @@ ghost use lib.ListN.{length, take};
 ghost use Rattle.bits.specs.Bits.{bitsAt, there, appendBits};
 ghost use Rattle.bits.specs.Fields.{field, readFields, sameBytes, readHeader, fitsField, fitsAll, fieldBits, total};
 ghost use Rattle.bits.specs.Refusals.{orElse, plain as plainOf};
-ghost use Rattle.bits.specs.Answers.{over, readBits, bitsAnswer, wroteBits, greatest, tableOf, placed, noValues, fieldsAnswer, checkFields, checkedAnswer, writeAnswer, wroteAnswer, writeResult};
+ghost use Rattle.bits.specs.Answers.{over, readBits, bitsAnswer, wroteBits, greatest, tableOf, inPlaces, noValues, fieldsAnswer, checkFields, checkedAnswer, writeAnswer, wroteAnswer, writeResult};
 
 pub mod start_codes; // Table 6-1
 
@@ -143,8 +143,8 @@ fn field_count(table: &[u8]) -> usize
 // Reads a table from bit start on. A field has three bytes in the table: width, least value, greatest value (0: what the
 // width allows). 24 fields at most are read.
 pub fn read_fields(s: &[u8], start: u32, table: &[u8]) -> Fields
-    ensures { λ r. ⌜ fieldsAnswer r ≡ placed (readFields (tableOf 24 (now (table .entry))) (now (s .entry)) start) ⌝ }
-    ensures { λ r. ⌜ r .values ≡ orElse noValues (placed (readFields (tableOf 24 (now (table .entry))) (now (s .entry)) start)) ⌝ }
+    ensures { λ r. ⌜ fieldsAnswer r ≡ inPlaces (readFields (tableOf 24 (now (table .entry))) (now (s .entry)) start) ⌝ }
+    ensures { λ r. ⌜ r .values ≡ orElse noValues (inPlaces (readFields (tableOf 24 (now (table .entry))) (now (s .entry)) start)) ⌝ }
 {
     let n = field_count(table);
     let mut values = [0u32; 24];
@@ -194,8 +194,8 @@ pub fn starts_with(s: &[u8], bytes: &[u8]) -> bool
 
 // Reads a header: its start code, then its table.
 pub fn read_header(s: &[u8], code: [u8; 4], table: &[u8]) -> Fields
-    ensures { λ r. ⌜ fieldsAnswer r ≡ placed (readHeader code (tableOf 24 (now (table .entry))) (now (s .entry))) ⌝ }
-    ensures { λ r. ⌜ r .values ≡ orElse noValues (placed (readHeader code (tableOf 24 (now (table .entry))) (now (s .entry)))) ⌝ }
+    ensures { λ r. ⌜ fieldsAnswer r ≡ inPlaces (readHeader code (tableOf 24 (now (table .entry))) (now (s .entry))) ⌝ }
+    ensures { λ r. ⌜ r .values ≡ orElse noValues (inPlaces (readHeader code (tableOf 24 (now (table .entry))) (now (s .entry)))) ⌝ }
 {
     if s.len() < 4 {
         return refused(Outcome::Short);

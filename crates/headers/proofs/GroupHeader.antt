@@ -98,9 +98,9 @@ code-fits n p closed broken h l =
     (fits-more (omega arith) (omega (arith, flag-bound broken)) zero-le (omega (arith, flag-bound broken))
     fits-none))))))))
 
-coded : (n c : ℕ) (t : TimeCode) → timeCodeAt n c ≡ value t → (p : ℕ) × (value p ≡ nominalRate c) × (t ≡ timeCode n p)
+time-coded : (n c : ℕ) (t : TimeCode) → timeCodeAt n c ≡ value t → (p : ℕ) × (value p ≡ nominalRate c) × (t ≡ timeCode n p)
 unfolding timeCodeAt
-coded n c t e = case (nominalRate c) refl e
+time-coded n c t e = case (nominalRate c) refl e
   where
     case : (r : Answer ℕ) → nominalRate c ≡ r → andThen r (λ p. value (timeCode n p)) ≡ value t → (p : ℕ) × (value p ≡ nominalRate c) × (t ≡ timeCode n p)
     case (value p) q z = (p, sym q, cc)
@@ -112,6 +112,6 @@ group-total = simp (total-more, total-none)
 pub time-code-fits : (n c : ℕ) (code : TimeCode) (closed broken : Bool) → timeCodeAt n c ≡ value code
     → fitsAll groupFields (groupValues record { «time_code» = code; «closed_gop» = closed; «broken_link» = broken }) ≡ true
 time-code-fits n c code closed broken e =
-    let d = coded n c code e in
+    let d = time-coded n c code e in
     let b = rate-bound c (d .0) (d .1) in
     rw (d .2) (code-fits n (d .0) closed broken (omega arith) (omega arith))

@@ -7,16 +7,16 @@ use native.Mathlib.Omega.{arith}
 use lib.ListN.{length, take, drop}
 use lib.Seq.{drop-append-le}
 use Rattle.bits.specs.Refusals.{Answer, value, refused, andThen, number, orElse}
-use Rattle.bits.proofs.Reading.{Seen, whole, then-seen, rest-is}
+use Rattle.bits.proofs.Reading.{ParseOutcome, whole, then-seen, rest-is}
 use Rattle.bits.proofs.Following.{then-value}
-use Rattle.headers.specs.Answers.{refusal, flagged, headerAnswer, sequenceAnswer}
+use Rattle.headers.specs.Answers.{headerRefusal, flagged, headerAnswer, sequenceAnswer}
 use Rattle.headers.specs.StartCode.{nextStartCode}
 use Rattle.headers.specs.SequenceHeader.{sequenceHeader, sequenceHeaderBytes}
 use Rattle.headers.specs.SequenceExtension.{sequenceExtension}
 use Rattle.headers.specs.Sequence.{sequenceOf, noSequence, sequence}
 use Rattle.headers.specs.RoundTrips.{SequenceStays}
 use Rattle.headers.proofs.StartCode.{next-seen, next-found, next-append}
-use Rattle.headers.proofs.SequenceHeader.{HeaderBounds, header-seen, sequence-header-bounds, sequence-header-append}
+use Rattle.headers.proofs.SequenceHeader.{HeaderBounds, sequence-header-seen, sequence-header-bounds, sequence-header-append}
 use Rattle.headers.proofs.SequenceExtension.{extension-seen, extension-append}
 use Rattle.headers.specs.declared.Error.{Error}
 use Rattle.headers.specs.declared.sequence_header.Answer.{Answer as Flag}
@@ -27,11 +27,11 @@ use Rattle.headers.specs.declared.sequence_extension.Mpeg2Sequence.{Mpeg
 use Rattle.headers.specs.declared.sequence_extension.SequenceRead.{SequenceRead}
 
 -- what the code answers: its number, and the sequence or none
-abbrev Told : SequenceRead → Answer Mpeg2Sequence → Type 0
-Told r a = (sequenceAnswer r ≡ a) × (r .sequence ≡ orElse noSequence a)
+abbrev SequenceTold : SequenceRead → Answer Mpeg2Sequence → Type 0
+SequenceTold r a = (sequenceAnswer r ≡ a) × (r .sequence ≡ orElse noSequence a)
 
-pub told-refused : (r : SequenceRead) {a : Answer Mpeg2Sequence} (e : Error) → (sequenceAnswer r ≡ refusal e) × (r .sequence ≡ noSequence) → a ≡ refusal e → Told r a
-told-refused r e t q = (t .0 ∙ sym q, rw q (t .1))
+pub sequence-told-refused : (r : SequenceRead) {a : Answer Mpeg2Sequence} (e : Error) → (sequenceAnswer r ≡ headerRefusal e) × (r .sequence ≡ noSequence) → a ≡ headerRefusal e → SequenceTold r a
+sequence-told-refused r e t q = (t .0 ∙ sym q, rw q (t .1))
 
 -- a case of the header's answer, by what it tells
 pub header-case : (r : SequenceHeaderRead) {f : Flag} {a : Answer Mpeg2SequenceHeader} → r .answer ≡ f → headerAnswer r ≡ a → flagged f (r .header) ≡ a

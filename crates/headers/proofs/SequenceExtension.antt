@@ -12,7 +12,7 @@ use Rattle.bits.specs.Fields.{Field, readHeader, writeHeader, fitsAll, total}
 use Rattle.bits.specs.Refusals.{Answer, value}
 use Rattle.bits.specs.Answers.{places}
 use Rattle.bits.specs.StartCodes.{startCode, extensionStartCode}
-use Rattle.bits.proofs.Reading.{places-at, Seen, whole, then-seen, header-seen, header-got, read-range, read-length, header-append, total-none, total-more}
+use Rattle.bits.proofs.Reading.{places-at, ParseOutcome, whole, then-seen, header-seen, header-got, read-range, read-length, header-append, total-none, total-more}
 use Rattle.bits.proofs.Following.{then-value, then-stays, short-cut}
 use Rattle.bits.proofs.Checking.{Fits, fits-none, fits-more, fits-all}
 use Rattle.bits.proofs.Writing.{header-read-written, header-write-read, read-fits}
@@ -70,7 +70,7 @@ extension-append s t =
     then-stays (readHeader (startCode extensionStartCode) sequenceExtensionFields s) _ _ _ (header-append (startCode extensionStartCode) sequenceExtensionFields s t) (λ vs k. refl)
 
 -- it is an extension, or refused with 1 or 2
-pub extension-seen : (s : List ℕ) → Seen (sequenceExtension s)
+pub extension-seen : (s : List ℕ) → ParseOutcome (sequenceExtension s)
 unfolding sequenceExtension
 extension-seen s = then-seen (header-seen (startCode extensionStartCode) sequenceExtensionFields s) (λ vs. whole _)
 

@@ -61,15 +61,15 @@ PlainWrittenReads = (c : ChromaFormat) (progressive : Bool) (behind : List ℕ)
     × (sequenceExtension (extensionWritten (plainExtension c progressive) ++ behind) ≡ value (plainExtension c progressive))
 
 -- more bytes behind a header change its answer only where that is 1
-abbrev pub HeaderStays : Type 0
-HeaderStays = (s behind : List ℕ) → (sequenceHeader s ≡ refused 1 0 0 0 → ⊥) → sequenceHeader (s ++ behind) ≡ sequenceHeader s
+abbrev pub SequenceHeaderStays : Type 0
+SequenceHeaderStays = (s behind : List ℕ) → (sequenceHeader s ≡ refused 1 0 0 0 → ⊥) → sequenceHeader (s ++ behind) ≡ sequenceHeader s
 
 abbrev pub ExtensionStays : Type 0
 ExtensionStays = (s behind : List ℕ) → (sequenceExtension s ≡ refused 1 0 0 0 → ⊥) → sequenceExtension (s ++ behind) ≡ sequenceExtension s
 
 -- and what is too short with more bytes behind it (1) is too short without them
-abbrev pub HeaderCut : Type 0
-HeaderCut = (s behind : List ℕ) → sequenceHeader (s ++ behind) ≡ refused 1 0 0 0 → sequenceHeader s ≡ refused 1 0 0 0
+abbrev pub SequenceHeaderCut : Type 0
+SequenceHeaderCut = (s behind : List ℕ) → sequenceHeader (s ++ behind) ≡ refused 1 0 0 0 → sequenceHeader s ≡ refused 1 0 0 0
 
 abbrev pub ExtensionCut : Type 0
 ExtensionCut = (s behind : List ℕ) → sequenceExtension (s ++ behind) ≡ refused 1 0 0 0 → sequenceExtension s ≡ refused 1 0 0 0

@@ -6,7 +6,7 @@ use mathlib.Core.Bool.{false}
 use lib.Dec.{eqb}
 use lib.ListN.{getD}
 use Rattle.bits.specs.Bits.{pick}
-use Rattle.bits.specs.Fields.{Field, any, nonzero, exactly, readHeader}
+use Rattle.bits.specs.Fields.{Field, anyValue, nonzero, exactly, readHeader}
 use Rattle.bits.specs.Refusals.{Answer, value, andThen}
 use Rattle.bits.specs.StartCodes.{startCode, sequenceHeaderCode}
 use Rattle.headers.specs.Answers.{flagOf}
@@ -24,8 +24,8 @@ sequenceHeaderFields =
     nonzero 4 ∷  -- 3 frame_rate_code
     nonzero 18 ∷  -- 4 bit_rate_value
     exactly 1 1 ∷  -- 5 marker_bit
-    any 10 ∷  -- 6 vbv_buffer_size_value
-    any 1 ∷ []  -- 7 constrained_parameters_flag
+    anyValue 10 ∷  -- 6 vbv_buffer_size_value
+    anyValue 1 ∷ []  -- 7 constrained_parameters_flag
 
 -- Table 6-3 (for 11172-2, whose codes mean other ratios, see docs/DIFFERENCES.md)
 unfoldable pub aspectRatio : ℕ → AspectRatio

@@ -4,7 +4,7 @@ ghost use mathlib.Core.Path.{_≡_};
 ghost use Prim.Native.Nat.{_+_, _*_, _≤_};
 ghost use lib.ListN.{drop};
 ghost use Rattle.headers.specs.Answers.{errorNumber, nextAnswer, flagOf};
-ghost use Rattle.headers.specs.StartCode.{zeros, prefixAt, nextStartCode};
+ghost use Rattle.headers.specs.StartCode.{leadingZeros, prefixAt, nextStartCode};
 
 pub mod gop_header; // group_of_pictures_header(), and the time code
 pub mod quant_matrix_extension; // the 64-byte matrices
@@ -54,7 +54,7 @@ pub enum NextStartCode {
 
 // The byte behind the zero bytes from `from` on.
 fn past_zeros(buf: &[u8], from: usize) -> usize
-    ensures { λ r. ⌜ r ≡ from + zeros (drop from (now (buf .entry))) ⌝ }
+    ensures { λ r. ⌜ r ≡ from + leadingZeros (drop from (now (buf .entry))) ⌝ }
 {
     let mut at = from;
     while at < buf.len() && buf[at] == 0 {

@@ -16,7 +16,7 @@ use Rattle.bits.proofs.Laws.{bits-bound, bits-split}
 use Rattle.bits.proofs.Flags.{both-true}
 use Rattle.bits.proofs.Appending.{Below}
 use Rattle.bits.proofs.Patching.{byte-bits}
-use Rattle.headers.specs.StartCode.{zeros}
+use Rattle.headers.specs.StartCode.{leadingZeros}
 use Rattle.picture_header.specs.PictureHeader.{pictureHeader, pictureHeaderBytes}
 use Rattle.picture_header.specs.Picture.{picture}
 use Rattle.picture_header.specs.declared.PictureCodingType.{PictureCodingType}
@@ -45,7 +45,7 @@ pub record LayerFits (k : PictureKind) (i : RemovalInterval) (s : List ℕ) : Ty
   pub parsed : picture s ≡ value (header, extension)
   pub interval : intervalOf (extension .«picture_structure») ≡ i
   pub seven : codeSeven (header .«fwd_f_code») ≡ true
-  pub zeros-behind : 2 ≤ zeros (drop (pictureHeaderBytes header) s)
+  pub zeros-behind : 2 ≤ leadingZeros (drop (pictureHeaderBytes header) s)
   pub codes-fit : layerCodes (codes s) ≡ true
   pub closed : endsPrefix s ≡ false
 
@@ -95,7 +95,7 @@ layer-fits k i s f = case (picture s) refl (a .0)
 
 -- the low three bits of byte 7 are not all zero, or two zero bytes follow
 abbrev pub LowBits : List ℕ → Type 0
-LowBits s = (1 ≤ bitsAt s 61 3) ⊎ (2 ≤ zeros (drop 8 s))
+LowBits s = (1 ≤ bitsAt s 61 3) ⊎ (2 ≤ leadingZeros (drop 8 s))
 
 seven-is : (c : OptionCode) (v : ℕ) → c ≡ SomeCode v → codeSeven c ≡ true → v ≡ 7
 unfolding codeSeven
@@ -103,7 +103,7 @@ seven-is NoCode v e q = cc
 seven-is (SomeCode w) v e q = let z : w ≡ v = cc in rw (← z) (eqb-true w 7 q)
 
 low-bits : (s : List ℕ) (h : Mpeg2PictureHeader) → pictureHeader s ≡ value h → (h .«picture_coding_type» ≡ DcIntra → ⊥)
-    → codeSeven (h .«fwd_f_code») ≡ true → 2 ≤ zeros (drop (pictureHeaderBytes h) s) → LowBits s
+    → codeSeven (h .«fwd_f_code») ≡ true → 2 ≤ leadingZeros (drop (pictureHeaderBytes h) s) → LowBits s
 low-bits s h e n q z = type (h .«picture_coding_type») refl
   where
     p : PictureHeaderParsed s h
@@ -140,7 +140,7 @@ picture-head t b l c k w = record {
   clear =
       ⊎-elim
       (λ (v : 1 ≤ bitsAt t 61 3). inl (λ z. omega (arith, byte-bits t 7 (b 7), bits-split t 56 5 3)))
-      (λ (v : 2 ≤ zeros (drop 8 t)). inr (
+      (λ (v : 2 ≤ leadingZeros (drop 8 t)). inr (
         sym (getD-drop 8 t 0 0) ∙ zeros-zero (drop 8 t) 0 (omega arith),
         sym (getD-drop 8 t 1 0) ∙ zeros-zero (drop 8 t) 1 (omega arith),
       ))

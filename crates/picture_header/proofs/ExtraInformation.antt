@@ -15,7 +15,7 @@ use Rattle.bits.specs.Bits.{bitAt, bitsAt, bitList, there}
 use Rattle.bits.specs.Refusals.{Answer, value, refused, andThen}
 use Rattle.bits.specs.Answers.{readBits}
 use Rattle.bits.proofs.Laws.{bits-none, bits-more, bits-drop, bit-list-length, bit-list-append, bit-list-at}
-use Rattle.bits.proofs.Reading.{Seen, cut, whole, then-seen, found, missed, there-is, there-true, rest-is, there-drop}
+use Rattle.bits.proofs.Reading.{ParseOutcome, cut, whole, then-seen, bits-found, missed, there-is, there-true, rest-is, there-drop}
 use Rattle.picture_header.specs.PictureHeader.{extra, extraAt}
 use Rattle.picture_header.specs.Answers.{extraAnswer}
 use Rattle.picture_header.specs.declared.ExtraRead.{ExtraRead}
@@ -57,33 +57,33 @@ module _ (bs : List ℕ) (p : ℕ) where
       one (suc b) z = refl
 
 -- n bytes before
-unfoldable pub behind : ℕ → Answer ℕ → Answer ℕ
-behind n a = andThen a (λ k. value (n + k))
+unfoldable pub countedOn : ℕ → Answer ℕ → Answer ℕ
+countedOn n a = andThen a (λ k. value (n + k))
 
-behind-none : (a : Answer ℕ) → a ≡ behind 0 a
-unfolding behind
+behind-none : (a : Answer ℕ) → a ≡ countedOn 0 a
+unfolding countedOn
 behind-none (refused n p c e) = refl
 behind-none (value k) = ap value (omega arith)
 
-behind-more : (n : ℕ) (a : Answer ℕ) → behind n (oneMore a) ≡ behind (n + 1) a
-unfolding behind
+behind-more : (n : ℕ) (a : Answer ℕ) → countedOn n (oneMore a) ≡ countedOn (n + 1) a
+unfolding countedOn
 behind-more n (refused m p c e) = refl
 behind-more n (value k) = ap value (omega arith)
 
 -- the walk over the flags of the bytes s, the first at bit f: n of them are 1, and the next is at bit f + 9 * n
 pub record Walk (s : List ℕ) (f n : ℕ) : Type 0 where
-  pub so-far : extraAt s f ≡ behind n (extraAt s (f + 9 * n))
+  pub so-far : extraAt s f ≡ countedOn n (extraAt s (f + 9 * n))
 
 pub walk-none : (s : List ℕ) (f : ℕ) → Walk s f 0
 walk-none s f = record { so-far = rw (add-zero f) (behind-none _) }
 
 module _ {s : List ℕ} {f n : ℕ} (w : Walk s f n) where
   pub walk-cut : 8 * length s ≤ f + 9 * n → refused 1 0 0 0 ≡ extraAt s f
-  unfolding behind
+  unfolding countedOn
   walk-cut h = sym (rw (w .so-far, flag-cut (bitList s) (f + 9 * n) (omega (arith, bit-list-length s))))
 
   pub walk-end : f + 9 * n < 8 * length s → bitAt s (f + 9 * n) ≡ 0 → value n ≡ extraAt s f
-  unfolding behind
+  unfolding countedOn
   walk-end h z =
       sym (rw (w .so-far, flag-last (bitList s) (f + 9 * n) (omega (arith, bit-list-length s)) (bit-list-at s (f + 9 * n) ∙ z), add-zero n))
 
@@ -93,8 +93,8 @@ module _ {s : List ℕ} {f n : ℕ} (w : Walk s f n) where
       record {
         so-far =
             w .so-far
-            ∙ ap (behind n) (flag-more (bitList s) (f + 9 * n) (omega (arith, bit-list-length s)) (λ y. z (sym (bit-list-at s (f + 9 * n)) ∙ y)))
-            ∙ behind-more n _ ∙ ap (λ (p : ℕ). behind (n + 1) (extraAt s p)) e;
+            ∙ ap (countedOn n) (flag-more (bitList s) (f + 9 * n) (omega (arith, bit-list-length s)) (λ y. z (sym (bit-list-at s (f + 9 * n)) ∙ y)))
+            ∙ behind-more n _ ∙ ap (λ (p : ℕ). countedOn (n + 1) (extraAt s p)) e;
       }
 
 -- flag n as it is read, from byte n on
@@ -108,7 +108,7 @@ module _ (s : List ℕ) (f n : ℕ) (h : n < length s) where
   pub flag-read : (v : ℕ) → value v ≡ readBits (take (length s - n) (drop n s)) (f + n) 1
       → (f + 9 * n < 8 * length s) × (v ≡ bitAt s (f + 9 * n))
   flag-read v e =
-      let r = found (drop n s) (f + n) 1 v (rw rest-is at (e)) in
+      let r = bits-found (drop n s) (f + n) 1 v (rw rest-is at (e)) in
       let b : bitsAt s (f + 9 * n) 1 ≡ bitAt s (f + 9 * n) = bits-more s (f + 9 * n) 0 ∙ rw (bits-none s (f + 9 * n), add-zero (f + 9 * n)) (omega arith) in (
         omega (arith, there-true s (f + 9 * n) 1 (sym there-place ∙ r .0) .1),
         r .1 ∙ bits-drop n s (f + n) 1 ∙ ap (λ (i : ℕ). bitsAt s i 1) place ∙ b,
@@ -127,14 +127,14 @@ module _ (s : List ℕ) (f n : ℕ) (h : n < length s) where
           absurd (clash (cc gone))
 
 -- what it finds
-extra-found : (k : ℕ) (bs : List ℕ) → Seen (extra k bs)
+extra-found : (k : ℕ) (bs : List ℕ) → ParseOutcome (extra k bs)
 unfolding extra
 extra-found k [] = cut
 extra-found (suc k) (b ∷ bs) = extra-found k bs
 extra-found zero (zero ∷ bs) = whole 0
 extra-found zero (suc b ∷ bs) = then-seen (extra-found 8 bs) (λ n. whole (suc n))
 
-pub extra-seen : (s : List ℕ) (f : ℕ) → Seen (extraAt s f)
+pub extra-seen : (s : List ℕ) (f : ℕ) → ParseOutcome (extraAt s f)
 extra-seen s f = extra-found 0 (drop f (bitList s))
 
 -- an extra information that ends, ends within the bits

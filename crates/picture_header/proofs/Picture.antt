@@ -12,7 +12,7 @@ use Rattle.bits.specs.Bits.{pick}
 use Rattle.bits.specs.Refusals.{Answer, value, refused, andThen}
 use Rattle.bits.specs.StartCodes.{startCode, extensionStartCode}
 use Rattle.bits.proofs.Flags.{pick-elim, clash}
-use Rattle.bits.proofs.Reading.{Seen, broken, whole, then-seen, rest-is}
+use Rattle.bits.proofs.Reading.{ParseOutcome, broken, whole, then-seen, rest-is}
 use Rattle.headers.specs.StartCode.{nextStartCode}
 use Rattle.picture_header.specs.Answers.{pictureAnswer}
 use Rattle.picture_header.specs.declared.PictureRead.{PictureRead}
@@ -121,11 +121,11 @@ extension-placed {s} {h} {x} r =
     }
 
 -- what reading both finds
-pub picture-seen : (s : List ℕ) → Seen (picture s)
+pub picture-seen : (s : List ℕ) → ParseOutcome (picture s)
 unfolding picture
 picture-seen s =
     then-seen (picture-header-seen s) (λ h.
-    pick-elim Seen (isDc (h .«picture_coding_type»)) (λ d. broken) (λ d.
+    pick-elim ParseOutcome (isDc (h .«picture_coding_type»)) (λ d. broken) (λ d.
     then-seen (next-seen s (pictureHeaderBytes h)) (λ p.
     then-seen (coding-seen (drop p s)) (λ x. whole _))))
 

@@ -11,15 +11,15 @@ use Rattle.picture_header.specs.declared.Mpeg2PictureHeader.{Mpeg2Pictur
 use Rattle.picture_header.specs.declared.PictureCodingExtension.{PictureCodingExtension}
 
 -- the answer stays, refused or not, but where the bytes end in the header (1)
-abbrev pub HeaderStays : Type 0
-HeaderStays = (s t : List ℕ) → (pictureHeader s ≡ refused 1 0 0 0 → ⊥) → pictureHeader (s ++ t) ≡ pictureHeader s
+abbrev pub PictureHeaderStays : Type 0
+PictureHeaderStays = (s t : List ℕ) → (pictureHeader s ≡ refused 1 0 0 0 → ⊥) → pictureHeader (s ++ t) ≡ pictureHeader s
 
 abbrev pub CodingStays : Type 0
 CodingStays = (s t : List ℕ) → (pictureCodingExtension s ≡ refused 1 0 0 0 → ⊥) → pictureCodingExtension (s ++ t) ≡ pictureCodingExtension s
 
 -- and what is too short with more bytes behind it (1) is too short without them
-abbrev pub HeaderCut : Type 0
-HeaderCut = (s t : List ℕ) → pictureHeader (s ++ t) ≡ refused 1 0 0 0 → pictureHeader s ≡ refused 1 0 0 0
+abbrev pub PictureHeaderCut : Type 0
+PictureHeaderCut = (s t : List ℕ) → pictureHeader (s ++ t) ≡ refused 1 0 0 0 → pictureHeader s ≡ refused 1 0 0 0
 
 abbrev pub CodingCut : Type 0
 CodingCut = (s t : List ℕ) → pictureCodingExtension (s ++ t) ≡ refused 1 0 0 0 → pictureCodingExtension s ≡ refused 1 0 0 0

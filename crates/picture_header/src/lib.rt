@@ -4,7 +4,7 @@ ghost use Prim.Native.Nat.{_^_, _≤_, _<_};
 ghost use lib.ListN.{getD};
 ghost use Rattle.bits.specs.Fields.{readFields};
 ghost use Rattle.bits.specs.Refusals.{value, andThen};
-ghost use Rattle.bits.specs.Answers.{placed, fieldsAnswer};
+ghost use Rattle.bits.specs.Answers.{inPlaces, fieldsAnswer};
 ghost use Rattle.picture_header.specs.PictureHeader.{codingType, motionFields, extraBit, extraAt, flagIf, codeIf, pictureOf, behindDelay, pictureHeader, pictureHeaderBytes, headerLength};
 ghost use Rattle.picture_header.specs.CodingExtension.{pictureStructure, behindCodes, pictureCodingExtension};
 ghost use Rattle.picture_header.specs.Picture.{picture};
@@ -135,7 +135,7 @@ fn coding_type_of(code: u32) -> PictureCodingType
 
 // The fields that a picture type has of its motion vectors, at bit 61.
 fn read_motion(buf: &[u8], code: u32) -> Fields
-    ensures { λ r. ⌜ fieldsAnswer r ≡ placed (readFields (motionFields code) (now (buf .entry)) 61) ⌝ }
+    ensures { λ r. ⌜ fieldsAnswer r ≡ inPlaces (readFields (motionFields code) (now (buf .entry)) 61) ⌝ }
 {
     if code == 2 {
         return bits::read_fields(buf, 61, &FORWARD_TABLE);

@@ -3,8 +3,8 @@
 use mathlib.Core.Path.{_≡_, refl, sym, ap, _∙_}
 use lib.Dec.{eqb}
 use Rattle.bits.specs.Bits.{pick}
-use Rattle.vbv.specs.Steps.{errorOf}
-use Rattle.vbv.proofs.Numbers.{error-back}
+use Rattle.vbv.specs.Steps.{modelErrorOf}
+use Rattle.vbv.proofs.Numbers.{model-error-back}
 use Rattle.vbv.specs.declared.VbvError.{VbvError}
 use Rattle.vbv.specs.declared.VbvError.the-variants.{FrameRateCode, Early, DelayTooLong, Params, Order, Range}
 use Rattle.vbv.specs.declared.VbvViolation.{VbvViolation}
@@ -26,16 +26,16 @@ caseOf r =
     (pick (eqb (r .number) 20) Layer
     (pick (eqb (r .number) 21) TooLarge
     (pick (eqb (r .number) 22) Stuffing
-    (Model (errorOf (r .number)))))))))))
+    (Model (modelErrorOf (r .number)))))))))))
 
 model-back : (e : VbvError) → caseOf (refusalOf (Model e)) ≡ Model e
 unfolding caseOf pick
-model-back FrameRateCode = ap Model (error-back FrameRateCode)
-model-back Early = ap Model (error-back Early)
-model-back DelayTooLong = ap Model (error-back DelayTooLong)
-model-back Params = ap Model (error-back Params)
-model-back Order = ap Model (error-back Order)
-model-back Range = ap Model (error-back Range)
+model-back FrameRateCode = ap Model (model-error-back FrameRateCode)
+model-back Early = ap Model (model-error-back Early)
+model-back DelayTooLong = ap Model (model-error-back DelayTooLong)
+model-back Params = ap Model (model-error-back Params)
+model-back Order = ap Model (model-error-back Order)
+model-back Range = ap Model (model-error-back Range)
 
 violation-back : (v : VbvViolation) → caseOf (refusalOf (Violation v)) ≡ Violation v
 unfolding caseOf pick

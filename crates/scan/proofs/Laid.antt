@@ -16,7 +16,7 @@ use Rattle.scan.specs.Pictures.{Pic, skip, isSlice, notSlice, notPicture
 use Rattle.scan.proofs.Codes.{fresh, fresh-code, moved, codes-append}
 use Rattle.scan.proofs.PictureCodes.{codes-opened}
 use Rattle.scan.proofs.Sorts.{skip-stops}
-use Rattle.scan.proofs.Laying.{OnePicture, Opened, Piece, Pieces, none, more, laid, laidPics}
+use Rattle.scan.proofs.Laying.{OnePicture, Opened, Piece, Pieces, none, more, laidPieces, laidPics}
 use Rattle.scan.proofs.Pictures.{pictures-other, pictures-picture}
 
 -- ---- lists of codes
@@ -142,15 +142,15 @@ laid-moved d o (more x at p none) t = simp add-assoc
 laid-moved d o (more x at p (more y at₂ q ps)) t = rw (laid-moved d (o + length x) (more y at₂ q ps) t) (simp add-assoc)
 
 -- the pictures of pieces laid end to end are one for each piece, from where the piece says to where the next piece begins
-pub laid-pictures : (ps : Pieces) (t : List ℕ) → Tail t → pictures (laid ps t) ≡ laidPics 0 ps (length t)
-unfolding laid laidPics
+pub laid-pictures : (ps : Pieces) (t : List ℕ) → Tail t → pictures (laidPieces ps t) ≡ laidPics 0 ps (length t)
+unfolding laidPieces laidPics
 laid-pictures none t w = w .none-left
 laid-pictures (more x at p none) t w =
     piece-then x at p t (w .follows .fresh-y) (w .follows .no-slice-first)
     ∙ rw (w .follows .ends, w .none-left) (simp zero-add)
 laid-pictures (more x at p (more y at₂ q ps)) t w =
-    let g : Follows (y ++ laid ps t) 0 = opened-follows y (q .opened) (laid ps t) in
-    piece-then x at p (y ++ laid ps t) (g .fresh-y) (g .no-slice-first)
+    let g : Follows (y ++ laidPieces ps t) 0 = opened-follows y (q .opened) (laidPieces ps t) in
+    piece-then x at p (y ++ laidPieces ps t) (g .fresh-y) (g .no-slice-first)
     ∙ rw (g .ends, laid-pictures (more y at₂ q ps) t w, laid-moved (length x) 0 (more y at₂ q ps) (length t)) (simp (add-zero, zero-add))
 
 pub tail-none : Tail []

@@ -55,24 +55,24 @@ module _ (p : VbvParams) where
 
 -- the ends: a test of either kind is a comparison with the greatest or the least end
 module _ (p : VbvParams) (f : paramsFit p ≡ true) where
-  pub beyond-is : (end d : ℕ) → beyond p end d ≡ ltb (greatestEnd p d) end
+  pub beyond-greatest : (end d : ℕ) → beyond p end d ≡ ltb (greatestEnd p d) end
   unfolding beyond greatestEnd
-  beyond-is end d = below-floor d end (unit p) (unit-pos p f)
+  beyond-greatest end d = below-floor d end (unit p) (unit-pos p f)
 
-  pub overflow-is : (previous d : ℕ) → overflows p previous d ≡ ltb (previous + p .«buffer_size_bits») ((d + (unit p - 1)) / unit p)
+  pub overflow-ceiling : (previous d : ℕ) → overflows p previous d ≡ ltb (previous + p .«buffer_size_bits») ((d + (unit p - 1)) / unit p)
   unfolding overflows
-  overflow-is previous d = above-ceiling (previous + p .«buffer_size_bits») d (unit p) (unit-pos p f)
+  overflow-ceiling previous d = above-ceiling (previous + p .«buffer_size_bits») d (unit p) (unit-pos p f)
 
-  pub least-is : (d : ℕ) → leastEnd p d ≡ (d + (unit p - 1)) / unit p - p .«buffer_size_bits»
+  pub least-ceiling : (d : ℕ) → leastEnd p d ≡ (d + (unit p - 1)) / unit p - p .«buffer_size_bits»
   unfolding leastEnd
-  least-is d = ceiling-beyond d (p .«buffer_size_bits») (unit p) (unit-pos p f)
+  least-ceiling d = ceiling-beyond d (p .«buffer_size_bits») (unit p) (unit-pos p f)
 
   pub least-end : (end d : ℕ) → overflows p end d ≡ ltb end (leastEnd p d)
   least-end end d =
-      overflow-is end d
+      overflow-ceiling end d
       ∙ same-lt _ _ _ _
-      (λ (h : end + p .«buffer_size_bits» < (d + (unit p - 1)) / unit p). rw (least-is d) (omega arith))
-      (λ (h : end < leastEnd p d). let g = rw (least-is d) at (h) in omega arith)
+      (λ (h : end + p .«buffer_size_bits» < (d + (unit p - 1)) / unit p). rw (least-ceiling d) (omega arith))
+      (λ (h : end < leastEnd p d). let g = rw (least-ceiling d) at (h) in omega arith)
 
   -- the buffer: at most full before a removal, and all of the picture is in it
   pub occupancy-most : (previous d : ℕ) → overflows p previous d ≡ false → occupancy p previous d ≤ p .«buffer_size_bits»
@@ -129,10 +129,6 @@ delivered-at m d = div-add-mod' d (unit (m .params))
 pub delivered-after : (m : VbvCbrModel) (end d : ℕ) → delivered (afterRemoval m end d) ≡ d
 unfolding delivered afterRemoval
 delivered-after m end d = div-add-mod' d (unit (m .params))
-
-pub next-is : (m : VbvCbrModel) (i : RemovalInterval) → nextDelivered m i ≡ delivered m + gain (m .params) (periods i)
-unfolding nextDelivered
-next-is m i = refl
 
 -- whole bits after a start and after an advance
 start-whole : (m : VbvCbrModel) (delay position : ℕ) → ModelFits m → delay < 65536 → position ≤ farthest
@@ -240,10 +236,10 @@ started m delay position next h =
       fits = λ l. fitting-model _ (start-stays m delay position (model-fits (a .0)) l far);
     })
 
-pub starts : (m : VbvCbrModel) (delay position : ℕ) → modelFits m ≡ true → m .started ≡ false → position ≤ farthest
+pub model-starts : (m : VbvCbrModel) (delay position : ℕ) → modelFits m ≡ true → m .started ≡ false → position ≤ farthest
     → startModel m delay position ≡ value (atDelivered m (firstDelivered (m .params) position delay))
 unfolding startModel
-starts m delay position f s h = sym (held _ _ _ f (no _ _ _ s (no _ _ _ (le-ltb _ _ h) refl)))
+model-starts m delay position f s h = sym (held _ _ _ f (no _ _ _ s (no _ _ _ (le-ltb _ _ h) refl)))
 
 -- a delay told
 pub record Delayed (m : VbvCbrModel) (position r : ℕ) : Type 0 where

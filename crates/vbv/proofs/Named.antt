@@ -18,12 +18,12 @@ use Rattle.vbv.specs.declared.VbvDelay.the-variants as dl
 use Rattle.vbv.specs.declared.VbvBits.the-variants as bt
 use Rattle.vbv.specs.Annex.{firstDelivered, overflows, beyond, expectedDelay, occupancy, greatestEnd, leastEnd}
 use Rattle.vbv.specs.Model.{farthest, paramsFit, delivered, modelFits, atDelivered, afterRemoval, nextDelivered, newModel, startModel, delayForPicture, removePicture, maxEndBits, minEndBits, occupancyBeforeRemoval}
-use Rattle.vbv.specs.Steps.{EndFits, errorOf, modelOf, delayOf, bitsOf, removalOf}
-use Rattle.vbv.proofs.Laws.{starts, delays, occupancy-told, max-end, min-end}
+use Rattle.vbv.specs.Steps.{EndFits, modelErrorOf, modelOf, delayOf, bitsOf, removalOf}
+use Rattle.vbv.proofs.Laws.{model-starts, delays, occupancy-told, max-end, min-end}
 use Rattle.vbv.proofs.Told.{unmade, makes, delay-told, removal-told}
 
 pub unmade-named : (p : VbvParams) → paramsFit p ≡ false → modelOf (newModel p) ≡ Refused Params
-unfolding modelOf errorOf pick
+unfolding modelOf modelErrorOf pick
 unmade-named p h = rw (unmade p h)
 
 pub makes-named : (p : VbvParams) → paramsFit p ≡ true
@@ -34,14 +34,14 @@ makes-named p h = rw (makes p h)
 pub starts-named : (m : VbvCbrModel) (delay position : ℕ) → modelFits m ≡ true → m .started ≡ false → position ≤ farthest
     → modelOf (startModel m delay position) ≡ Model (atDelivered m (firstDelivered (m .params) position delay))
 unfolding modelOf
-starts-named m delay position f s h = rw (starts m delay position f s h)
+starts-named m delay position f s h = rw (model-starts m delay position f s h)
 
 delay-7 : delayOf (refused 7 0 0 0) ≡ dl.Refused Early
-unfolding delayOf errorOf pick
+unfolding delayOf modelErrorOf pick
 delay-7 = refl
 
 delay-8 : delayOf (refused 8 0 0 0) ≡ dl.Refused DelayTooLong
-unfolding delayOf errorOf pick
+unfolding delayOf modelErrorOf pick
 delay-8 = refl
 
 delay-value : (t : ℕ) → delayOf (value t) ≡ dl.Delay t

@@ -25,9 +25,9 @@ unfolding newModel
 makes p h = sym (held _ _ _ h refl)
 
 -- so much more is delivered at the next removal as the interval brings
-pub next-told : (m : VbvCbrModel) (i : RemovalInterval) → nextDelivered m i ≡ delivered m + gain (m .params) (periods i)
+pub next-delivered-is : (m : VbvCbrModel) (i : RemovalInterval) → nextDelivered m i ≡ delivered m + gain (m .params) (periods i)
 unfolding nextDelivered
-next-told m i = refl
+next-delivered-is m i = refl
 
 module _ (m : VbvCbrModel) (f : modelFits m ≡ true) (s : m .started ≡ true) where
   pub delay-told : (position : ℕ) → position ≤ farthest

@@ -28,5 +28,5 @@ pub record Fractions (p : VbvParams) : Type 0 where
   pub greatest-is : (end d : ℕ) → (end ≤ greatestEnd p d) ↔ (end * unit p ≤ d)
 
 -- what is owed: for a rate and an frn of at least 1
-abbrev pub Owed : Type 0
-Owed = (p : VbvParams) → 1 ≤ p .«bit_rate» → 1 ≤ p .frn → Fractions p
+abbrev pub FractionsOwed : Type 0
+FractionsOwed = (p : VbvParams) → 1 ≤ p .«bit_rate» → 1 ≤ p .frn → Fractions p

@@ -7,7 +7,7 @@ use native.Mathlib.Omega.{arith}
 use lib.ListN.{length, take, drop}
 use lib.Seq.{drop-drop, drop-at}
 use Rattle.words.specs.Words.{wordsBytes, wordAt}
-use Rattle.words.proofs.Bytes.{AllSmall as EachSmall, none as no-word, some as word, length-words, word-put}
+use Rattle.words.proofs.Bytes.{AllWords as EachSmall, none as no-word, some as word, length-words, word-put}
 use Rattle.verify.specs.Layout.{recordsBytes}
 use Rattle.verify.specs.declared.VbvPictureRecord.{VbvPictureRecord}
 use Rattle.verify.proofs.Storing.{records-more}

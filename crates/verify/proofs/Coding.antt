@@ -5,7 +5,7 @@ use Prim.Native.Nat.{ℕ, _+_, _*_}
 use mathlib.Core.List.{List, [], _∷_}
 use lib.ListN.{drop}
 use Rattle.bits.specs.Refusals.{value}
-use Rattle.bits.proofs.Reading.{Seen, whole, then-seen}
+use Rattle.bits.proofs.Reading.{ParseOutcome, whole, then-seen}
 use Rattle.picture_header.proofs.PictureHeader.{picture-header-seen}
 use Rattle.picture_header.proofs.Picture.{picture-seen}
 use Rattle.vbv.specs.declared.RemovalInterval.{RemovalInterval}
@@ -16,12 +16,12 @@ use Rattle.verify.specs.declared.VbvStandard.the-variants.{Mpeg1, Mpeg2}
 use Rattle.verify.specs.declared.CodedPicture.{CodedPicture}
 
 -- what the headers of a picture tell
-told-seen : (standard : VbvStandard) (s : List ℕ) → Seen (told standard s)
+told-seen : (standard : VbvStandard) (s : List ℕ) → ParseOutcome (told standard s)
 unfolding told
 told-seen Mpeg1 s = then-seen (picture-header-seen s) (λ h. whole _)
 told-seen Mpeg2 s = then-seen (picture-seen s) (λ p. whole _)
 
-pub coded-seen : (standard : VbvStandard) (s : List ℕ) (q : Pic) → Seen (codedAt standard s q)
+pub coded-seen : (standard : VbvStandard) (s : List ℕ) (q : Pic) → ParseOutcome (codedAt standard s q)
 unfolding codedAt
 coded-seen standard s q = then-seen (told-seen standard (drop (q .start) s)) (λ t. whole _)
 

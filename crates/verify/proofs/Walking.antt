@@ -22,7 +22,7 @@ use Rattle.verify.specs.Layout.{recordBytes}
 use Rattle.scan.specs.Pictures.{pictures, nextPicture}
 use Rattle.verify.specs.Coded.{codedAt}
 use Rattle.verify.specs.Walk.{advanced, putAt, walked, stored}
-use Rattle.scan.proofs.Pictures.{picturesAt, walked as walked-on, pictures-done, pictures-walk}
+use Rattle.scan.proofs.Pictures.{picturesAt, picture-step as walked-on, pictures-done, pictures-walk}
 
 -- a record goes to its place, nothing else to any
 pub put-other : (places n : ℕ) (st : Progress) (out : List ℕ)

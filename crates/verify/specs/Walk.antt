@@ -6,7 +6,7 @@ use lib.Dec.{eqb, leb, ltb}
 use lib.Seq.{sets}
 use Rattle.bits.specs.Bits.{pick}
 use Rattle.bits.specs.Refusals.{Answer, value, andThen, orElse}
-use Rattle.headers.specs.Answers.{refusal}
+use Rattle.headers.specs.Answers.{headerRefusal}
 use Rattle.vbv.specs.Model.{newModel, startModel, delayForPicture, removePicture, occupancyBeforeRemoval}
 use Rattle.vbv.specs.Steps.{modelOf, delayOf, bitsOf, removalOf}
 use Rattle.vbv.specs.declared.RemovalInterval.{RemovalInterval}
@@ -47,11 +47,11 @@ use Rattle.verify.specs.declared.Walked.the-variants.{Unread, Read}
 -- what the functions answer, by its number and values
 abbrev pub toldAnswer : Told → Answer (ℕ × RemovalInterval)
 toldAnswer (tl.Delay d i) = value (d, i)
-toldAnswer (tl.Refused e) = refusal e
+toldAnswer (tl.Refused e) = headerRefusal e
 
 abbrev pub codedAnswer : Coded → Answer CodedPicture
 codedAnswer (cd.Picture c) = value c
-codedAnswer (cd.Refused e) = refusal e
+codedAnswer (cd.Refused e) = headerRefusal e
 
 -- ---- a removal, by what the model answers
 
@@ -129,7 +129,7 @@ walked standard s p n st [] = value (n, st)
 walked standard s p n st (q ∷ qs) = andThen (codedAt standard s q) (λ c. walked standard s p (n + 1) (advanced p st c) qs)
 
 abbrev pub walkedAnswer : Walked → Answer (ℕ × Progress)
-walkedAnswer (Unread e) = refusal e
+walkedAnswer (Unread e) = headerRefusal e
 walkedAnswer (Read n st) = value (n, st)
 
 unfoldable pub stored : VbvStandard → List ℕ → VbvParams → ℕ → ℕ → Progress → List Pic → List ℕ → List ℕ

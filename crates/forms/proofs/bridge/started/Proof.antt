@@ -43,7 +43,7 @@ use denote.Triple.Clauses.{ensured, Lasts, lasts}
 use denote.Exit.{yes}
 use Rattle.vbv.specs.Model.{startModel}
 use Rattle.bits.specs.Refusals.{orElse}
-use Rattle.vbv.specs.Lent.{stepAnswer, done as answered}
+use Rattle.vbv.specs.Lent.{stepAnswer, doneAnswer as answered}
 use Rattle.vbv.specs.declared.VbvCbrModel.{VbvCbrModel}
 use Rattle.vbv.specs.declared.lent.VbvStepped.{VbvStepped}
 use Rattle.vbv.specs.declared.lent.VbvStep.{VbvStep}

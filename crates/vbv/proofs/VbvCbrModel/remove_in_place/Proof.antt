@@ -42,7 +42,7 @@ use denote.Triple.Clauses.{ensured, lasts}
 use denote.Exit.{yes}
 use Rattle.vbv.specs.Model.{removePicture}
 use Rattle.bits.specs.Refusals.{orElse}
-use Rattle.vbv.specs.Lent.{stepAnswer, done as answered}
+use Rattle.vbv.specs.Lent.{stepAnswer, doneAnswer as answered}
 use Rattle.vbv.specs.declared.VbvCbrModel.{VbvCbrModel}
 use Rattle.vbv.specs.declared.lent.VbvStepped.{VbvStepped}
 use Rattle.vbv.specs.declared.RemovalInterval.{RemovalInterval}

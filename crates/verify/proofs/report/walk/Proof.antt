@@ -5,7 +5,7 @@ use lib.ListN.{length}
 use borrow.Author.Needs.{needs}
 use Rattle.scan.specs.declared.Next.the-variants.{Picture}
 use Rattle.scan.specs.Pictures.{nextPicture}
-use Rattle.scan.proofs.Pictures.{Walked, walked}
+use Rattle.scan.proofs.Pictures.{PictureStep, picture-step}
 use Rattle.verify.proofs.Fold.{coded-case}
 use Rattle.verify.proofs.Walking.{Walking, walking-none, walking-done, walking-unread, walking-more}
 use Rattle.verify.proofs.report.walk.Statement.{statement}
@@ -24,8 +24,8 @@ step : (c : tie.After-known-told Inv-loop μ-loop)
 step c = sym (c .before .before .before .next-picture .ensures) ∙ c .before .at .given .1
 
 met : (c : tie.After-known-told Inv-loop μ-loop)
-    → Walked (c .before .before .before .before .before .before .before .args .stream .now) (c .before .before .before .before .loop .i) (c .before .at .given .0 .0) (c .before .at .given .0 .1 .0) (c .before .at .given .0 .1 .1 .0)
-met c = walked _ _ _ _ _ (step c)
+    → PictureStep (c .before .before .before .before .before .before .before .args .stream .now) (c .before .before .before .before .loop .i) (c .before .at .given .0 .0) (c .before .at .given .0 .1 .0) (c .before .at .given .0 .1 .1 .0)
+met c = picture-step _ _ _ _ _ (step c)
 
 loop-holds : tie.Need-loop-holds Inv-loop μ-loop
 loop-holds c = walking-none _ _ _ _ _

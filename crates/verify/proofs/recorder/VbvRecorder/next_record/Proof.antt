@@ -1,6 +1,6 @@
 use mathlib.Core.Path.{sym, _∙_}
 use native.Mathlib.Omega.{arith}
-use Rattle.scan.proofs.Pictures.{walked}
+use Rattle.scan.proofs.Pictures.{picture-step}
 use Rattle.verify.proofs.Fold.{coded-case}
 use Rattle.verify.proofs.Recording.{next-long, next-done, next-unread, next-read}
 use borrow.Author.Needs.{needs}
@@ -26,7 +26,7 @@ enum-known-at : tie.Need-enum-known-at
 enum-known-at c = search needs
 
 coded-at-requires : tie.Need-coded-at-requires
-coded-at-requires c κs = let w = walked _ _ _ _ _ (sym (c .before .before .before .next-picture .ensures) ∙ c .before .at .given .1) in search (needs, w)
+coded-at-requires c κs = let w = picture-step _ _ _ _ _ (sym (c .before .before .before .next-picture .ensures) ∙ c .before .at .given .1) in search (needs, w)
 
 enum-told-2 : tie.Need-enum-told-2
 enum-told-2 c = search needs
