@@ -24,7 +24,7 @@ pub then-stays : {X Y : Type 0} (a b : Answer X) (f g : X → Answer Y) → Stay
 then-stays (refused n p c k) b f g same more h = rw (same (λ z. h (ap (λ x. andThen x f) z)))
 then-stays (value x) b f g same more h = rw (same (λ z. let n = ap number z in omega arith)) (more x h)
 
--- so what is too short with more behind it is too short
+-- so what is too short with more after it is too short
 pub short-cut : {X : Type 0} {a b : Answer X} → ParseOutcome a → Stays a b → b ≡ refused 1 0 0 0 → a ≡ refused 1 0 0 0
 short-cut cut same e = refl
 short-cut broken same e = sym (same (λ z. let n = ap number z in omega arith)) ∙ e

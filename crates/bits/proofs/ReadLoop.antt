@@ -32,7 +32,7 @@ rest-more vs k v m h e =
     let x : getD vs k 0 ∷ drop (suc k) vs ≡ 0 ∷ replicate m 0 = sym (drop-cons vs k 0 h) ∙ e in
     rw (drop-set-lt (suc k) vs k v (omega arith)) (cc)
 
--- the code's loop, after k of n fields: their values stand first in vs and zeros behind them, and the other fields are read from bit i on
+-- the code's loop, after k of n fields: their values stand first in vs and zeros after them, and the other fields are read from bit i on
 pub record FieldsReading (t s : List ℕ) (start n : ℕ) (vs : List ℕ) (k i : ℕ) : Type 0 where
   pub count : n ≡ length (tableOf 24 t)
   pub most : n ≤ 24

@@ -283,7 +283,7 @@ leb-same a b c d f g = case (leb a b) (leb c d) refl refl
     case false true p q = le-leb a b (g (leb-true c d q)) ∙ sym q
     case false false p q = p ∙ sym q
 
--- what is behind byte k, as code hands it on
+-- what is after byte k, as code hands it on
 pub rest-is : (s : List ℕ) (k : ℕ) → take (length s - k) (drop k s) ≡ drop k s
 rest-is s k = take-all (length s - k) (drop k s) (omega (arith, length-drop k s))
 
@@ -306,7 +306,7 @@ read-drop (f ∷ fs) k s i h =
       ← add-assoc (8 * k) i (f .width),
     )
 
--- what stands behind the bytes does not matter, unless they are too short
+-- what stands after the bytes does not matter, unless they are too short
 pub there-append : (s t : List ℕ) (i n : ℕ) → there s i n ≡ true → there (s ++ t) i n ≡ true
 there-append s t i n e =
     let b = there-true s i n e in
@@ -433,7 +433,7 @@ header-got code fs s vs e = case (ltb (length s) 4) (sameBytes (take 4 s) code) 
 pub header-of : {code : List ℕ} {fs : List Field} {s vs : List ℕ} → HeaderRead code fs s vs → readHeader code fs s ≡ value vs
 header-of {code} {fs} {s} {vs} r = header-more code fs s (r .long) (rw (r .code-first) (same-self code)) ∙ r .fields-read
 
--- more behind a header does not matter, unless it is too short
+-- more after a header does not matter, unless it is too short
 pub header-append : (code : List ℕ) (fs : List Field) (s t : List ℕ) → (readHeader code fs s ≡ refused 1 0 0 0 → ⊥)
     → readHeader code fs (s ++ t) ≡ readHeader code fs s
 header-append code fs s t h = case (ltb (length s) 4) (sameBytes (take 4 s) code) refl refl

@@ -122,7 +122,7 @@ reads-back (fits-more {f} {fs} {v} {vs} a b c d r) s i l h =
     ∙ getD-append-add (digits w v) (fieldBits fs vs) k 0) in
     read-more f fs s i (there-is s i w a (omega arith)) (rw e (obeys-is f v c d)) ∙ rw (e, m)
 
--- so they are read from the bits packed, whatever stands before and behind
+-- so they are read from the bits packed, whatever stands before and after
 pub reads-packed : {fs : List Field} {vs : List ℕ} → Fits fs vs → (pre post t : List ℕ) → Below 2 pre → Below 2 post
     → readFields fs (pack (pre ++ fieldBits fs vs ++ post) ++ t) (length pre) ≡ value vs
 reads-packed {fs} {vs} r pre post t p q =

@@ -48,7 +48,7 @@ tableOf (suc n) (w ∷ []) = []
 tableOf (suc n) (w ∷ l ∷ []) = []
 tableOf (suc n) (w ∷ l ∷ h ∷ t) = field w l (greatest w h) ∷ tableOf n t
 
--- values in 24 places, zeros behind them
+-- values in 24 places, zeros after them
 unfoldable pub places : List ℕ → List ℕ
 places vs = vs ++ replicate (24 - length vs) 0
 

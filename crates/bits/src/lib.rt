@@ -218,7 +218,7 @@ fn kept(s: &[u8], i: usize) -> u64
     wide(s[i / 8]) / pow2(8 - offset)
 }
 
-// Puts the n low bits of v at bit i of out, and zeros behind them to a whole byte; false where n is above 32 or they do
+// Puts the n low bits of v at bit i of out, and zeros after them to a whole byte; false where n is above 32 or they do
 // not fit.
 pub fn append_bits(out: &mut [u8], i: usize, n: usize, v: u32) -> bool
     ensures { λ r. ⌜ r ≡ there (now (out .entry)) i n ⌝ }
@@ -304,7 +304,7 @@ fn put_code(out: &mut [u8], code: [u8; 4])
     out[3] = code[3];
 }
 
-// Writes a header: its start code, then its fields, and zeros to a whole byte. The bytes behind keep what they hold.
+// Writes a header: its start code, then its fields, and zeros to a whole byte. The bytes after it keep what they hold.
 pub fn write_header(out: &mut [u8], code: [u8; 4], table: &[u8], values: &[u32]) -> Wrote
     ensures { λ r. ⌜ wroteAnswer r ≡ writeAnswer code (tableOf 24 (now (table .entry))) (now (values .entry)) (now (out .entry)) ⌝ }
     ensures { λ r. ⌜ now (out .exit) ≡ writeResult code (tableOf 24 (now (table .entry))) (now (values .entry)) (now (out .entry)) ⌝ }

@@ -14,7 +14,7 @@ use Rattle.bits.proofs.Reading.{prepended, prepended-none, after-after, read-no
 use Rattle.headers.specs.QuantMatrix.{matrixBytes, loaded}
 use Rattle.headers.specs.Steps.{loadedAt}
 
--- the code's loop, after k of 64 bytes: they stand first in bytes, and the others are read behind them
+-- the code's loop, after k of 64 bytes: they stand first in bytes, and the others are read after them
 pub record MatrixReading (s : List ℕ) (at : ℕ) (bytes : List ℕ) (k : ℕ) : Type 0 where
   pub within : k ≤ 64
   pub long : length bytes ≡ 64

@@ -137,7 +137,7 @@ module _ (s : List ℕ) (i : ℕ) (vs : List ℕ) (e : readMatrix s i ≡ value 
 pub table-as-matrix : (s : List ℕ) (i : ℕ) (vs : List ℕ) → readFields (anyValue 1 ∷ matrixBytes (getD vs 0 0)) s i ≡ value vs → readMatrix s i ≡ value vs
 table-as-matrix s i vs e = flag-table s i (getD vs 0 0) (first-found (anyValue 1) (matrixBytes (getD vs 0 0)) s i vs e) ∙ e
 
--- too few bits or a matrix, and what stands behind does not matter to one
+-- too few bits or a matrix, and what stands after does not matter to one
 module _ (s : List ℕ) (i : ℕ) where
   pub matrix-found : ParseOutcome (readMatrix s i)
   unfolding readMatrix

@@ -1,4 +1,4 @@
--- A sequence header with its extension: the ways that reading the two goes, and what stands behind them.
+-- A sequence header with its extension: the ways that reading the two goes, and what stands after them.
 -- Assumes nothing.
 use mathlib.Core.Path.{_≡_, sym, ap, _∙_}
 use mathlib.Core.List.{List}
@@ -83,7 +83,7 @@ sequence-parts s q e =
       sequence-is = cc;
     }
 
--- what stands behind a parsed sequence does not matter
+-- what stands after a parsed sequence does not matter
 pub sequence-append : SequenceStays
 unfolding sequence
 sequence-append s t q a =

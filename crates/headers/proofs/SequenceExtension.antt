@@ -1,4 +1,4 @@
--- The sequence extension: what a parsed one holds, that what stands behind it does not matter, and both round trips.
+-- The sequence extension: what a parsed one holds, that what stands after it does not matter, and both round trips.
 -- Assumes nothing.
 use mathlib.Core.Path.{_≡_, refl, ap, _∙_}
 use mathlib.Core.List.{List, _∷_}
@@ -26,7 +26,7 @@ use Rattle.headers.specs.declared.sequence_extension.ChromaFormat.the-va
 use Rattle.headers.specs.declared.sequence_extension.Mpeg2SequenceExtension.{Mpeg2SequenceExtension}
 use Rattle.headers.specs.declared.sequence_extension.SequenceExtensionRead.{SequenceExtensionRead}
 
--- the zeros behind the values do not matter
+-- the zeros after the values do not matter
 pub extension-places : (vs : List ℕ) → extensionOf (places vs) ≡ extensionOf vs
 unfolding extensionOf
 extension-places vs = simp places-at
@@ -63,7 +63,7 @@ extension-bounds s e q =
       frame-d = r 11 .1;
     }
 
--- what stands behind does not matter, unless the bytes are too short
+-- what stands after does not matter, unless the bytes are too short
 pub extension-append : ExtensionStays
 unfolding sequenceExtension
 extension-append s t =
@@ -100,7 +100,7 @@ values-whole : (e : Mpeg2SequenceExtension) → extensionOf (extensionValues e) 
 unfolding extensionOf extensionValues
 values-whole e = rw (chroma-same (e .«chroma_format»), flag-same (e .«progressive_sequence»), flag-same (e .«low_delay»))
 
--- what was written is read again, whatever stands behind
+-- what was written is read again, whatever stands after
 pub extension-read-back : ExtensionWrittenReads
 unfolding sequenceExtension
 extension-read-back e t f = rw (header-read-written (startCode extensionStartCode) sequenceExtensionFields (extensionValues e) t refl f, values-whole e)

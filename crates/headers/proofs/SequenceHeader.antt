@@ -176,7 +176,7 @@ sequence-header-seen s =
     then-seen (matrix-found s (95 + 512 * getD intra 0 0)) (λ nonIntra.
     whole _)))
 
--- what stands behind the bytes does not matter, unless they are too short
+-- what stands after the bytes does not matter, unless they are too short
 pub sequence-header-append : SequenceHeaderStays
 unfolding sequenceHeader
 sequence-header-append s t =
@@ -184,6 +184,6 @@ sequence-header-append s t =
     then-stays (readMatrix s 94) _ _ _ (matrix-stays s 94 t) (λ intra.
     then-stays (readMatrix s (95 + 512 * getD intra 0 0)) _ _ _ (matrix-stays s (95 + 512 * getD intra 0 0) t) (λ nonIntra k. refl)))
 
--- so what is too short with more behind it is too short
+-- so what is too short with more after it is too short
 pub sequence-header-short-cut : SequenceHeaderCut
 sequence-header-short-cut s t = short-cut (sequence-header-seen s) (sequence-header-append s t)

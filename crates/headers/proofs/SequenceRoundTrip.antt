@@ -29,7 +29,7 @@ use Rattle.headers.proofs.QuantMatrix.{matrix-flag, matrix-fields-back,
 use Rattle.headers.proofs.SequenceHeader.{fixedFields, header-parsed, header-parts}
 use Rattle.headers.proofs.StreamWriter.{total-fixed}
 
--- what was written is read again, whatever stands behind
+-- what was written is read again, whatever stands after
 pub sequence-read-back : WrittenReads
 unfolding paramsFields paramsValues baseValues headerOf headerOfParams matrixValues
 sequence-read-back p t w =

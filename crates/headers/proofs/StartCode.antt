@@ -154,7 +154,7 @@ next-same s t k p a b e =
     let g : drop (k + leadingZeros (drop k s) - 2) t ≡ drop (k + leadingZeros (drop k s) - 2) s = rw q b in
     rw (a, g) e
 
--- what stands behind does not move it
+-- what stands after does not move it
 pub next-append : (s t : List ℕ) (k p : ℕ) → nextStartCode s k ≡ value p → nextStartCode (s ++ t) k ≡ value p
 unfolding prefixAt
 next-append s t k p e =

@@ -1,4 +1,4 @@
--- Writing a sequence header: a matrix behind its flag, and the whole as the fixed fields gone on with.
+-- Writing a sequence header: a matrix after its flag, and the whole as the fixed fields gone on with.
 -- Assumes nothing.
 use mathlib.Core.Path.{_≡_, refl, _∙_}
 use mathlib.Core.List.{List, [], _∷_, _++_, append-nil}

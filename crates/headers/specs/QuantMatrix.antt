@@ -11,7 +11,7 @@ use Rattle.bits.specs.Fields.{Field, anyValue, readFields}
 use Rattle.headers.specs.Answers.{flagOf}
 use Rattle.headers.specs.declared.quant_matrix_extension.QuantiserMatrix.{QuantiserMatrix}
 
--- the 64 bytes behind a load flag of 1; any bytes (docs/DIFFERENCES.md)
+-- the 64 bytes after a load flag of 1; any bytes (docs/DIFFERENCES.md)
 unfoldable pub matrixBytes : ℕ → List Field
 matrixBytes zero = []
 matrixBytes (suc f) = replicate 64 (anyValue 8)

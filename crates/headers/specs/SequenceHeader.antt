@@ -31,7 +31,7 @@ sequenceHeaderFields =
 unfoldable pub aspectRatio : ℕ → AspectRatio
 aspectRatio c = pick (eqb c 1) Square (pick (eqb c 2) Dar3x4 (pick (eqb c 3) Dar9x16 (pick (eqb c 4) Dar1x221 (Reserved c))))
 
--- the header of the fields h, with the two matrices that were read behind them
+-- the header of the fields h, with the two matrices that were read after them
 unfoldable pub headerOf : List ℕ → List ℕ → List ℕ → Mpeg2SequenceHeader
 headerOf h intra nonIntra = record {
   width = getD h 0 0;
@@ -45,7 +45,7 @@ headerOf h intra nonIntra = record {
   «non_intra_quant» = matrixOf nonIntra;
 }
 
--- the fields up to bit 94; there the intra matrix, and behind it the other
+-- the fields up to bit 94; there the intra matrix, and after it the other
 unfoldable pub sequenceHeader : List ℕ → Answer Mpeg2SequenceHeader
 sequenceHeader s =
     andThen (readHeader (startCode sequenceHeaderCode) sequenceHeaderFields s) (λ h.

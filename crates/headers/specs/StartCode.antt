@@ -1,4 +1,4 @@
--- next_start_code() (ISO/IEC 13818-2 5.2.3), as the headers look for the extension behind them.
+-- next_start_code() (ISO/IEC 13818-2 5.2.3), as the headers look for the extension after them.
 -- Assumes nothing.
 use Prim.Native.Nat.{ℕ, zero, suc, _+_, _-_}
 use mathlib.Core.List.{List, [], _∷_}

@@ -52,7 +52,7 @@ pub enum NextStartCode {
     Missing,
 }
 
-// The byte behind the zero bytes from `from` on.
+// The byte after the zero bytes from `from` on.
 fn past_zeros(buf: &[u8], from: usize) -> usize
     ensures { λ r. ⌜ r ≡ from + leadingZeros (drop from (now (buf .entry))) ⌝ }
 {

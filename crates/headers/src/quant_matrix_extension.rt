@@ -54,7 +54,7 @@ fn read_bytes(buf: &[u8], at: usize) -> MatrixRead
     }
 }
 
-// The load flag at bit `at` and, where it is 1, the 64 bytes behind it.
+// The load flag at bit `at` and, where it is 1, the 64 bytes after it.
 pub(crate) fn read_matrix(buf: &[u8], at: u32) -> MatrixRead
     ensures { λ r. ⌜ matrixAnswer r ≡ matrixAt (now (buf .entry)) at ⌝ }
     ensures { λ r. ⌜ r .matrix ≡ orElse noMatrix (matrixAt (now (buf .entry)) at) ⌝ }

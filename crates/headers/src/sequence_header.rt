@@ -89,7 +89,7 @@ pub(crate) fn refused(error: Error) -> SequenceHeaderRead
     }
 }
 
-// The bit behind the intra matrix.
+// The bit after the intra matrix.
 fn behind(load: bool) -> u32
     ensures { λ r. ⌜ r ≡ 95 + 512 * flagOf load ⌝ }
 {

@@ -1,4 +1,4 @@
--- The laws of picture_coding_extension(): the ways that reading it goes, what a parsed one has, and that bytes behind it do not matter.
+-- The laws of picture_coding_extension(): the ways that reading it goes, what a parsed one has, and that bytes after it do not matter.
 -- Assumes nothing.
 use mathlib.Core.Path.{_≡_, refl, ap}
 use mathlib.Core.List.{List}
@@ -42,7 +42,7 @@ behind-codes-same : (s h k : List ℕ) → ((i : ℕ) → getD h i 0 ≡ getD k 
 unfolding behindCodes codingExtensionOf
 behind-codes-same s h k e = rw (e 1, e 2, e 3, e 4)
 
--- the ways behind the f_codes
+-- the ways after the f_codes
 module _ (r : Fields) (s h : List ℕ) (e : fieldsAnswer r ≡ inPlaces (readFields codingFields s 52)) where
   pub behind-short : r .outcome ≡ Short → refused 1 0 0 0 ≡ behindCodes s h
   unfolding behindCodes
@@ -108,7 +108,7 @@ coding-code s x e =
     let p = coding-parsed s x e in
     header-got (startCode extensionStartCode) motionCodeFields s (p .h) (p .codes) .code-first
 
--- what stands behind the bytes does not matter, unless they are too short
+-- what stands after the bytes does not matter, unless they are too short
 pub coding-append : CodingStays
 unfolding pictureCodingExtension behindCodes
 coding-append s t =
@@ -123,6 +123,6 @@ coding-seen s =
     pick-elim ParseOutcome (not (motionCodesFit h)) (λ f. broken) (λ f.
     then-seen (fields-seen codingFields s 52) (λ vs. whole _)))
 
--- so what is too short with more behind it is too short
+-- so what is too short with more after it is too short
 pub coding-short-cut : CodingCut
 coding-short-cut s t = short-cut (coding-seen s) (coding-append s t)

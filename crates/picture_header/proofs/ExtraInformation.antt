@@ -1,5 +1,5 @@
 -- The laws of the extra information in a picture header: the walk from flag to flag, that it ends within the bytes, and that bytes
--- behind it change nothing.
+-- after it change nothing.
 -- Assumes nothing.
 use mathlib.Core.Path.{_≡_, refl, sym, ap, _∙_}
 use mathlib.Core.List.{List, [], _∷_, _++_}
@@ -153,7 +153,7 @@ extra-within zero (suc b ∷ bs) n e = case (extra 8 bs) refl e (λ m. extra-wit
 pub extra-inside : (s : List ℕ) (f n : ℕ) → extraAt s f ≡ value n → f + 9 * n + 1 ≤ 8 * length s
 extra-inside s f n e = omega (arith, extra-within 0 (drop f (bitList s)) n e, length-drop f (bitList s), bit-list-length s)
 
--- and bits behind do not matter, unless the bits end first
+-- and bits after do not matter, unless the bits end first
 extra-longer : (k : ℕ) (bs cs : List ℕ) → Stays (extra k bs) (extra k (bs ++ cs))
 unfolding extra
 extra-longer k [] cs = λ h. absurd (h refl)

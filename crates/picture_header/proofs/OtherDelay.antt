@@ -1,4 +1,4 @@
--- A picture header whose delay alone is another is read the same but for that; and what a parsed one says of the bits behind the delay.
+-- A picture header whose delay alone is another is read the same but for that; and what a parsed one says of the bits after the delay.
 -- Assumes nothing.
 use mathlib.Core.Path.{_≡_, refl, sym, ap, _∙_}
 use mathlib.Core.List.{List, [], _∷_}
@@ -111,7 +111,7 @@ module _ (s t : List ℕ) (o : OtherDelay s t) (h : Mpeg2PictureHeader) where
       ap (λ (n : ℕ). drop n t) (sym e) ∙ sym (drop-drop (k - 8) 8 t) ∙ ap (drop (k - 8)) (o .same-rest) ∙ drop-drop (k - 8) 8 s
       ∙ ap (λ (n : ℕ). drop n s) e
 
-  -- with its extension, where that stands behind the eight bytes
+  -- with its extension, where that stands after the eight bytes
   pub picture-delayed : (x : PictureCodingExtension) → picture s ≡ value (h, x) → 2 ≤ leadingZeros (drop (pictureHeaderBytes h) s)
       → picture t ≡ value (withDelay h (bitsAt t 45 16), x)
   unfolding behindHeader
@@ -124,7 +124,7 @@ module _ (s t : List ℕ) (o : OtherDelay s t) (h : Mpeg2PictureHeader) where
       sym (picture-behind t (withDelay h (bitsAt t 45 16)) g (rw delayed-type (r .not-dc)))
       ∙ rw (delayed-bytes h (bitsAt t 45 16), next-same s t (pictureHeaderBytes h) (r .place) (drop-same (pictureHeaderBytes h) b) (drop-same (r .place) l) (r .next), drop-same (r .place) l, r .coded)
 
--- ---- the bits behind the delay
+-- ---- the bits after the delay
 
 -- a type with a forward vector has its code in bits 62 to 64
 vector-code : (t : ℕ) (s m : List ℕ) → forward t ≡ true → readFields (motionFields t) s 61 ≡ value m → getD m 1 0 ≡ bitsAt s 62 3

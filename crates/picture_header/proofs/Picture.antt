@@ -1,4 +1,4 @@
--- The laws of a picture header with its extension: the ways that reading them goes, where the extension stands, and that bytes behind
+-- The laws of a picture header with its extension: the ways that reading them goes, where the extension stands, and that bytes after
 -- them do not matter.
 -- Assumes nothing.
 use mathlib.Core.Path.{_≡_, refl, sym, ap, _∙_}
@@ -47,7 +47,7 @@ was-no-dc : (t : PictureCodingType) → isDc t ≡ false → t ≡ DcIntra → �
 unfolding isDc
 was-no-dc t e d = let z : true ≡ false = rw d at (e) in absurd (clash cc)
 
--- the ways behind a header, and of both
+-- the ways after a header, and of both
 module _ (s : List ℕ) (h : Mpeg2PictureHeader) where
   pub behind-missing : refused 2 0 0 0 ≡ nextStartCode s (pictureHeaderBytes h) → refused 2 0 0 0 ≡ behindHeader s h
   unfolding behindHeader
@@ -101,7 +101,7 @@ picture-parsed s h x e =
       coded = c .1 ∙ ap value j;
     }
 
--- the extension's start code stands behind the header, with nothing but zero bytes between; its own two zeros may be the header's last
+-- the extension's start code stands after the header, with nothing but zero bytes between; its own two zeros may be the header's last
 pub record ExtensionPlaced (s : List ℕ) (h : Mpeg2PictureHeader) (p : ℕ) : Type 0 where
   pub code : take 4 (drop p s) ≡ startCode extensionStartCode
   pub room : p + 4 ≤ length s
@@ -129,7 +129,7 @@ picture-seen s =
     then-seen (next-seen s (pictureHeaderBytes h)) (λ p.
     then-seen (coding-seen (drop p s)) (λ x. whole _))))
 
--- what stands behind does not matter
+-- what stands after does not matter
 pub picture-append : PictureStays
 picture-append s t h x e =
     let r = picture-parsed s h x e in

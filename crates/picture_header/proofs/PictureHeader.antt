@@ -1,4 +1,4 @@
--- The laws of the picture header: the ways that reading it goes, what a parsed one says of the bytes, and that bytes behind it change
+-- The laws of the picture header: the ways that reading it goes, what a parsed one says of the bytes, and that bytes after it change
 -- nothing.
 -- Assumes nothing.
 use mathlib.Core.Path.{_≡_, refl, ap}
@@ -97,7 +97,7 @@ module _ (r : Fields) (s : List ℕ) (e : fieldsAnswer r ≡ inPlaces (readHeade
       let d = header-done r (startCode pictureStartCode) pictureFields s e o in
       rw (d .parsed) (behind-delay-same s (r .values) (d .vs) (d .same))
 
--- the ways behind the delay
+-- the ways after the delay
 module _ (r : Fields) (s h : List ℕ) (e : fieldsAnswer r ≡ inPlaces (readFields (motionFields (getD h 1 0)) s 61)) where
   pub motion-short : r .outcome ≡ Short → refused 1 0 0 0 ≡ behindDelay s h
   unfolding behindDelay
@@ -127,9 +127,9 @@ pub picture-header-case : {r x : PictureHeaderRead} {a : Answer Mpeg2PictureHead
 picture-header-case e f = rw (← e) f
 
 -- the length by the header
-pub length-refused : (s : List ℕ) (n : ℕ) → refused n 0 0 0 ≡ pictureHeader s → refused n 0 0 0 ≡ headerLength s
+pub header-length-refused : (s : List ℕ) (n : ℕ) → refused n 0 0 0 ≡ pictureHeader s → refused n 0 0 0 ≡ headerLength s
 unfolding headerLength
-length-refused s n e = rw (← e)
+header-length-refused s n e = rw (← e)
 
 pub length-parsed : (s : List ℕ) (h : Mpeg2PictureHeader) → value h ≡ pictureHeader s → value (pictureHeaderBytes h) ≡ headerLength s
 unfolding headerLength
@@ -207,7 +207,7 @@ module _ {s : List ℕ} {h : Mpeg2PictureHeader} (p : PictureHeaderParsed s h) w
   unfolding pictureHeaderBytes
   header-inside = omega (arith, p .last-flag)
 
--- bytes behind a header do not matter, unless it is too short
+-- bytes after a header do not matter, unless it is too short
 pub picture-header-append : PictureHeaderStays
 unfolding pictureHeader behindDelay
 picture-header-append s t =
@@ -222,6 +222,6 @@ picture-header-seen s =
     then-seen (fields-seen (motionFields (getD h 1 0)) s 61) (λ m.
     then-seen (extra-seen s (extraBit (getD h 1 0))) (λ n. whole _)))
 
--- so what is too short with more behind it is too short
+-- so what is too short with more after it is too short
 pub picture-header-short : PictureHeaderCut
 picture-header-short s t = short-cut (picture-header-seen s) (picture-header-append s t)

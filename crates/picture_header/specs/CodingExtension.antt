@@ -65,7 +65,7 @@ codingExtensionOf h vs = record {
   «composite_display_flag» = eqb (getD vs 11 0) 1;
 }
 
--- behind the f_codes, at bit 52
+-- after the f_codes, at bit 52
 unfoldable pub behindCodes : List ℕ → List ℕ → Answer PictureCodingExtension
 behindCodes s h = andThen (readFields codingFields s 52) (λ vs. value (codingExtensionOf h vs))
 

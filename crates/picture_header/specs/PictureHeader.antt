@@ -80,7 +80,7 @@ pictureOf h m n = record {
   «extra_information_bit» = extraBit (getD h 1 0);
 }
 
--- behind vbv_delay: at bit 61 what the type has of motion vectors' fields, and behind it the extra information
+-- after vbv_delay: at bit 61 what the type has of motion vectors' fields, and after it the extra information
 unfoldable pub behindDelay : List ℕ → List ℕ → Answer Mpeg2PictureHeader
 behindDelay s h =
     andThen (readFields (motionFields (getD h 1 0)) s 61) (λ m.

@@ -1,4 +1,4 @@
--- Bytes behind a header do not matter: what parses from a list parses the same from a longer one.
+-- Bytes after a header do not matter: what parses from a list parses the same from a longer one.
 -- Assumes nothing.
 use mathlib.Core.Path.{_≡_}
 use mathlib.Core.List.{List, _++_}
@@ -17,7 +17,7 @@ PictureHeaderStays = (s t : List ℕ) → (pictureHeader s ≡ refused 1 0 0 0 �
 abbrev pub CodingStays : Type 0
 CodingStays = (s t : List ℕ) → (pictureCodingExtension s ≡ refused 1 0 0 0 → ⊥) → pictureCodingExtension (s ++ t) ≡ pictureCodingExtension s
 
--- and what is too short with more bytes behind it (1) is too short without them
+-- and what is too short with more bytes after it (1) is too short without them
 abbrev pub PictureHeaderCut : Type 0
 PictureHeaderCut = (s t : List ℕ) → pictureHeader (s ++ t) ≡ refused 1 0 0 0 → pictureHeader s ≡ refused 1 0 0 0
 

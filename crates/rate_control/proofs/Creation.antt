@@ -23,7 +23,7 @@ use Rattle.vbv.specs.declared.VbvError.the-variants.{Params}
 use Rattle.vbv.specs.declared.VbvModel.{VbvModel}
 use Rattle.vbv.specs.declared.VbvModel.the-variants.{Model, Refused as NoModel}
 use Rattle.vbv.proofs.Fitting.{params-fit}
-use Rattle.vbv.proofs.Laws.{made}
+use Rattle.vbv.proofs.Laws.{model-made}
 use Rattle.rate_control.specs.Targets.{groupPictures, groupBits, groupWeight, target, targets}
 use Rattle.rate_control.specs.Answers.{createdAnswer}
 use Rattle.rate_control.specs.Create.{within, configFits, configParams, freshWriter, noWriter, create}
@@ -112,7 +112,7 @@ module _ (p : VbvParams) (between anchors : ℕ) (h : Shares p between anchors) 
 pub shared-out : (p : VbvParams) (m : VbvCbrModel) (between anchors : ℕ) → newModel p ≡ value m
     → p .«bit_rate» ≤ 104857200 → between ≤ 15 → anchors ≤ 255 → Shares (m .params) between anchors
 shared-out p m between anchors h r b a =
-    let k = made p m h in
+    let k = model-made p m h in
     let f = params-fit (k .params-fit) in
     rw (k .params-kept)
     (record { rate-high = r; frn-low = f .frn-low; frd-high = f .frd-high; between-high = b; anchors-high = a })
@@ -216,7 +216,7 @@ pub record Fresh (w : CbrWriter) : Type 0 where
 fresh : {c : CbrConfig} {w : CbrWriter} (x : Creation c w) → Fresh (freshWriter c (x .model))
 unfolding freshWriter every
 fresh {c} x =
-    let a = made _ (x .model) (x .model-is) in
+    let a = model-made _ (x .model) (x .model-is) in
     let f = config-bounds c (x .ranges) in
     let t : Shares (x .model .params) (c .«b_between») (c .«anchors_per_gop»)
     = shared-out _ (x .model) _ _ (x .model-is) (omega (arith, f .0 .rate-high)) (f .0 .between-high) (f .0 .anchors-high) in

@@ -97,7 +97,7 @@ nothing (suc k) o (b ∷ l) q = go (λ r. nothing k (suc o) l r) (starts (b ∷ 
 pub goes-on : (s : List ℕ) (i k : ℕ) → before (i + k) (nextCode s i) ≡ Nothing → nextCode s (i + k) ≡ nextCode s i
 goes-on s i k q = rw (next-first s (i + k), next-first s i, ← drop-drop k i s) (nothing k i (drop i s) (rw (next-first s i) at (q)))
 
--- a bound that leaves room for no code behind it cuts nothing off
+-- a bound that leaves room for no code after it cuts nothing off
 pub all-told : (s : List ℕ) (e i : ℕ) → length s < e + 4 → before e (nextCode s i) ≡ nextCode s i
 unfolding before pick
 all-told s e i h = go (nextCode s i) refl

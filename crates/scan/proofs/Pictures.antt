@@ -76,7 +76,7 @@ pictures-skip e (c ∷ cs) = go (pictures-skip e cs) (notPicture (c .code)) refl
     go ih true q = pictures-other e c cs q ∙ ih
     go ih false q = refl
 
--- ---- behind the slices
+-- ---- after the slices
 
 pub no-slices-end : (s : List ℕ) (k : ℕ) → found (skip (passed AtSlice) (codesAt s k)) ≡ Nothing → Nothing ≡ found (afterSlices (codesAt s k))
 unfolding afterSlices passed skip found
@@ -89,18 +89,18 @@ after-some s k g c e =
     let m : Sought notSlice s k g c = sought notSlice s k g c e in
     ap (skip isSlice) (m .again ∙ sym (m .list))
 
--- the code behind the slices that come next from k on: c, which stands at g
-pub record Behind (s : List ℕ) (k g c : ℕ) : Type 0 where
+-- the code after the slices that come next from k on: c, which stands at g
+pub record SlicesPassed (s : List ℕ) (k g c : ℕ) : Type 0 where
   pub from : k ≤ g
   pub room : g + 4 ≤ length s
   pub list : afterSlices (codesAt s k) ≡ record { offset = g; code = c } ∷ codesAt s (g + 4)
   pub again : codesAt s g ≡ record { offset = g; code = c } ∷ codesAt s (g + 4)
 
-pub behind : (s : List ℕ) (k g c : ℕ) → found (afterSlices (codesAt s k)) ≡ At g c → Behind s k g c
+pub slices-passed : (s : List ℕ) (k g c : ℕ) → found (afterSlices (codesAt s k)) ≡ At g c → SlicesPassed s k g c
 unfolding passed
-behind s k g c h = go (found (skip (passed AtSlice) (codesAt s k))) refl
+slices-passed s k g c h = go (found (skip (passed AtSlice) (codesAt s k))) refl
   where
-    go : (f : Found) → found (skip (passed AtSlice) (codesAt s k)) ≡ f → Behind s k g c
+    go : (f : Found) → found (skip (passed AtSlice) (codesAt s k)) ≡ f → SlicesPassed s k g c
     go Nothing e = let z : Nothing ≡ At g c = no-slices-end s k e ∙ h in absurd (clash cc)
     go (At b d) e =
         let m : Sought notSlice s k b d = sought notSlice s k b d e in
@@ -131,11 +131,11 @@ module _ (s : List ℕ) (i a d : ℕ) (f : found (skip (passed AtPicture) (codes
   module _ (g c : ℕ) (h : found (afterSlices (codesAt s (a + 4))) ≡ At g c) where
     pub next-ended : c ≡ sequenceEndCode → Picture a (g + 4) g ≡ nextPicture s i
     unfolding endAt goOn pick
-    next-ended e = rw (behind s (a + 4) g c h .list, e) at next-some
+    next-ended e = rw (slices-passed s (a + 4) g c h .list, e) at next-some
 
     pub next-followed : (c ≡ sequenceEndCode → ⊥) → Picture a g g ≡ nextPicture s i
     unfolding endAt goOn pick
-    next-followed n = rw (behind s (a + 4) g c h .list, ne-eqb c sequenceEndCode n) at next-some
+    next-followed n = rw (slices-passed s (a + 4) g c h .list, ne-eqb c sequenceEndCode n) at next-some
 
 -- ---- what a step of the walk says
 
@@ -191,9 +191,9 @@ slices-end s k h = go (found (afterSlices (codesAt s k))) refl
     go Nothing e =
         let u : afterSlices (codesAt s k) ≡ [] = unsought (afterSlices (codesAt s k)) e in
         rw u (record { same = u ∙ sym (at-end s); low = h; on = omega arith; high = omega arith; clear = next-low s (length s) })
-    go (At g c) e = let m : Behind s k g c = behind s k g c e in rw (m .list) (turn m (eqb c sequenceEndCode) refl)
+    go (At g c) e = let m : SlicesPassed s k g c = slices-passed s k g c e in rw (m .list) (turn m (eqb c sequenceEndCode) refl)
       where
-        turn : Behind s k g c → (t : Bool) → eqb c sequenceEndCode ≡ t → SlicesEnd s k (pick t (g + 4) g) g
+        turn : SlicesPassed s k g c → (t : Bool) → eqb c sequenceEndCode ≡ t → SlicesEnd s k (pick t (g + 4) g) g
         turn m true q = record {
           same = m .list ∙ sym (m .again);
           low = m .from;
@@ -269,7 +269,7 @@ walk-from s i (q ∷ qs) l = go (λ k x. walk-from s k qs x) (nextPicture s i) r
 pub walk-gives : WalkGivesPictures
 walk-gives s = walk-from s 0 (pictures s) (pictures-walk s)
 
--- from place i on, behind what ends at e
+-- from place i on, after what ends at e
 ordered : {s : List ℕ} {i : ℕ} {qs : List Pic} (e : ℕ) → ((a b k : ℕ) → nextPicture s i ≡ Picture a b k → e ≤ a) → WalkGives s i qs → InOrder (length s) e qs
 ordered e clear (walk.done h) = walk.none
 ordered {s} {i} e clear (walk.step {start = a} {end = b} {next = k} h t) =

@@ -1,4 +1,4 @@
--- A piece put together: headers before its picture, zeros behind it.
+-- A piece put together: headers before its picture, zeros after it.
 -- Assumes nothing.
 use mathlib.Core.Path.{_≡_, refl, sym, ap, _∙_}
 use Prim.Native.Nat.{ℕ, _+_}

@@ -140,7 +140,7 @@ pub fn first_sequence(s: &[u8]) -> Found
     seek(s, 0, Stop::AtSequence)
 }
 
-// The first code behind the slices that come next.
+// The first code after the slices that come next.
 fn after_slices(s: &[u8], from: usize) -> Found
     ensures { λ r. ⌜ r ≡ found (afterSlices (codesAt (now (s .entry)) from)) ⌝ }
 {

@@ -14,7 +14,7 @@ use Rattle.vbv.specs.Model.{delivered, modelFits, atDelivered, afterRemo
 use Rattle.vbv.specs.Steps.{EndFits}
 use Rattle.vbv.specs.Patch.{startsPicture, patched}
 use Rattle.vbv.proofs.Fitting.{model-fits, fitting-model, fitting-end, unit-pos}
-use Rattle.vbv.proofs.Laws.{over-units, fits-params, delivered-at, delivered-after, removed, removes}
+use Rattle.vbv.proofs.Laws.{over-units, fits-params, delivered-at, delivered-after, picture-removed, removes}
 use Rattle.vbv.proofs.Told.{next-delivered-is}
 use Rattle.vbv.proofs.Patching.{patched-length, patch-none}
 
@@ -53,7 +53,7 @@ module _ (m : VbvCbrModel) (f : modelFits m ≡ true) (d : ℕ) (o : overflows (
   after-fits end i g u =
       let n : VbvCbrModel = atDelivered m d in
       let e = delivered-at m d in
-      let r = removed n end i _ (removes n end i at-fits refl (fitting-end n end (record { end-far = g .end-far; end-low = g .end-low; count = g .count })) (rw e o) (rw e u)) in
+      let r = picture-removed n end i _ (removes n end i at-fits refl (fitting-end n end (record { end-far = g .end-far; end-low = g .end-low; count = g .count })) (rw e o) (rw e u)) in
       rw (next-delivered-is n i, e) at (r .fits)
 
 -- patching keeps the length

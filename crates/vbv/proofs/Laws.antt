@@ -183,9 +183,9 @@ pub record Made (p : VbvParams) (m : VbvCbrModel) : Type 0 where
   pub unstarted : m .started ≡ false
   pub fits : modelFits m ≡ true
 
-pub made : (p : VbvParams) (m : VbvCbrModel) → newModel p ≡ value m → Made p m
+pub model-made : (p : VbvParams) (m : VbvCbrModel) → newModel p ≡ value m → Made p m
 unfolding newModel
-made p m h =
+model-made p m h =
     let a = was-held (paramsFit p) _ _ refused-value h in
     let e : m ≡ record { params = p; whole = 0; rest = 0; «prev_end_bits» = 0; removed = 0; started = false } = cc (a .1) in
     rw e
@@ -290,10 +290,10 @@ pub record Removed (m : VbvCbrModel) (end : ℕ) (i : RemovalInterval) (next : V
   pub is-started : next .started ≡ true
   pub fits : modelFits next ≡ true
 
-pub removed : (m : VbvCbrModel) (end : ℕ) (i : RemovalInterval) (next : VbvCbrModel) → removePicture m end i ≡ value next
+pub picture-removed : (m : VbvCbrModel) (end : ℕ) (i : RemovalInterval) (next : VbvCbrModel) → removePicture m end i ≡ value next
     → Removed m end i next
 unfolding removePicture afterRemoval
-removed m end i next h =
+picture-removed m end i next h =
     let a = was-held (modelFits m) _ _ refused-value h in
     let b = was-held (m .started) _ _ refused-value (a .1) in
     let c = was-held (endFits m end) _ _ refused-value (b .1) in

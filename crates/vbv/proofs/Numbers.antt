@@ -5,7 +5,7 @@ use Prim.Native.Nat.{ℕ}
 use Rattle.bits.specs.Bits.{pick}
 use Rattle.bits.specs.Refusals.{Answer}
 use Rattle.vbv.specs.Answers.{modelNumber, modelAnswer, removalAnswer, delayAnswer, modelBitsAnswer, rateAnswer}
-use Rattle.vbv.specs.Steps.{modelErrorOf, modelOf, delayOf, bitsOf, removalOf, rateOf}
+use Rattle.vbv.specs.Steps.{modelErrorOf, modelOf, delayOf, bitsOf, removalOf, frameRateOf}
 use Rattle.vbv.specs.declared.VbvCbrModel.{VbvCbrModel}
 use Rattle.vbv.specs.declared.VbvError.{VbvError}
 use Rattle.vbv.specs.declared.VbvError.the-variants.{FrameRateCode, Early, DelayTooLong, Params, Order, Range}
@@ -67,8 +67,8 @@ removal-back (rm.Model m) = refl
 removal-back (rm.Refused e) = refusal-back e
 removal-back (rm.Violation v) = violation-back v
 
-rate-back : (r : FrameRate) → rateOf (rateAnswer r) ≡ r
-unfolding rateOf
+rate-back : (r : FrameRate) → frameRateOf (rateAnswer r) ≡ r
+unfolding frameRateOf
 rate-back (fr.Rate n d) = refl
 rate-back (fr.Refused e) = ap fr.Refused (model-error-back e)
 

@@ -1,4 +1,4 @@
--- The patch of a picture header: the three bytes that it changes, and the bits before, in and behind the delay.
+-- The patch of a picture header: the three bytes that it changes, and the bits before, in and after the delay.
 -- Assumes nothing.
 use mathlib.Core.Path.{_≡_, refl, sym, _∙_}
 use mathlib.Core.Bool.{true, false}

@@ -74,6 +74,6 @@ removalOf (refused n k c e) =
     (pick (eqb n 11) (rm.Violation (DelayMismatch k c e))
     (rm.Refused (modelErrorOf n))))
 
-unfoldable pub rateOf : Answer (ℕ × ℕ) → FrameRate
-rateOf (value f) = fr.Rate (f .0) (f .1)
-rateOf (refused n k c e) = fr.Refused (modelErrorOf n)
+unfoldable pub frameRateOf : Answer (ℕ × ℕ) → FrameRate
+frameRateOf (value f) = fr.Rate (f .0) (f .1)
+frameRateOf (refused n k c e) = fr.Refused (modelErrorOf n)

@@ -17,7 +17,7 @@ pub enum VbvStep {
     Violation(VbvViolation),
 }
 
-// The model behind a call, and the call's answer.
+// The model after a call, and the call's answer.
 pub struct VbvStepped {
     pub model: VbvCbrModel,
     pub answer: VbvStep,

@@ -13,7 +13,7 @@ use Rattle.vbv.specs.Steps.{EndFits}
 use Rattle.vbv.specs.declared.VbvParams.{VbvParams}
 use Rattle.vbv.specs.declared.VbvCbrModel.{VbvCbrModel}
 use Rattle.vbv.proofs.Fitting.{fitting-end}
-use Rattle.vbv.proofs.Laws.{fits-params, occupancy-most, units-over, units-beyond, Removed as WasRemoved, removed as was-removed, removes}
+use Rattle.vbv.proofs.Laws.{fits-params, occupancy-most, units-over, units-beyond, Removed as WasRemoved, picture-removed as was-removed, removes}
 use Rattle.vbv.proofs.Told.{next-delivered-is}
 use Rattle.verify.specs.declared.CodedPicture.{CodedPicture}
 use Rattle.verify.specs.declared.VbvPictureRecord.{VbvPictureRecord}

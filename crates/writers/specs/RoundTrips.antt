@@ -17,7 +17,7 @@ use Rattle.headers.specs.declared.gop_header.Mpeg2Gop.{Mpeg2Gop}
 abbrev pub groupWritten : Mpeg2Gop → List ℕ
 groupWritten g = writeHeader (startCode groupStartCode) groupFields (groupValues g)
 
--- a written group header reads as the values given, whatever stands behind it
+-- a written group header reads as the values given, whatever stands after it
 abbrev pub GroupWrittenReads : Type 0
 GroupWrittenReads = (g : Mpeg2Gop) (behind : List ℕ) → fitsAll groupFields (groupValues g) ≡ true
     → readHeader (startCode groupStartCode) groupFields (groupWritten g ++ behind) ≡ value (groupValues g)
