@@ -14,7 +14,7 @@ use Rattle.bits.specs.Bits.{pick, bitsAt, there}
 use Rattle.bits.specs.Refusals.{Answer, value, refused, andThen, number}
 use Rattle.bits.specs.Fields.{Field, field, anyValue, obeys, readFields, sameBytes, readHeader, total}
 use Rattle.bits.specs.Answers.{readBits, bitsAnswer, greatest, tableOf, places, inPlaces, outcomeAnswer, fieldsAnswer}
-use Rattle.bits.proofs.Flags.{and-left, and-right, pick-elim, clash, both-true}
+use Rattle.bits.proofs.Flags.{pick-elim, clash, both-true}
 use Rattle.bits.proofs.Laws.{bits-bound, bits-append, bits-drop}
 use Rattle.bits.specs.declared.Bits.{Bits}
 use Rattle.bits.specs.declared.Fields.{Fields}

@@ -1,7 +1,7 @@
 // Bit fields in byte slices, high bit first.
 ghost use mathlib.Core.Path.{_≡_};
 ghost use mathlib.Core.Bool.{true};
-ghost use Prim.Native.Nat.{_+_, _-_, _<_, _≤_, _*_, _/_, _%_, _^_};
+ghost use Prim.Native.Nat.{_+_, _<_, _≤_, _*_, _/_, _%_, _^_};
 ghost use lib.ListN.{length, take};
 ghost use Rattle.bits.specs.Bits.{bitsAt, there, appendBits};
 ghost use Rattle.bits.specs.Fields.{field, readFields, sameBytes, readHeader, fitsField, fitsAll, fieldBits, total};

@@ -7,7 +7,7 @@ use native.Mathlib.Omega.{arith}
 use lib.ListN.{length, take, drop}
 use lib.Seq.{drop-append-le}
 use Rattle.bits.specs.Refusals.{Answer, value, refused, andThen, number, orElse}
-use Rattle.bits.proofs.Reading.{ParseOutcome, whole, then-seen, rest-is}
+use Rattle.bits.proofs.Reading.{rest-is}
 use Rattle.bits.proofs.Following.{then-value}
 use Rattle.headers.specs.Answers.{headerRefusal, flagged, headerAnswer, sequenceAnswer}
 use Rattle.headers.specs.StartCode.{nextStartCode}
@@ -15,9 +15,9 @@ use Rattle.headers.specs.SequenceHeader.{sequenceHeader, sequenceHeaderB
 use Rattle.headers.specs.SequenceExtension.{sequenceExtension}
 use Rattle.headers.specs.Sequence.{sequenceOf, noSequence, sequence}
 use Rattle.headers.specs.RoundTrips.{SequenceStays}
-use Rattle.headers.proofs.StartCode.{next-seen, next-found, next-append}
-use Rattle.headers.proofs.SequenceHeader.{HeaderBounds, sequence-header-seen, sequence-header-bounds, sequence-header-append}
-use Rattle.headers.proofs.SequenceExtension.{extension-seen, extension-append}
+use Rattle.headers.proofs.StartCode.{next-found, next-append}
+use Rattle.headers.proofs.SequenceHeader.{HeaderBounds, sequence-header-bounds, sequence-header-append}
+use Rattle.headers.proofs.SequenceExtension.{extension-append}
 use Rattle.headers.specs.declared.Error.{Error}
 use Rattle.headers.specs.declared.sequence_header.Answer.{Answer as Flag}
 use Rattle.headers.specs.declared.sequence_header.Mpeg2SequenceHeader.{Mpeg2SequenceHeader}

@@ -10,7 +10,7 @@ use Rattle.bits.specs.Refusals.{Answer, value, refused, orElse}
 use Rattle.bits.specs.Fields.{readHeader}
 use Rattle.bits.specs.StartCodes.{startCode, sequenceHeaderCode}
 use Rattle.bits.proofs.Flags.{both-true}
-use Rattle.bits.proofs.Reading.{ParseOutcome, whole, then-seen, header-seen as table-seen, read-range, header-got, header-append}
+use Rattle.bits.proofs.Reading.{ParseOutcome, whole, then-seen, header-seen, read-range, header-got, header-append}
 use Rattle.bits.proofs.Following.{then-value, then-stays, short-cut}
 use Rattle.headers.specs.Answers.{flagOf, headerRefusal, headerAnswer}
 use Rattle.headers.specs.Steps.{matrixAt, matrixAnswer}
@@ -171,7 +171,7 @@ sequence-header-bounds s h a =
 pub sequence-header-seen : (s : List ℕ) → ParseOutcome (sequenceHeader s)
 unfolding sequenceHeader
 sequence-header-seen s =
-    then-seen (table-seen (startCode sequenceHeaderCode) sequenceHeaderFields s) (λ h.
+    then-seen (header-seen (startCode sequenceHeaderCode) sequenceHeaderFields s) (λ h.
     then-seen (matrix-found s 94) (λ intra.
     then-seen (matrix-found s (95 + 512 * getD intra 0 0)) (λ nonIntra.
     whole _)))

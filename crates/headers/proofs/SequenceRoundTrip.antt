@@ -2,7 +2,7 @@
 -- Assumes nothing.
 use mathlib.Core.Path.{_≡_, refl, sym, ap, _∙_}
 use mathlib.Core.List.{List, _++_}
-use mathlib.Core.Bool.{Bool, true, false}
+use mathlib.Core.Bool.{false}
 use Prim.Native.Nat.{ℕ, _+_, _*_, _/_}
 use native.Mathlib.Omega.{arith}
 use lib.Dec.{eqb}
@@ -23,7 +23,6 @@ use Rattle.headers.specs.StreamWriter.{paramsFields, baseValues, paramsV
 use Rattle.headers.specs.RoundTrips.{sequenceWritten, Writable, WrittenReads, ReadWrites}
 use Rattle.headers.specs.declared.quant_matrix_extension.QuantiserMatrix.{QuantiserMatrix}
 use Rattle.headers.specs.declared.sequence_header.AspectRatio.{AspectRatio}
-use Rattle.headers.specs.declared.sequence_header.AspectRatio.the-variants.{Reserved}
 use Rattle.headers.proofs.Answers.{spread, spread-is}
 use Rattle.headers.proofs.QuantMatrix.{matrix-flag, matrix-fields-back, matrix-values-back, matrix-read-back, matrix-of-values, matrix-count, matrix-places, matrix-total}
 use Rattle.headers.proofs.SequenceHeader.{fixedFields, header-parsed, header-parts}

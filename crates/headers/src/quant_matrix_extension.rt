@@ -1,6 +1,6 @@
 // The 64-byte quantiser matrix of a sequence header, with its load flag (6.2.2.1, 6.3.11).
 ghost use mathlib.Core.Path.{_≡_};
-ghost use Prim.Native.Nat.{_+_, _≤_};
+ghost use Prim.Native.Nat.{_≤_};
 ghost use Rattle.bits.specs.Refusals.{orElse};
 ghost use Rattle.headers.specs.QuantMatrix.{noMatrix};
 ghost use Rattle.headers.specs.Steps.{matrixAt, loadedAt, matrixAnswer};

@@ -9,7 +9,7 @@ use lib.ListN.{length, length-append, take}
 use Rattle.bits.specs.Bits.{pick}
 use Rattle.bits.specs.Refusals.{Answer}
 use Rattle.bits.proofs.Over.{over-take}
-use Rattle.vbv.proofs.After.{removal-made as model-after}
+use Rattle.vbv.proofs.After.{model-after}
 use Rattle.vbv.proofs.Fitting.{model-fits}
 use Rattle.rate_control.specs.Answers.{Given}
 use Rattle.rate_control.specs.Writer.{writerFits}

@@ -18,16 +18,16 @@ use Rattle.vbv.proofs.Laws.{over-units, fits-params, delivered-at, deli
 use Rattle.vbv.proofs.Told.{next-delivered-is}
 use Rattle.vbv.proofs.Patching.{patched-length, patch-none}
 
-pub record RemovalMade (m : VbvCbrModel) (end d : ℕ) (next : VbvCbrModel) : Type 0 where
+pub record ModelAfter (m : VbvCbrModel) (end d : ℕ) (next : VbvCbrModel) : Type 0 where
   pub params-kept : next .params ≡ m .params
   pub end-is : next .«prev_end_bits» ≡ end
   pub count-is : next .removed ≡ m .removed + 1
   pub is-started : next .started ≡ true
   pub delivered-is : delivered next ≡ d
 
-pub removal-made : (m : VbvCbrModel) (end d : ℕ) → RemovalMade m end d (afterRemoval m end d)
+pub model-after : (m : VbvCbrModel) (end d : ℕ) → ModelAfter m end d (afterRemoval m end d)
 unfolding afterRemoval
-removal-made m end d = record { params-kept = refl; end-is = refl; count-is = refl; is-started = refl; delivered-is = delivered-after m end d }
+model-after m end d = record { params-kept = refl; end-is = refl; count-is = refl; is-started = refl; delivered-is = delivered-after m end d }
 
 -- it hangs on the parameters and the count alone
 pub after-same : (m n : VbvCbrModel) (end d : ℕ) → n .params ≡ m .params → n .removed ≡ m .removed → afterRemoval n end d ≡ afterRemoval m end d

@@ -3,13 +3,13 @@
 use mathlib.Core.Path.{_≡_, refl, ap, sym, _∙_}
 use mathlib.Core.Bool.{true, false}
 use mathlib.Core.Logic.{⊎-elim}
-use Prim.Native.Nat.{ℕ, _+_, _-_, _*_, _/_, _^_, _≤_, _<_}
+use Prim.Native.Nat.{ℕ, _+_, _-_, _*_, _/_, _≤_, _<_}
 use native.Mathlib.Omega.{arith}
 use native.Mathlib.Nat.{mod-lt, div-add-mod', mul-le-mul, le-of-mul-le-mul-right, div-lt-iff-lt-mul, le-div-iff-mul-le}
 use lib.Arith.{digits-div}
 use lib.Dec.{ltb}
 use borrow.Author.Tests.{ltb-true, ltb-false, le-ltb}
-use Rattle.bits.specs.Refusals.{value, refused}
+use Rattle.bits.specs.Refusals.{value}
 use Rattle.bits.proofs.Following.{refused-value}
 use Rattle.bits.proofs.Appending.{lt-or-le}
 use Rattle.vbv.specs.declared.RemovalInterval.{RemovalInterval}
@@ -242,32 +242,6 @@ unfolding startModel
 model-starts m delay position f s h = sym (held _ _ _ f (no _ _ _ s (no _ _ _ (le-ltb _ _ h) refl)))
 
 -- a delay told
-pub record Delayed (m : VbvCbrModel) (position r : ℕ) : Type 0 where
-  pub fitted : modelFits m ≡ true
-  pub was-started : m .started ≡ true
-  pub position-far : position ≤ farthest
-  pub in-time : beyond (m .params) position (delivered m) ≡ false
-  pub delay-is : r ≡ expectedDelay (m .params) position (delivered m)
-  pub delay-low : r ≤ 65534
-
-pub delayed : (m : VbvCbrModel) (position r : ℕ) → delayForPicture m position ≡ value r → Delayed m position r
-unfolding delayForPicture
-delayed m position r h =
-    let a = was-held (modelFits m) _ _ refused-value h in
-    let b = was-held (m .started) _ _ refused-value (a .1) in
-    let c = was-no _ _ _ refused-value (b .1) in
-    let d = was-no _ _ _ refused-value (c .1) in
-    let e = was-no _ _ _ refused-value (d .1) in
-    let same : r ≡ expectedDelay (m .params) position (delivered m) = cc (e .1) in
-    record {
-      fitted = a .0;
-      was-started = b .0;
-      position-far = ltb-false _ _ (c .0);
-      in-time = d .0;
-      delay-is = same;
-      delay-low = rw same (ltb-false _ _ (e .0));
-    }
-
 pub delays : (m : VbvCbrModel) (position : ℕ) → modelFits m ≡ true → m .started ≡ true → position ≤ farthest
     → beyond (m .params) position (delivered m) ≡ false → expectedDelay (m .params) position (delivered m) ≤ 65534
     → delayForPicture m position ≡ value (expectedDelay (m .params) position (delivered m))
