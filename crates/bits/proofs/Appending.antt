@@ -124,7 +124,7 @@ pub pack-bit : (bs : List ℕ) (j : ℕ) → Below 2 bs → j < 8 * ((length bs 
 unfolding pack
 pack-bit bs j b h = bytes-bit (λ i. getD bs i 0) ((length bs + 7) / 8) j b h
 
--- bits that stand in bytes, with zeros behind them to a whole byte, pack to these bytes
+-- bits that stand in bytes, with zeros after them to a whole byte, pack to these bytes
 pub pack-is : (bs s : List ℕ) → Below 256 s → (length bs + 7) / 8 ≤ length s
     → ((k : ℕ) → k < 8 * ((length bs + 7) / 8) → getD bs k 0 ≡ bitAt s k) → pack bs ≡ take ((length bs + 7) / 8) s
 unfolding pack
@@ -225,7 +225,7 @@ module _ (s : List ℕ) (i : ℕ) (bs : List ℕ) where
     append-length =
         simp (length-append, length-drop, length-packed) (omega arith)
 
-    -- the bytes behind stay
+    -- the bytes after stay
     pub append-behind : (m : ℕ) → (i + length bs + 7) / 8 ≤ m → drop m (appendBits s i bs) ≡ drop m s
     unfolding appendBits
     append-behind m l =

@@ -2,7 +2,7 @@
 -- Assumes nothing.
 use mathlib.Core.Path.{_≡_, refl, sym, ap, _∙_}
 use mathlib.Core.List.{List, [], _∷_}
-use mathlib.Core.Bool.{Bool, true, false, not, _&&_}
+use mathlib.Core.Bool.{Bool, true, false, not, _&&_, false≢true}
 use Prim.Native.Nat.{ℕ, zero, suc, _+_, _*_, _^_, _≤_, _<_, zero-le}
 use native.Mathlib.Numerals.{add-one}
 use native.Mathlib.Nat.{zero-add, add-zero}
@@ -16,7 +16,8 @@ use Rattle.bits.specs.Refusals.{Answer, value, refused}
 use Rattle.bits.specs.Fields.{Field, field, obeys, fitsField, fitsAll, total}
 use Rattle.bits.specs.Answers.{greatest, tableOf, checkFields, checkedAnswer}
 use Rattle.bits.specs.declared.Checked.{Checked}
-use Rattle.bits.proofs.Reading.{both-true, fieldAt, table-at, table-room, obeys-is, obeys-true}
+use Rattle.bits.proofs.Flags.{both-true}
+use Rattle.bits.proofs.Reading.{fieldAt, table-at, table-room, obeys-is, obeys-true}
 
 -- values that fit a table, as a proposition
 pub data Fits : List Field → List ℕ → Type 0 where
@@ -24,14 +25,11 @@ pub data Fits : List Field → List ℕ → Type 0 where
   fits-more : {f : Field} {fs : List Field} {v : ℕ} {vs : List ℕ}
       → f .width ≤ 32 → v < 2 ^ f .width → f .low ≤ v → v ≤ f .high → Fits fs vs → Fits (f ∷ fs) (v ∷ vs)
 
-never : false ≡ true → ⊥
-never e = let z : _≡_ {A = ℕ} 0 1 = cc in omega arith
-
 pub fits-of : (fs : List Field) (vs : List ℕ) → fitsAll fs vs ≡ true → Fits fs vs
 unfolding fitsAll fitsField
 fits-of [] [] e = fits-none
-fits-of [] (v ∷ vs) e = absurd (never e)
-fits-of (f ∷ fs) [] e = absurd (never e)
+fits-of [] (v ∷ vs) e = absurd (false≢true e)
+fits-of (f ∷ fs) [] e = absurd (false≢true e)
 fits-of (f ∷ fs) (v ∷ vs) e =
     let a = both-true (fitsField f v) (fitsAll fs vs) e in
     let b = both-true (leb (f .width) 32) (ltb v (2 ^ f .width) && obeys f v) (a .0) in

@@ -9,7 +9,7 @@ use borrow.Author.Tests.{le-ltb}
 use lib.ListN.{length, replicate, length-append}
 use Rattle.bits.specs.Bits.{pick, digits, bitList, appendBits}
 use Rattle.bits.specs.Refusals.{value}
-use Rattle.bits.specs.Fields.{Field, any, fieldBits, writeHeader, fitsAll, total}
+use Rattle.bits.specs.Fields.{Field, anyValue, fieldBits, writeHeader, fitsAll, total}
 use Rattle.bits.specs.Answers.{over, writeAnswer, writeResult}
 use Rattle.bits.proofs.Laws.{bit-list-length}
 use Rattle.bits.proofs.Appending.{Below, below-append, bit-list-bound, append-append}
@@ -36,12 +36,12 @@ fits-append (f ∷ fs) gs [] ws e = absurd (omega arith)
 fits-append (f ∷ fs) gs (v ∷ vs) ws e = rw (fits-append fs gs vs ws (omega arith), and-assoc)
 
 -- bytes fit a field for each
-pub fits-bytes : (n : ℕ) (s : List ℕ) → length s ≡ n → Below 256 s → Fits (replicate n (any 8)) s
+pub fits-bytes : (n : ℕ) (s : List ℕ) → length s ≡ n → Below 256 s → Fits (replicate n (anyValue 8)) s
 fits-bytes zero [] e b = fits-none
 fits-bytes zero (x ∷ s) e b = absurd (omega arith)
 fits-bytes (suc n) [] e b = absurd (omega arith)
 fits-bytes (suc n) (x ∷ s) e b =
-    fits-more {f = any 8} (omega arith) (b 0) zero-le (omega (arith, b 0)) (fits-bytes n s (omega arith) (λ k. b (suc k)))
+    fits-more {f = anyValue 8} (omega arith) (b 0) zero-le (omega (arith, b 0)) (fits-bytes n s (omega arith) (λ k. b (suc k)))
 
 module _ (code : List ℕ) (fs : List Field) (vs out : List ℕ) where
   -- the fields of a second table appended to a header written

@@ -57,7 +57,7 @@ pub bits-more : (s : List ℕ) (i n : ℕ) → bitsAt s i (n + 1) ≡ bitsAt s i
 unfolding bitsAt num
 bits-more s i n = rw (add-one n)
 
--- what stands behind the bytes does not matter
+-- what stands after the bytes does not matter
 pub bit-append : (s t : List ℕ) (i : ℕ) → i < 8 * length s → bitAt (s ++ t) i ≡ bitAt s i
 unfolding bitAt
 bit-append s t i h = rw (List·getD-append s t 0 (i / 8) (omega arith))
@@ -86,7 +86,7 @@ unfolding digits
 length-digits zero v = refl
 length-digits (suc w) v = ap suc (length-digits w v)
 
--- digit k of w is the bit with w - (k + 1) bits behind it
+-- digit k of w is the bit with w - (k + 1) bits after it
 pub digit-at : (w v k : ℕ) → k < w → getD (digits w v) k 0 ≡ v / 2 ^ (w - suc k) % 2
 unfolding digits
 digit-at zero v k h = omega arith

@@ -11,7 +11,7 @@ use Rattle.bits.specs.Refusals.{Answer, refused, andThen}
 use Rattle.bits.specs.Fields.{Field, readFields, readHeader}
 use Rattle.bits.specs.Answers.{writeAnswer}
 use Rattle.bits.specs.Numbers.{oneOf, Numbered, a-value, by-number, by-picture, by-all}
-use Rattle.bits.proofs.Flags.{and-left, and-right, pick-elim}
+use Rattle.bits.proofs.Flags.{and-left, and-right, pick-elim, clash}
 
 -- a refusal stays one that may be
 pub and-then : {X Y : Type 0} {alone pictured full : List ℕ} {a : Answer X} (next : X → Answer Y) → Numbered alone pictured full a
@@ -49,7 +49,7 @@ not-zero ns (suc n) z h = omega arith
 
 pub refused-low : {X : Type 0} {alone pictured full : List ℕ} {a : Answer X} {n k c e : ℕ} → oneOf alone 0 ≡ false → oneOf pictured 0 ≡ false → oneOf full 0 ≡ false
     → Numbered alone pictured full a → a ≡ refused n k c e → 1 ≤ n
-refused-low p q r a-value h = absurd (let z : _≡_ {A = ℕ} 0 1 = cc in omega arith)
+refused-low p q r a-value h = absurd (clash cc)
 refused-low {alone = ns} {n = n} p q r (by-number {n = m} i) h = let z : m ≡ n = cc in rw (← z) (not-zero ns m p i)
 refused-low {pictured = ns} {n = n} p q r (by-picture {n = m} i) h = let z : m ≡ n = cc in rw (← z) (not-zero ns m q i)
 refused-low {full = ns} {n = n} p q r (by-all {n = m} i) h = let z : m ≡ n = cc in rw (← z) (not-zero ns m r i)

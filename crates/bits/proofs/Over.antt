@@ -34,7 +34,7 @@ pub over-none : {X : Type 0} (old : List X) → over [] old ≡ old
 unfolding over
 over-none old = refl
 
--- stored one run behind another
+-- stored one run after another
 pub sets-append : {X : Type 0} (x y out : List X) (k : ℕ) → sets out k (x ++ y) ≡ sets (sets out k x) (k + length x) y
 sets-append [] y out k = rw (add-zero k)
 sets-append (b ∷ x) y out k = rw (add-suc k (length x), ← suc-add k (length x)) (sets-append x y (set out k b) (suc k))

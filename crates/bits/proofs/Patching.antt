@@ -64,7 +64,7 @@ module _ (s : List ℕ) (i : ℕ) (bs : List ℕ) (h : i + length bs ≤ 8 * len
         (λ (g : 8 * length s ≤ j). bit-past (setBits s i bs) j (omega (arith, set-length)) ∙ sym (bit-past s j g))
         (lt-or-le j (8 * length s))
 
-    -- the bits before and behind stay
+    -- the bits before and after stay
     pub set-before : (k n : ℕ) → k + n ≤ i → bitsAt (setBits s i bs) k n ≡ bitsAt s k n
     unfolding bitsAt
     set-before k n l = num-same (bitAt (setBits s i bs)) (bitAt s) k k n (λ j g. bit-before (k + j) (omega arith))
@@ -99,7 +99,7 @@ pack-bit-list : (s : List ℕ) → Below 256 s → pack (bitList s) ≡ s
 unfolding pack bytesOf
 pack-bit-list s b = ap pack (sym (append-nil (bitList s))) ∙ pack-bytes s [] b ∙ append-nil s
 
--- bytes before and behind stay as they are
+-- bytes before and after stay as they are
 pub set-within : (p m q : List ℕ) (o : ℕ) (bs : List ℕ) → Below 256 p → Below 256 q → Below 2 bs → o + length bs ≤ 8 * length m
     → setBits (p ++ (m ++ q)) (8 * length p + o) bs ≡ p ++ (setBits m o bs ++ q)
 unfolding setBits

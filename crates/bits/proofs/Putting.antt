@@ -11,7 +11,7 @@ use lib.Dec.{lit<}
 use lib.ListN.{length, getD, take, drop, replicate, length-append, take-append-drop}
 use lib.Seq.{take-suc, take-all, length-take-le}
 use Rattle.bits.specs.Bits.{pick, there, digits, bitList, appendBits}
-use Rattle.bits.specs.Fields.{Field, field, any, fieldBits, total}
+use Rattle.bits.specs.Fields.{Field, field, anyValue, fieldBits, total}
 use Rattle.bits.specs.Answers.{tableOf, wroteBits}
 use Rattle.bits.proofs.Laws.{length-digits}
 use Rattle.bits.proofs.Reading.{there-is, fieldAt, table-at, table-room}
@@ -47,7 +47,7 @@ total-append [] gs = omega arith
 total-append (f ∷ fs) gs = omega (arith, total-append fs gs)
 
 -- a field for each byte
-pub field-bits-bytes : (n : ℕ) (s : List ℕ) → length s ≡ n → fieldBits (replicate n (any 8)) s ≡ bitList s
+pub field-bits-bytes : (n : ℕ) (s : List ℕ) → length s ≡ n → fieldBits (replicate n (anyValue 8)) s ≡ bitList s
 unfolding fieldBits bitList
 field-bits-bytes zero [] e = refl
 field-bits-bytes zero (b ∷ s) e = absurd (omega arith)

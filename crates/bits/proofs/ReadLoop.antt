@@ -11,19 +11,19 @@ use lib.Seq.{drop-cons, drop-set-lt, take-suc-set, length-take-le}
 use Rattle.bits.specs.Bits.{bitsAt, there}
 use Rattle.bits.specs.Refusals.{Answer, value, refused, orElse}
 use Rattle.bits.specs.Fields.{field, obeys, readFields}
-use Rattle.bits.specs.Answers.{readBits, greatest, tableOf, places, placed, noValues, fieldsAnswer}
+use Rattle.bits.specs.Answers.{readBits, greatest, tableOf, places, inPlaces, noValues, fieldsAnswer}
 use Rattle.bits.specs.declared.Fields.{Fields}
 use Rattle.bits.specs.declared.Outcome.the-variants.{Done, Short, Bad}
-use Rattle.bits.proofs.Reading.{there-true, found, missed, fieldAt, table-room, table-at, after, after-none, after-after, read-short, read-bad, read-more, obeys-low, obeys-high, obeys-is}
+use Rattle.bits.proofs.Reading.{there-true, bits-found, missed, fieldAt, table-room, table-at, prepended, prepended-none, after-after, read-short, read-bad, read-more, obeys-low, obeys-high, obeys-is}
 
 -- what the code answers of a table: its number, and the values or zeros
-abbrev Told : Fields → Answer (List ℕ) → Type 0
-Told r p = (fieldsAnswer r ≡ placed p) × (r .values ≡ orElse noValues (placed p))
+abbrev FieldsTold : Fields → Answer (List ℕ) → Type 0
+FieldsTold r p = (fieldsAnswer r ≡ inPlaces p) × (r .values ≡ orElse noValues (inPlaces p))
 
-pub told-short : {r : Fields} (p : Answer (List ℕ)) → (r .outcome ≡ Short) × (r .values ≡ noValues) → p ≡ refused 1 0 0 0 → Told r p
+pub told-short : {r : Fields} (p : Answer (List ℕ)) → (r .outcome ≡ Short) × (r .values ≡ noValues) → p ≡ refused 1 0 0 0 → FieldsTold r p
 told-short p e q = (rw (q, e .0), rw q (e .1))
 
-pub told-bad : {r : Fields} (p : Answer (List ℕ)) → (r .outcome ≡ Bad) × (r .values ≡ noValues) → p ≡ refused 2 0 0 0 → Told r p
+pub told-bad : {r : Fields} (p : Answer (List ℕ)) → (r .outcome ≡ Bad) × (r .values ≡ noValues) → p ≡ refused 2 0 0 0 → FieldsTold r p
 told-bad p e q = (rw (q, e .0), rw q (e .1))
 
 -- a store at the first of the places that are left
@@ -32,8 +32,8 @@ rest-more vs k v m h e =
     let x : getD vs k 0 ∷ drop (suc k) vs ≡ 0 ∷ replicate m 0 = sym (drop-cons vs k 0 h) ∙ e in
     rw (drop-set-lt (suc k) vs k v (omega arith)) (cc)
 
--- the code's loop, after k of n fields: their values stand first in vs and zeros behind them, and the other fields are read from bit i on
-pub record Reading (t s : List ℕ) (start n : ℕ) (vs : List ℕ) (k i : ℕ) : Type 0 where
+-- the code's loop, after k of n fields: their values stand first in vs and zeros after them, and the other fields are read from bit i on
+pub record FieldsReading (t s : List ℕ) (start n : ℕ) (vs : List ℕ) (k i : ℕ) : Type 0 where
   pub count : n ≡ length (tableOf 24 t)
   pub most : n ≤ 24
   pub room : 3 * n ≤ length t
@@ -41,10 +41,10 @@ pub record Reading (t s : List ℕ) (start n : ℕ) (vs : List ℕ) (k i : ℕ) 
   pub near : i ≤ start + 255 * k
   pub long : length vs ≡ 24
   pub rest : drop k vs ≡ replicate (24 - k) 0
-  pub progress : readFields (tableOf 24 t) s start ≡ after (take k vs) (readFields (drop k (tableOf 24 t)) s i)
+  pub progress : readFields (tableOf 24 t) s start ≡ prepended (take k vs) (readFields (drop k (tableOf 24 t)) s i)
 
-pub reading-none : (t s : List ℕ) (start n : ℕ) → n ≡ length (tableOf 24 t) → Reading t s start n (replicate 24 0) 0 start
-reading-none t s start n e = record {
+pub fields-reading-none : (t s : List ℕ) (start n : ℕ) → n ≡ length (tableOf 24 t) → FieldsReading t s start n (replicate 24 0) 0 start
+fields-reading-none t s start n e = record {
   count = e;
   most = omega (arith, table-room 24 t);
   room = omega (arith, table-room 24 t);
@@ -52,11 +52,11 @@ reading-none t s start n e = record {
   near = omega arith;
   long = refl;
   rest = refl;
-  progress = sym (after-none _);
+  progress = sym (prepended-none _);
 }
 
-module _ {t s : List ℕ} {start n : ℕ} {vs : List ℕ} {k i w : ℕ} (r : Reading t s start n vs k i) (h : k < n) (e : w ≡ getD t (3 * k) 0) where
-  next : readFields (tableOf 24 t) s start ≡ after (take k vs) (readFields (fieldAt t k ∷ drop (suc k) (tableOf 24 t)) s i)
+module _ {t s : List ℕ} {start n : ℕ} {vs : List ℕ} {k i w : ℕ} (r : FieldsReading t s start n vs k i) (h : k < n) (e : w ≡ getD t (3 * k) 0) where
+  next : readFields (tableOf 24 t) s start ≡ prepended (take k vs) (readFields (fieldAt t k ∷ drop (suc k) (tableOf 24 t)) s i)
   next = r .progress ∙ rw (drop-cons (tableOf 24 t) k (field 0 0 0) (omega arith), table-at 24 t k (omega arith))
 
   pub reading-short : refused 1 0 0 0 ≡ readBits s i w → readFields (tableOf 24 t) s start ≡ refused 1 0 0 0
@@ -65,10 +65,10 @@ module _ {t s : List ℕ} {start n : ℕ} {vs : List ℕ} {k i w : ℕ} (r : Rea
 
   module _ {v : ℕ} (f : value v ≡ readBits s i w) where
     number-is : (there s i (getD t (3 * k) 0) ≡ true) × (v ≡ bitsAt s i (getD t (3 * k) 0))
-    number-is = found s i (getD t (3 * k) 0) v (f ∙ ap (readBits s i) e)
+    number-is = bits-found s i (getD t (3 * k) 0) v (f ∙ ap (readBits s i) e)
 
     pub reading-width : w ≤ 32
-    reading-width = there-true s i w (found s i w v f .0) .0
+    reading-width = there-true s i w (bits-found s i w v f .0) .0
 
     broken : obeys (fieldAt t k) v ≡ false → readFields (tableOf 24 t) s start ≡ refused 2 0 0 0
     broken o =
@@ -81,7 +81,7 @@ module _ {t s : List ℕ} {start n : ℕ} {vs : List ℕ} {k i w : ℕ} (r : Rea
       pub reading-high : greatest w (getD t (3 * k + 2) 0) < v → readFields (tableOf 24 t) s start ≡ refused 2 0 0 0
       reading-high g = broken (obeys-high (fieldAt t k) v l (rw (← e) g))
 
-      pub reading-more : v ≤ greatest w (getD t (3 * k + 2) 0) → w < 256 → Reading t s start n (set vs k v) (k + 1) (i + w)
+      pub reading-more : v ≤ greatest w (getD t (3 * k + 2) 0) → w < 256 → FieldsReading t s start n (set vs k v) (k + 1) (i + w)
       reading-more g b = record {
         count = r .count;
         most = r .most;
@@ -97,11 +97,11 @@ module _ {t s : List ℕ} {start n : ℕ} {vs : List ℕ} {k i w : ℕ} (r : Rea
             next ∙ rw (read-more (fieldAt t k) (drop (suc k) (tableOf 24 t)) s i (number-is .0) (rw (← number-is .1) o), after-after (take k vs) (bitsAt s i (getD t (3 * k) 0) ∷ []) (readFields (drop (suc k) (tableOf 24 t)) s (i + getD t (3 * k) 0)), add-one k, take-suc-set vs k _ (omega arith), e, number-is .1);
       }
 
-pub reading-end : {t s : List ℕ} {start n : ℕ} {vs : List ℕ} {k i : ℕ} → Reading t s start n vs k i → n ≤ k
-    → Told (record { outcome = Done; values = vs }) (readFields (tableOf 24 t) s start)
+pub reading-end : {t s : List ℕ} {start n : ℕ} {vs : List ℕ} {k i : ℕ} → FieldsReading t s start n vs k i → n ≤ k
+    → FieldsTold (record { outcome = Done; values = vs }) (readFields (tableOf 24 t) s start)
 unfolding places readFields
 reading-end {t} {s} {start} {n} {vs} {k} {i} r h =
-    let x : placed (readFields (tableOf 24 t) s start) ≡ value vs =
+    let x : inPlaces (readFields (tableOf 24 t) s start) ≡ value vs =
     rw (
       r .progress,
       drop-of-length-le (tableOf 24 t) {i = k} (omega arith),

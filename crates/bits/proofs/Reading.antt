@@ -12,17 +12,14 @@ use lib.Seq.{take-suc, take-all, take-append-le}
 use borrow.Author.Tests.{le-leb, lt-leb, le-ltb, lt-ltb, leb-true, ltb-true, ltb-false, eqb-true, eq-eqb}
 use Rattle.bits.specs.Bits.{pick, bitsAt, there}
 use Rattle.bits.specs.Refusals.{Answer, value, refused, andThen, number}
-use Rattle.bits.specs.Fields.{Field, field, any, obeys, readFields, sameBytes, readHeader, total}
-use Rattle.bits.specs.Answers.{readBits, bitsAnswer, greatest, tableOf, places, placed, outcomeAnswer, fieldsAnswer}
-use Rattle.bits.proofs.Flags.{and-left, and-right, pick-elim}
+use Rattle.bits.specs.Fields.{Field, field, anyValue, obeys, readFields, sameBytes, readHeader, total}
+use Rattle.bits.specs.Answers.{readBits, bitsAnswer, greatest, tableOf, places, inPlaces, outcomeAnswer, fieldsAnswer}
+use Rattle.bits.proofs.Flags.{pick-elim, clash, both-true}
 use Rattle.bits.proofs.Laws.{bits-bound, bits-append, bits-drop}
 use Rattle.bits.specs.declared.Bits.{Bits}
 use Rattle.bits.specs.declared.Fields.{Fields}
 use Rattle.bits.specs.declared.Outcome.{Outcome}
 use Rattle.bits.specs.declared.Outcome.the-variants.{Done, Short, Bad}
-
-pub both-true : (a b : Bool) → a && b ≡ true → (a ≡ true) × (b ≡ true)
-both-true a b e = (and-left a b e, and-right a b e)
 
 -- bits are there
 module _ (s : List ℕ) (i n : ℕ) where
@@ -49,15 +46,15 @@ bits-seen s i n = case (there s i n) refl
     case true e = rw e (present e)
     case false e = rw e (absent e)
 
-pub found : (s : List ℕ) (i n v : ℕ) → value v ≡ readBits s i n → (there s i n ≡ true) × (v ≡ bitsAt s i n)
-found s i n v e = case (bits-seen s i n) e
+pub bits-found : (s : List ℕ) (i n v : ℕ) → value v ≡ readBits s i n → (there s i n ≡ true) × (v ≡ bitsAt s i n)
+bits-found s i n v e = case (bits-seen s i n) e
   where
     case : {a : Answer ℕ} → Bit s i n a → value v ≡ a → (there s i n ≡ true) × (v ≡ bitsAt s i n)
     case (absent t) q = ((cc), (cc))
     case (present t) q = (t, cc)
 
 pub found-bound : (s : List ℕ) (i n v : ℕ) → value v ≡ readBits s i n → v < 2 ^ n
-found-bound s i n v e = rw (found s i n v e .1) (bits-bound s i n)
+found-bound s i n v e = rw (bits-found s i n v e .1) (bits-bound s i n)
 
 pub missed : (s : List ℕ) (i n : ℕ) → refused 1 0 0 0 ≡ readBits s i n → there s i n ≡ false
 missed s i n e = case (bits-seen s i n) e
@@ -117,14 +114,14 @@ table-at (suc n) (w ∷ l ∷ m ∷ t) (suc k) h =
     rw (b, d, a) (table-at n t k (omega arith))
 
 -- values before others
-abbrev pub after : List ℕ → Answer (List ℕ) → Answer (List ℕ)
-after vs a = andThen a (λ ws. value (vs ++ ws))
+abbrev pub prepended : List ℕ → Answer (List ℕ) → Answer (List ℕ)
+prepended vs a = andThen a (λ ws. value (vs ++ ws))
 
-pub after-none : (a : Answer (List ℕ)) → after [] a ≡ a
-after-none (value vs) = refl
-after-none (refused n p c e) = refl
+pub prepended-none : (a : Answer (List ℕ)) → prepended [] a ≡ a
+prepended-none (value vs) = refl
+prepended-none (refused n p c e) = refl
 
-pub after-after : (us vs : List ℕ) (a : Answer (List ℕ)) → after us (after vs a) ≡ after (us ++ vs) a
+pub after-after : (us vs : List ℕ) (a : Answer (List ℕ)) → prepended us (prepended vs a) ≡ prepended (us ++ vs) a
 after-after us vs (value ws) = ap value (sym (append-assoc us vs ws))
 after-after us vs (refused n p c e) = refl
 
@@ -144,7 +141,7 @@ module _ (f : Field) (fs : List Field) (s : List ℕ) (i : ℕ) where
   read-bad e o = rw (e, o)
 
   pub read-more : there s i (f .width) ≡ true → obeys f (bitsAt s i (f .width)) ≡ true
-      → readFields (f ∷ fs) s i ≡ after (bitsAt s i (f .width) ∷ []) (readFields fs s (i + f .width))
+      → readFields (f ∷ fs) s i ≡ prepended (bitsAt s i (f .width) ∷ []) (readFields fs s (i + f .width))
   unfolding readFields pick
   read-more e o = rw (e, o)
 
@@ -170,62 +167,62 @@ module _ (f : Field) (v : ℕ) where
 
 -- a field of any value, after a read of its bits
 module _ (w : ℕ) (fs : List Field) (s : List ℕ) (i : ℕ) where
-  pub any-missed : refused 1 0 0 0 ≡ readBits s i w → readFields (any w ∷ fs) s i ≡ refused 1 0 0 0
-  any-missed e = read-short (any w) fs s i (missed s i w e)
+  pub any-missed : refused 1 0 0 0 ≡ readBits s i w → readFields (anyValue w ∷ fs) s i ≡ refused 1 0 0 0
+  any-missed e = read-short (anyValue w) fs s i (missed s i w e)
 
-  pub any-found : (v : ℕ) → value v ≡ readBits s i w → readFields (any w ∷ fs) s i ≡ after (v ∷ []) (readFields fs s (i + w))
+  pub any-found : (v : ℕ) → value v ≡ readBits s i w → readFields (anyValue w ∷ fs) s i ≡ prepended (v ∷ []) (readFields fs s (i + w))
   any-found v e =
-      let f = found s i w v e in
-      read-more (any w) fs s i (f .0) (obeys-is (any w) (bitsAt s i w) zero-le (omega (arith, bits-bound s i w)))
+      let f = bits-found s i w v e in
+      read-more (anyValue w) fs s i (f .0) (obeys-is (anyValue w) (bitsAt s i w) zero-le (omega (arith, bits-bound s i w)))
       ∙ rw (f .1)
 
 -- what a read finds: bytes that end in it (1), a rule broken (2), or what is there
-pub data Seen {X : Type 0} : Answer X → Type 0 where
-  cut : Seen (refused 1 0 0 0)
-  broken : Seen (refused 2 0 0 0)
-  whole : (x : X) → Seen (value x)
+pub data ParseOutcome {X : Type 0} : Answer X → Type 0 where
+  cut : ParseOutcome (refused 1 0 0 0)
+  broken : ParseOutcome (refused 2 0 0 0)
+  whole : (x : X) → ParseOutcome (value x)
 
 -- one read after another
-pub then-seen : {X Y : Type 0} {a : Answer X} {f : X → Answer Y} → Seen a → ((x : X) → Seen (f x)) → Seen (andThen a f)
+pub then-seen : {X Y : Type 0} {a : Answer X} {f : X → Answer Y} → ParseOutcome a → ((x : X) → ParseOutcome (f x)) → ParseOutcome (andThen a f)
 then-seen cut g = cut
 then-seen broken g = broken
 then-seen (whole x) g = g x
 
-pub fields-seen : (fs : List Field) (s : List ℕ) (i : ℕ) → Seen (readFields fs s i)
+pub fields-seen : (fs : List Field) (s : List ℕ) (i : ℕ) → ParseOutcome (readFields fs s i)
 unfolding readFields
 fields-seen [] s i = whole []
 fields-seen (f ∷ fs) s i =
-    pick-elim Seen (not (there s i (f .width))) (λ t. cut)
-    (λ t. pick-elim Seen (not (obeys f (bitsAt s i (f .width)))) (λ o. broken)
+    pick-elim ParseOutcome (not (there s i (f .width))) (λ t. cut)
+    (λ t. pick-elim ParseOutcome (not (obeys f (bitsAt s i (f .width)))) (λ o. broken)
     (λ o. then-seen (fields-seen fs s (i + f .width)) (λ vs. whole _)))
 
 -- no rule is broken where there is none
-pub never-bad : (n w : ℕ) (s : List ℕ) (i : ℕ) → readFields (replicate n (any w)) s i ≡ refused 2 0 0 0 → ⊥
-never-bad zero w s i e = let z : _≡_ {A = ℕ} 0 1 = cc (read-none s i) in omega arith
-never-bad (suc n) w s i e = case (bits-seen s i w) refl (fields-seen (replicate n (any w)) s (i + w)) refl (never-bad n w s (i + w))
+pub never-bad : (n w : ℕ) (s : List ℕ) (i : ℕ) → readFields (replicate n (anyValue w)) s i ≡ refused 2 0 0 0 → ⊥
+never-bad zero w s i e = clash (cc (read-none s i))
+never-bad (suc n) w s i e = case (bits-seen s i w) refl (fields-seen (replicate n (anyValue w)) s (i + w)) refl (never-bad n w s (i + w))
   where
-    case : {b : Answer ℕ} → Bit s i w b → b ≡ readBits s i w → {p : Answer (List ℕ)} → Seen p → readFields (replicate n (any w)) s (i + w) ≡ p
-        → (readFields (replicate n (any w)) s (i + w) ≡ refused 2 0 0 0 → ⊥) → ⊥
-    case (absent t) b p q r = let z = ap number (sym (any-missed w (replicate n (any w)) s i b) ∙ e) in omega arith
-    case (present t) b cut q r = let z = ap number (sym (any-found w (replicate n (any w)) s i _ b ∙ ap (after (bitsAt s i w ∷ [])) q) ∙ e) in omega arith
+    case : {b : Answer ℕ} → Bit s i w b → b ≡ readBits s i w → {p : Answer (List ℕ)} → ParseOutcome p → readFields (replicate n (anyValue w)) s (i + w) ≡ p
+        → (readFields (replicate n (anyValue w)) s (i + w) ≡ refused 2 0 0 0 → ⊥) → ⊥
+    case (absent t) b p q r = let z = ap number (sym (any-missed w (replicate n (anyValue w)) s i b) ∙ e) in omega arith
+    case (present t) b cut q r = let z = ap number (sym (any-found w (replicate n (anyValue w)) s i _ b ∙ ap (prepended (bitsAt s i w ∷ [])) q) ∙ e) in omega arith
     case (present t) b broken q r = r q
-    case (present t) b (whole vs) q r = let z = ap number (sym (any-found w (replicate n (any w)) s i _ b ∙ ap (after (bitsAt s i w ∷ [])) q) ∙ e) in omega arith
+    case (present t) b (whole vs) q r = let z = ap number (sym (any-found w (replicate n (anyValue w)) s i _ b ∙ ap (prepended (bitsAt s i w ∷ [])) q) ∙ e) in omega arith
 
 -- what a table that was read says of its first field
-pub record Step (f : Field) (fs : List Field) (s : List ℕ) (i : ℕ) (vs : List ℕ) : Type 0 where
+pub record FieldRead (f : Field) (fs : List Field) (s : List ℕ) (i : ℕ) (vs : List ℕ) : Type 0 where
   pub rest : List ℕ
   pub is-there : there s i (f .width) ≡ true
   pub obeyed : obeys f (bitsAt s i (f .width)) ≡ true
   pub then : readFields fs s (i + f .width) ≡ value rest
   pub all : vs ≡ bitsAt s i (f .width) ∷ rest
 
-pub step : (f : Field) (fs : List Field) (s : List ℕ) (i : ℕ) (vs : List ℕ) → readFields (f ∷ fs) s i ≡ value vs → Step f fs s i vs
+pub read-field : (f : Field) (fs : List Field) (s : List ℕ) (i : ℕ) (vs : List ℕ) → readFields (f ∷ fs) s i ≡ value vs → FieldRead f fs s i vs
 unfolding readFields pick
-step f fs s i vs e = case (there s i (f .width)) (obeys f (bitsAt s i (f .width))) (readFields fs s (i + f .width)) refl refl refl e
+read-field f fs s i vs e = case (there s i (f .width)) (obeys f (bitsAt s i (f .width))) (readFields fs s (i + f .width)) refl refl refl e
   where
     case : (b o : Bool) (p : Answer (List ℕ)) → there s i (f .width) ≡ b → obeys f (bitsAt s i (f .width)) ≡ o
         → readFields fs s (i + f .width) ≡ p
-        → pick (not b) (refused 1 0 0 0) (pick (not o) (refused 2 0 0 0) (after (bitsAt s i (f .width) ∷ []) p)) ≡ value vs → Step f fs s i vs
+        → pick (not b) (refused 1 0 0 0) (pick (not o) (refused 2 0 0 0) (prepended (bitsAt s i (f .width) ∷ []) p)) ≡ value vs → FieldRead f fs s i vs
     case true true (value ws) t u r q = record { rest = ws; is-there = t; obeyed = u; then = r; all = cc }
     case true true (refused n p c x) t u r q = record { rest = []; is-there = t; obeyed = u; then = cc; all = cc }
     case true false p t u r q = record { rest = []; is-there = t; obeyed = cc; then = cc; all = cc }
@@ -236,7 +233,7 @@ pub first-found : (f : Field) (fs : List Field) (s : List ℕ) (i : ℕ) (vs : L
     → value (getD vs 0 0) ≡ readBits s i (f .width)
 unfolding readBits pick
 first-found f fs s i vs e =
-    let t = step f fs s i vs e in
+    let t = read-field f fs s i vs e in
     rw (t .is-there, t .all)
 
 -- as many values as fields
@@ -245,7 +242,7 @@ unfolding readFields
 read-length [] s i [] e = refl
 read-length [] s i (v ∷ vs) e = cc
 read-length (f ∷ fs) s i vs e =
-    let t = step f fs s i vs e in
+    let t = read-field f fs s i vs e in
     rw (t .all) (ap suc (read-length fs s (i + f .width) (t .rest) (t .then)))
 
 -- the bits of a table
@@ -263,18 +260,18 @@ total-same zero f = omega arith
 total-same (suc n) f = omega (arith, total-same n f)
 
 -- each value within its field's range; past the table's end both are 0
-abbrev pub InRange : List Field → List ℕ → Type 0
-InRange fs vs = (k : ℕ) → (getD fs k (field 0 0 0) .low ≤ getD vs k 0) × (getD vs k 0 ≤ getD fs k (field 0 0 0) .high)
+abbrev pub FieldsInRange : List Field → List ℕ → Type 0
+FieldsInRange fs vs = (k : ℕ) → (getD fs k (field 0 0 0) .low ≤ getD vs k 0) × (getD vs k 0 ≤ getD fs k (field 0 0 0) .high)
 
-pub read-range : (fs : List Field) (s : List ℕ) (i : ℕ) (vs : List ℕ) → readFields fs s i ≡ value vs → InRange fs vs
+pub read-range : (fs : List Field) (s : List ℕ) (i : ℕ) (vs : List ℕ) → readFields fs s i ≡ value vs → FieldsInRange fs vs
 unfolding readFields
 read-range [] s i [] e k = (zero-le, zero-le)
-read-range [] s i (v ∷ vs) e k = let z : _≡_ {A = ℕ} 0 1 = cc in omega arith
+read-range [] s i (v ∷ vs) e k = absurd (clash cc)
 read-range (f ∷ fs) s i vs e zero =
-    let t = step f fs s i vs e in
+    let t = read-field f fs s i vs e in
     rw (t .all) (obeys-true f (bitsAt s i (f .width)) (t .obeyed))
 read-range (f ∷ fs) s i vs e (suc k) =
-    let t = step f fs s i vs e in
+    let t = read-field f fs s i vs e in
     rw (t .all) (read-range fs s (i + f .width) (t .rest) (t .then) k)
 
 -- two tests of the same fact
@@ -286,7 +283,7 @@ leb-same a b c d f g = case (leb a b) (leb c d) refl refl
     case false true p q = le-leb a b (g (leb-true c d q)) ∙ sym q
     case false false p q = p ∙ sym q
 
--- what is behind byte k, as code hands it on
+-- what is after byte k, as code hands it on
 pub rest-is : (s : List ℕ) (k : ℕ) → take (length s - k) (drop k s) ≡ drop k s
 rest-is s k = take-all (length s - k) (drop k s) (omega (arith, length-drop k s))
 
@@ -309,7 +306,7 @@ read-drop (f ∷ fs) k s i h =
       ← add-assoc (8 * k) i (f .width),
     )
 
--- what stands behind the bytes does not matter, unless they are too short
+-- what stands after the bytes does not matter, unless they are too short
 pub there-append : (s t : List ℕ) (i n : ℕ) → there s i n ≡ true → there (s ++ t) i n ≡ true
 there-append s t i n e =
     let b = there-true s i n e in
@@ -333,9 +330,9 @@ read-append (f ∷ fs) s t i h =
 
 -- two tables end to end: the second is read where the first ends
 pub read-join : (fs gs : List Field) (s : List ℕ) (i : ℕ)
-    → readFields (fs ++ gs) s i ≡ andThen (readFields fs s i) (λ vs. after vs (readFields gs s (i + total fs)))
+    → readFields (fs ++ gs) s i ≡ andThen (readFields fs s i) (λ vs. prepended vs (readFields gs s (i + total fs)))
 unfolding readFields total pick
-read-join [] gs s i = rw (add-zero i) (sym (after-none _))
+read-join [] gs s i = rw (add-zero i) (sym (prepended-none _))
 read-join (f ∷ fs) gs s i =
     case (there s i (f .width)) (obeys f (bitsAt s i (f .width))) (readFields fs s (i + f .width)) refl refl refl
     (read-join fs gs s (i + f .width))
@@ -343,9 +340,9 @@ read-join (f ∷ fs) gs s i =
     case : (b o : Bool) (p : Answer (List ℕ)) → there s i (f .width) ≡ b → obeys f (bitsAt s i (f .width)) ≡ o
         → readFields fs s (i + f .width) ≡ p
         → readFields (fs ++ gs) s (i + f .width)
-        ≡ andThen (readFields fs s (i + f .width)) (λ vs. after vs (readFields gs s (i + f .width + total fs)))
+        ≡ andThen (readFields fs s (i + f .width)) (λ vs. prepended vs (readFields gs s (i + f .width + total fs)))
         → readFields (f ∷ (fs ++ gs)) s i
-        ≡ andThen (readFields (f ∷ fs) s i) (λ vs. after vs (readFields gs s (i + (f .width + total fs))))
+        ≡ andThen (readFields (f ∷ fs) s i) (λ vs. prepended vs (readFields gs s (i + (f .width + total fs))))
     case false o p e u q r = rw e
     case true false p e u q r = rw (e, u)
     case true true (refused n k c x) e u q r = rw (e, u, r, q)
@@ -364,7 +361,7 @@ read-split [] gs s i [] ws l e = (refl, rw add-zero e)
 read-split [] gs s i (v ∷ vs) ws l e = absurd (omega arith)
 read-split (f ∷ fs) gs s i [] ws l e = absurd (omega arith)
 read-split (f ∷ fs) gs s i (v ∷ vs) ws l e =
-    let t = step f (fs ++ gs) s i (v ∷ (vs ++ ws)) e in
+    let t = read-field f (fs ++ gs) s i (v ∷ (vs ++ ws)) e in
     let x : v ≡ bitsAt s i (f .width) = cc in
     let y : t .rest ≡ vs ++ ws = cc in
     let r = read-split fs gs s (i + f .width) vs ws (omega arith) (t .then ∙ ap value y) in
@@ -431,12 +428,12 @@ header-got code fs s vs e = case (ltb (length s) 4) (sameBytes (take 4 s) code) 
         → pick b (refused 1 0 0 0) (pick (not o) (refused 2 0 0 0) (readFields fs s 32)) ≡ value vs → HeaderRead code fs s vs
     case false true l t q = record { long = ltb-false _ _ l; code-first = same-bytes (take 4 s) code t; fields-read = q }
     case false false l t q = record { long = ltb-false _ _ l; code-first = cc; fields-read = cc }
-    case true o l t q = record { long = let z : _≡_ {A = ℕ} 0 1 = cc in omega arith; code-first = cc; fields-read = cc }
+    case true o l t q = record { long = absurd (clash cc); code-first = cc; fields-read = cc }
 
 pub header-of : {code : List ℕ} {fs : List Field} {s vs : List ℕ} → HeaderRead code fs s vs → readHeader code fs s ≡ value vs
 header-of {code} {fs} {s} {vs} r = header-more code fs s (r .long) (rw (r .code-first) (same-self code)) ∙ r .fields-read
 
--- more behind a header does not matter, unless it is too short
+-- more after a header does not matter, unless it is too short
 pub header-append : (code : List ℕ) (fs : List Field) (s t : List ℕ) → (readHeader code fs s ≡ refused 1 0 0 0 → ⊥)
     → readHeader code fs (s ++ t) ≡ readHeader code fs s
 header-append code fs s t h = case (ltb (length s) 4) (sameBytes (take 4 s) code) refl refl
@@ -454,10 +451,10 @@ header-append code fs s t h = case (ltb (length s) 4) (sameBytes (take 4 s) code
         let m = header-more code fs s a e in
         header-more code fs (s ++ t) (more a) (rw (take-append-le 4 s t a) e) ∙ read-append fs s t 32 (λ z. h (m ∙ z)) ∙ sym m
 
-pub header-seen : (code : List ℕ) (fs : List Field) (s : List ℕ) → Seen (readHeader code fs s)
+pub header-seen : (code : List ℕ) (fs : List Field) (s : List ℕ) → ParseOutcome (readHeader code fs s)
 unfolding readHeader
 header-seen code fs s =
-    pick-elim Seen (ltb (length s) 4) (λ t. cut) (λ t. pick-elim Seen (not (sameBytes (take 4 s) code)) (λ o. broken) (λ o. fields-seen fs s 32))
+    pick-elim ParseOutcome (ltb (length s) 4) (λ t. cut) (λ t. pick-elim ParseOutcome (not (sameBytes (take 4 s) code)) (λ o. broken) (λ o. fields-seen fs s 32))
 
 -- the values in 24 places, each where it was
 pub places-at : (vs : List ℕ) (k : ℕ) → getD (places vs) k 0 ≡ getD vs k 0
@@ -475,18 +472,18 @@ places-at vs k = zeros vs (24 - length vs) k
     zeros (u ∷ us) n (suc j) = zeros us n j
 
 -- what the answer says of the table
-answer-is : (r : Fields) {o : Outcome} (p : Answer (List ℕ)) → fieldsAnswer r ≡ placed p → r .outcome ≡ o → outcomeAnswer o (r .values) ≡ placed p
+answer-is : (r : Fields) {o : Outcome} (p : Answer (List ℕ)) → fieldsAnswer r ≡ inPlaces p → r .outcome ≡ o → outcomeAnswer o (r .values) ≡ inPlaces p
 answer-is r p e o = rw (← o) e
 
-pub answer-short : (r : Fields) (p : Answer (List ℕ)) → fieldsAnswer r ≡ placed p → r .outcome ≡ Short → p ≡ refused 1 0 0 0
+pub answer-short : (r : Fields) (p : Answer (List ℕ)) → fieldsAnswer r ≡ inPlaces p → r .outcome ≡ Short → p ≡ refused 1 0 0 0
 answer-short r (value vs) e o = let z = ap number (answer-is r (value vs) e o) in absurd (omega arith)
 answer-short r (refused n k c x) e o = sym (answer-is r (refused n k c x) e o)
 
-pub answer-bad : (r : Fields) (p : Answer (List ℕ)) → fieldsAnswer r ≡ placed p → r .outcome ≡ Bad → p ≡ refused 2 0 0 0
+pub answer-bad : (r : Fields) (p : Answer (List ℕ)) → fieldsAnswer r ≡ inPlaces p → r .outcome ≡ Bad → p ≡ refused 2 0 0 0
 answer-bad r (value vs) e o = let z = ap number (answer-is r (value vs) e o) in absurd (omega arith)
 answer-bad r (refused n k c x) e o = sym (answer-is r (refused n k c x) e o)
 
-pub answer-done : (r : Fields) (p : Answer (List ℕ)) → fieldsAnswer r ≡ placed p → r .outcome ≡ Done
+pub answer-done : (r : Fields) (p : Answer (List ℕ)) → fieldsAnswer r ≡ inPlaces p → r .outcome ≡ Done
     → (vs : List ℕ) × (p ≡ value vs) × (r .values ≡ places vs)
 answer-done r (value vs) e o = let z = answer-is r (value vs) e o in (vs, refl, (cc))
 answer-done r (refused n k c x) e o = let z = answer-is r (refused n k c x) e o in ([], (cc), (cc))
@@ -500,8 +497,8 @@ pub record Read (fs : List Field) (p : Answer (List ℕ)) (r : Fields) : Type 0 
   pub low : (k : ℕ) → getD fs k (field 0 0 0) .low ≤ getD (r .values) k 0
   pub high : (k : ℕ) → getD (r .values) k 0 ≤ getD fs k (field 0 0 0) .high
 
-read-by : (r : Fields) (fs : List Field) (p : Answer (List ℕ)) → fieldsAnswer r ≡ placed p → r .outcome ≡ Done
-    → ((vs : List ℕ) → p ≡ value vs → InRange fs vs) → Read fs p r
+read-by : (r : Fields) (fs : List Field) (p : Answer (List ℕ)) → fieldsAnswer r ≡ inPlaces p → r .outcome ≡ Done
+    → ((vs : List ℕ) → p ≡ value vs → FieldsInRange fs vs) → Read fs p r
 read-by r fs p e o within =
     let d = answer-done r p e o in
     let at : (k : ℕ) → getD (r .values) k 0 ≡ getD (d .0) k 0 = λ k. ap (λ (x : List ℕ). getD x k 0) (d .2) ∙ places-at (d .0) k in
@@ -515,11 +512,11 @@ read-by r fs p e o within =
       high = λ k. omega (arith, at k, in-range k);
     }
 
-pub fields-done : (r : Fields) (fs : List Field) (s : List ℕ) (i : ℕ) → fieldsAnswer r ≡ placed (readFields fs s i) → r .outcome ≡ Done
+pub fields-done : (r : Fields) (fs : List Field) (s : List ℕ) (i : ℕ) → fieldsAnswer r ≡ inPlaces (readFields fs s i) → r .outcome ≡ Done
     → Read fs (readFields fs s i) r
 fields-done r fs s i e o = read-by r fs (readFields fs s i) e o (read-range fs s i)
 
-pub header-done : (r : Fields) (code : List ℕ) (fs : List Field) (s : List ℕ) → fieldsAnswer r ≡ placed (readHeader code fs s) → r .outcome ≡ Done
+pub header-done : (r : Fields) (code : List ℕ) (fs : List Field) (s : List ℕ) → fieldsAnswer r ≡ inPlaces (readHeader code fs s) → r .outcome ≡ Done
     → Read fs (readHeader code fs s) r
 header-done r code fs s e o =
     read-by r fs (readHeader code fs s) e o (λ vs q. read-range fs s 32 vs (header-got code fs s vs q .fields-read))

@@ -28,11 +28,11 @@ pub kept-none : (s : List ℕ) (i : ℕ) → i % 8 ≡ 0 → 0 ≡ bitsAt s (8 *
 kept-none s i z = rw (z, bits-none)
 
 -- n bits at bit i: the bytes that they touch, and the bits left over in the last of them
-abbrev pub count : ℕ → ℕ → ℕ
-count i n = (i % 8 + n + 7) / 8
+abbrev pub byteCount : ℕ → ℕ → ℕ
+byteCount i n = (i % 8 + n + 7) / 8
 
-abbrev pub tail : ℕ → ℕ → ℕ
-tail i n = 8 * count i n - i % 8 - n
+abbrev pub bitsLeft : ℕ → ℕ → ℕ
+bitsLeft i n = 8 * byteCount i n - i % 8 - n
 
 -- k of the bytes from a on are still the old ones of s, and their new ones, of t, wait in acc
 pub record Storing (s t out : List ℕ) (a k acc : ℕ) : Type 0 where
@@ -65,19 +65,19 @@ module _ (s : List ℕ) (i n v : ℕ) where
             let e : 8 * (i / 8) + i % 8 + k ≡ i + k = omega arith in
             rw (e, zero-add k) (append-new s i (digits n v) room k (digit-bound n v) (omega (arith, length-digits n v)))
 
-    zeros : num (bitAt result) (8 * (i / 8) + (i % 8 + n)) (tail i n) ≡ 0
+    zeros : num (bitAt result) (8 * (i / 8) + (i % 8 + n)) (bitsLeft i n) ≡ 0
     zeros =
-        num-zero (bitAt result) _ (tail i n)
+        num-zero (bitAt result) _ (bitsLeft i n)
         (λ k l. append-zeros s i (digits n v) room _ (digit-bound n v) (omega (arith, length-digits n v)) (omega (arith, length-digits n v)))
 
     front-number : bitsAt s (8 * (i / 8)) (i % 8) * 2 ^ n + v % 2 ^ n ≡ num (bitAt result) (8 * (i / 8)) (i % 8 + n)
     front-number = sym (num-split (bitAt result) (8 * (i / 8)) (i % 8) n ∙ rw (old, new))
 
     -- the number of the bytes to store
-    whole-number : (bitsAt s (8 * (i / 8)) (i % 8) * 2 ^ n + v % 2 ^ n) * 2 ^ tail i n ≡ num (bitAt result) (8 * (i / 8)) (8 * count i n)
+    whole-number : (bitsAt s (8 * (i / 8)) (i % 8) * 2 ^ n + v % 2 ^ n) * 2 ^ bitsLeft i n ≡ num (bitAt result) (8 * (i / 8)) (8 * byteCount i n)
     whole-number =
-        let e : 8 * count i n ≡ i % 8 + n + tail i n = omega arith in
-        sym (ap (num (bitAt result) (8 * (i / 8))) e ∙ num-split (bitAt result) (8 * (i / 8)) (i % 8 + n) (tail i n)
+        let e : 8 * byteCount i n ≡ i % 8 + n + bitsLeft i n = omega arith in
+        sym (ap (num (bitAt result) (8 * (i / 8))) e ∙ num-split (bitAt result) (8 * (i / 8)) (i % 8 + n) (bitsLeft i n)
         ∙ rw (zeros, ← front-number, add-zero))
 
     -- the same at the numbers that the code has
@@ -86,21 +86,21 @@ module _ (s : List ℕ) (i n v : ℕ) where
       front-small w =
           rw (a, b, c, d, front-number) (lt-of-lt-of-le (num-bound _ _ _ (bit-bound result)) (pow-mono {j = 39} (omega arith)))
 
-      module _ {r : ℕ} (e : r ≡ 2 ^ tail i n) where
-        whole : (o * p + u % q) * r ≡ num (bitAt result) (8 * (i / 8)) (8 * count i n)
+      module _ {r : ℕ} (e : r ≡ 2 ^ bitsLeft i n) where
+        whole : (o * p + u % q) * r ≡ num (bitAt result) (8 * (i / 8)) (8 * byteCount i n)
         whole = rw (a, b, c, d, e) whole-number
 
         pub whole-small : n ≤ 32 → (o * p + u % q) * r < 2 ^ 40
         whole-small w = rw whole (lt-of-lt-of-le (num-bound _ _ _ (bit-bound result)) (pow-mono {j = 40} (omega arith)))
 
-        pub storing-all : Below 256 s → Storing s result s (i / 8) (count i n) ((o * p + u % q) * r)
+        pub storing-all : Below 256 s → Storing s result s (i / 8) (byteCount i n) ((o * p + u % q) * r)
         storing-all f = record {
           room = omega arith;
           same = append-length s i (digits n v) room;
           bytes = append-below s i (digits n v) f (digit-bound n v);
-          out-is = sym (ap (λ (l : List ℕ). take (i / 8 + count i n) s ++ l)
-              (append-behind s i (digits n v) room (i / 8 + count i n) (omega (arith, length-digits n v)))
-              ∙ take-append-drop (i / 8 + count i n) s);
+          out-is = sym (ap (λ (l : List ℕ). take (i / 8 + byteCount i n) s ++ l)
+              (append-behind s i (digits n v) room (i / 8 + byteCount i n) (omega (arith, length-digits n v)))
+              ∙ take-append-drop (i / 8 + byteCount i n) s);
           waits = whole;
         }
 

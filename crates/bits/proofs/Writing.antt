@@ -16,10 +16,11 @@ use Rattle.bits.specs.Refusals.{value, refused}
 use Rattle.bits.specs.Fields.{Field, readFields, readHeader, fieldBits, writeFields, writeHeader, fitsAll, total}
 use Rattle.bits.specs.Answers.{over, writeAnswer, writeResult}
 use Rattle.bits.proofs.Laws.{num-same, bits-bound, bit-append, bit-drop, length-digits, digits-num, bit-list-length, bit-list-append}
-use Rattle.bits.proofs.Reading.{there-is, there-true, obeys-is, obeys-true, read-more, step, read-drop, same-self, four, header-more, header-got}
+use Rattle.bits.proofs.Reading.{there-is, there-true, obeys-is, obeys-true, read-more, read-field, read-drop, same-self, four, header-more, header-got}
 use Rattle.bits.proofs.Appending.{Below, lt-or-le, digits-bits, below-append, below-front, below-drop, length-pack, pack-bit, pack-take, pack-bytes, append-zero}
 use Rattle.bits.proofs.Checking.{Fits, fits-none, fits-more, fits-of, fits-all, fits-length}
 use Rattle.bits.proofs.Putting.{field-bits-bound, length-field-bits}
+use Rattle.bits.proofs.Flags.{clash}
 
 -- how long the bytes are
 pub length-fields : (fs : List Field) (vs : List ℕ) → length vs ≡ length fs → length (writeFields fs vs) ≡ (total fs + 7) / 8
@@ -61,18 +62,18 @@ written-append code fs vs s b =
     sym (append-zero s (bitList code ++ fieldBits fs vs) ∙ ap (λ (l : List ℕ). over l s) (pack-bytes code (fieldBits fs vs) b))
 
 -- the ways of `write_header`
-stored : (a b c d : ℕ) (s : List ℕ) → 4 ≤ length s → set (set (set (set s 0 a) 1 b) 2 c) 3 d ≡ over (a ∷ b ∷ c ∷ d ∷ []) s
+four-stored : (a b c d : ℕ) (s : List ℕ) → 4 ≤ length s → set (set (set (set s 0 a) 1 b) 2 c) 3 d ≡ over (a ∷ b ∷ c ∷ d ∷ []) s
 unfolding over
-stored a b c d [] h = absurd (omega arith)
-stored a b c d (w ∷ []) h = absurd (omega arith)
-stored a b c d (w ∷ x ∷ []) h = absurd (omega arith)
-stored a b c d (w ∷ x ∷ y ∷ []) h = absurd (omega arith)
-stored a b c d (w ∷ x ∷ y ∷ z ∷ s) h = refl
+four-stored a b c d [] h = absurd (omega arith)
+four-stored a b c d (w ∷ []) h = absurd (omega arith)
+four-stored a b c d (w ∷ x ∷ []) h = absurd (omega arith)
+four-stored a b c d (w ∷ x ∷ y ∷ []) h = absurd (omega arith)
+four-stored a b c d (w ∷ x ∷ y ∷ z ∷ s) h = refl
 
 pub stored-code : (code s : List ℕ) → length code ≡ 4 → 4 ≤ length s
     → set (set (set (set s 0 (getD code 0 0)) 1 (getD code 1 0)) 2 (getD code 2 0)) 3 (getD code 3 0) ≡ over code s
 stored-code code s l h =
-    stored (getD code 0 0) (getD code 1 0) (getD code 2 0) (getD code 3 0) s h
+    four-stored (getD code 0 0) (getD code 1 0) (getD code 2 0) (getD code 3 0) s h
     ∙ ap (λ (c : List ℕ). over c s) (sym (four code (omega arith)) ∙ take-all 4 code (omega arith))
 
 module _ (code : List ℕ) (fs : List Field) (vs out : List ℕ) where
@@ -121,7 +122,7 @@ reads-back (fits-more {f} {fs} {v} {vs} a b c d r) s i l h =
     ∙ getD-append-add (digits w v) (fieldBits fs vs) k 0) in
     read-more f fs s i (there-is s i w a (omega arith)) (rw e (obeys-is f v c d)) ∙ rw (e, m)
 
--- so they are read from the bits packed, whatever stands before and behind
+-- so they are read from the bits packed, whatever stands before and after
 pub reads-packed : {fs : List Field} {vs : List ℕ} → Fits fs vs → (pre post t : List ℕ) → Below 2 pre → Below 2 post
     → readFields fs (pack (pre ++ fieldBits fs vs ++ post) ++ t) (length pre) ≡ value vs
 reads-packed {fs} {vs} r pre post t p q =
@@ -156,7 +157,7 @@ pub read-room : (fs : List Field) (s : List ℕ) (i : ℕ) (vs : List ℕ) → i
 unfolding total
 read-room [] s i vs l e = omega arith
 read-room (f ∷ fs) s i vs l e =
-    let t = step f fs s i vs e in
+    let t = read-field f fs s i vs e in
     omega (arith, read-room fs s (i + f .width) (t .rest) (there-true s i (f .width) (t .is-there) .1) (t .then))
 
 pub writes-back : (fs : List Field) (s : List ℕ) (i : ℕ) (vs : List ℕ) → i ≤ 8 * length s → readFields fs s i ≡ value vs
@@ -165,7 +166,7 @@ unfolding fieldBits total
 writes-back [] s i vs l e = refl
 writes-back (f ∷ fs) s i vs l e =
     let w = f .width in
-    let t = step f fs s i vs e in
+    let t = read-field f fs s i vs e in
     let h : i + w ≤ 8 * length s = there-true s i w (t .is-there) .1 in
     rw (t .all, digits-bits s i w h, writes-back fs s (i + w) (t .rest) h (t .then), ← drop-drop w i (bitList s))
     (sym (take-add w (total fs) (drop i (bitList s))))
@@ -182,10 +183,10 @@ write-read fs s vs b e z =
 read-fit : (fs : List Field) (s : List ℕ) (i : ℕ) (vs : List ℕ) → readFields fs s i ≡ value vs → Fits fs vs
 unfolding readFields
 read-fit [] s i [] e = fits-none
-read-fit [] s i (v ∷ vs) e = let z : _≡_ {A = ℕ} 0 1 = cc in absurd (omega arith)
+read-fit [] s i (v ∷ vs) e = absurd (clash cc)
 read-fit (f ∷ fs) s i vs e =
     let w = f .width in
-    let t = step f fs s i vs e in
+    let t = read-field f fs s i vs e in
     let o = obeys-true f (bitsAt s i w) (t .obeyed) in
     rw (t .all) (fits-more (there-true s i w (t .is-there) .0) (bits-bound s i w) (o .0) (o .1) (read-fit fs s (i + w) (t .rest) (t .then)))
 

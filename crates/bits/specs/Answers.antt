@@ -48,12 +48,12 @@ tableOf (suc n) (w ∷ []) = []
 tableOf (suc n) (w ∷ l ∷ []) = []
 tableOf (suc n) (w ∷ l ∷ h ∷ t) = field w l (greatest w h) ∷ tableOf n t
 
--- values in 24 places, zeros behind them
+-- values in 24 places, zeros after them
 unfoldable pub places : List ℕ → List ℕ
 places vs = vs ++ replicate (24 - length vs) 0
 
-abbrev pub placed : Answer (List ℕ) → Answer (List ℕ)
-placed a = andThen a (λ vs. value (places vs))
+abbrev pub inPlaces : Answer (List ℕ) → Answer (List ℕ)
+inPlaces a = andThen a (λ vs. value (places vs))
 
 -- 24 zeros stand beside a refusal
 abbrev pub noValues : List ℕ

@@ -43,11 +43,11 @@ unfoldable pub bytesOf : (ℕ → ℕ) → ℕ → ℕ → List ℕ
 bytesOf f j zero = []
 bytesOf f j (suc n) = num f (8 * j) 8 ∷ bytesOf f (suc j) n
 
--- bits as bytes, with zeros behind them to a whole byte (5.2.3: zero_bit)
+-- bits as bytes, with zeros after them to a whole byte (5.2.3: zero_bit)
 unfoldable pub pack : List ℕ → List ℕ
 pack bs = bytesOf (λ i. getD bs i 0) 0 ((length bs + 7) / 8)
 
--- the bytes s with the bits bs at bit i and zeros behind them to a whole byte; what is before bit i, and the bytes behind, stay
+-- the bytes s with the bits bs at bit i and zeros after them to a whole byte; what is before bit i, and the bytes after, stay
 unfoldable pub appendBits : List ℕ → ℕ → List ℕ → List ℕ
 appendBits s i bs = pack (take i (bitList s) ++ bs) ++ drop ((i + length bs + 7) / 8) s
 

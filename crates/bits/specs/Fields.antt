@@ -18,8 +18,8 @@ abbrev pub field : ℕ → ℕ → ℕ → Field
 field w l h = record { width = w; low = l; high = h }
 
 -- the rules: any value; not zero; exactly k
-abbrev pub any : ℕ → Field
-any w = field w 0 (2 ^ w - 1)
+abbrev pub anyValue : ℕ → Field
+anyValue w = field w 0 (2 ^ w - 1)
 
 abbrev pub nonzero : ℕ → Field
 nonzero w = field w 1 (2 ^ w - 1)

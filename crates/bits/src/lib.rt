@@ -1,12 +1,12 @@
 // Bit fields in byte slices, high bit first.
 ghost use mathlib.Core.Path.{_≡_};
 ghost use mathlib.Core.Bool.{true};
-ghost use Prim.Native.Nat.{_+_, _-_, _<_, _≤_, _*_, _/_, _%_, _^_};
+ghost use Prim.Native.Nat.{_+_, _<_, _≤_, _*_, _/_, _%_, _^_};
 ghost use lib.ListN.{length, take};
 ghost use Rattle.bits.specs.Bits.{bitsAt, there, appendBits};
 ghost use Rattle.bits.specs.Fields.{field, readFields, sameBytes, readHeader, fitsField, fitsAll, fieldBits, total};
 ghost use Rattle.bits.specs.Refusals.{orElse, plain as plainOf};
-ghost use Rattle.bits.specs.Answers.{over, readBits, bitsAnswer, wroteBits, greatest, tableOf, placed, noValues, fieldsAnswer, checkFields, checkedAnswer, writeAnswer, wroteAnswer, writeResult};
+ghost use Rattle.bits.specs.Answers.{over, readBits, bitsAnswer, wroteBits, greatest, tableOf, inPlaces, noValues, fieldsAnswer, checkFields, checkedAnswer, writeAnswer, wroteAnswer, writeResult};
 
 pub mod start_codes; // Table 6-1
 
@@ -143,8 +143,8 @@ fn field_count(table: &[u8]) -> usize
 // Reads a table from bit start on. A field has three bytes in the table: width, least value, greatest value (0: what the
 // width allows). 24 fields at most are read.
 pub fn read_fields(s: &[u8], start: u32, table: &[u8]) -> Fields
-    ensures { λ r. ⌜ fieldsAnswer r ≡ placed (readFields (tableOf 24 (now (table .entry))) (now (s .entry)) start) ⌝ }
-    ensures { λ r. ⌜ r .values ≡ orElse noValues (placed (readFields (tableOf 24 (now (table .entry))) (now (s .entry)) start)) ⌝ }
+    ensures { λ r. ⌜ fieldsAnswer r ≡ inPlaces (readFields (tableOf 24 (now (table .entry))) (now (s .entry)) start) ⌝ }
+    ensures { λ r. ⌜ r .values ≡ orElse noValues (inPlaces (readFields (tableOf 24 (now (table .entry))) (now (s .entry)) start)) ⌝ }
 {
     let n = field_count(table);
     let mut values = [0u32; 24];
@@ -194,8 +194,8 @@ pub fn starts_with(s: &[u8], bytes: &[u8]) -> bool
 
 // Reads a header: its start code, then its table.
 pub fn read_header(s: &[u8], code: [u8; 4], table: &[u8]) -> Fields
-    ensures { λ r. ⌜ fieldsAnswer r ≡ placed (readHeader code (tableOf 24 (now (table .entry))) (now (s .entry))) ⌝ }
-    ensures { λ r. ⌜ r .values ≡ orElse noValues (placed (readHeader code (tableOf 24 (now (table .entry))) (now (s .entry)))) ⌝ }
+    ensures { λ r. ⌜ fieldsAnswer r ≡ inPlaces (readHeader code (tableOf 24 (now (table .entry))) (now (s .entry))) ⌝ }
+    ensures { λ r. ⌜ r .values ≡ orElse noValues (inPlaces (readHeader code (tableOf 24 (now (table .entry))) (now (s .entry)))) ⌝ }
 {
     if s.len() < 4 {
         return refused(Outcome::Short);
@@ -218,7 +218,7 @@ fn kept(s: &[u8], i: usize) -> u64
     wide(s[i / 8]) / pow2(8 - offset)
 }
 
-// Puts the n low bits of v at bit i of out, and zeros behind them to a whole byte; false where n is above 32 or they do
+// Puts the n low bits of v at bit i of out, and zeros after them to a whole byte; false where n is above 32 or they do
 // not fit.
 pub fn append_bits(out: &mut [u8], i: usize, n: usize, v: u32) -> bool
     ensures { λ r. ⌜ r ≡ there (now (out .entry)) i n ⌝ }
@@ -304,7 +304,7 @@ fn put_code(out: &mut [u8], code: [u8; 4])
     out[3] = code[3];
 }
 
-// Writes a header: its start code, then its fields, and zeros to a whole byte. The bytes behind keep what they hold.
+// Writes a header: its start code, then its fields, and zeros to a whole byte. The bytes after it keep what they hold.
 pub fn write_header(out: &mut [u8], code: [u8; 4], table: &[u8], values: &[u32]) -> Wrote
     ensures { λ r. ⌜ wroteAnswer r ≡ writeAnswer code (tableOf 24 (now (table .entry))) (now (values .entry)) (now (out .entry)) ⌝ }
     ensures { λ r. ⌜ now (out .exit) ≡ writeResult code (tableOf 24 (now (table .entry))) (now (values .entry)) (now (out .entry)) ⌝ }

@@ -1,5 +1,8 @@
 // Prints the figures of paper 01 that are not proved: the bytes of three headers, and an end that the model accepts.
 use headers::Written;
+use headers::gop_header::Mpeg2Gop;
+use headers::gop_header::TimeCode;
+use headers::gop_header::TimeCodeAnswer;
 use headers::quant_matrix_extension::no_matrix;
 use headers::sequence_extension::ChromaFormat;
 use headers::stream_writer::SequenceHeaderParams;
@@ -9,9 +12,6 @@ use vbv::VbvCbrModel;
 use vbv::VbvModel;
 use vbv::VbvParams;
 use vbv::VbvRemoval;
-use writers::gop_header::Mpeg2Gop;
-use writers::gop_header::TimeCode;
-use writers::gop_header::TimeCodeAnswer;
 use writers::gop_header::write_gop_header;
 use writers::stream_writer::write_sequence_extension;
 use writers::stream_writer::write_sequence_header;

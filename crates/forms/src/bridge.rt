@@ -5,7 +5,8 @@ ghost use Rattle.verify.specs.Answers.{verifiedAnswer};
 ghost use Rattle.verify.specs.Check.{verdict, reported, records as recordsOf};
 ghost use Rattle.bits.specs.Answers.{over};
 ghost use Rattle.vbv.specs.Model.{startModel, removePicture};
-ghost use Rattle.vbv.specs.Lent.{stepAnswer, done, modelAfter};
+ghost use Rattle.bits.specs.Refusals.{orElse};
+ghost use Rattle.vbv.specs.Lent.{stepAnswer, doneAnswer};
 use vbv::RemovalInterval;
 use vbv::VbvCbrModel;
 use vbv::lent::VbvStepped;
@@ -14,7 +15,7 @@ use verify::VbvStandard;
 use verify::VbvVerified;
 
 pub(crate) fn started(model: VbvCbrModel, delay: u16, position: u64) -> VbvStepped
-    ensures { λ r. ⌜ (stepAnswer (r .answer) ≡ done (startModel model delay position)) × (r .model ≡ modelAfter model (startModel model delay position)) ⌝ }
+    ensures { λ r. ⌜ (stepAnswer (r .answer) ≡ doneAnswer (startModel model delay position)) × (r .model ≡ orElse model (startModel model delay position)) ⌝ }
 {
     let mut lent = model;
     let answer = lent.start_in_place(delay, position);
@@ -25,7 +26,7 @@ pub(crate) fn started(model: VbvCbrModel, delay: u16, position: u64) -> VbvStepp
 }
 
 pub(crate) fn removed(model: VbvCbrModel, end: u64, interval: RemovalInterval) -> VbvStepped
-    ensures { λ r. ⌜ (stepAnswer (r .answer) ≡ done (removePicture model end interval)) × (r .model ≡ modelAfter model (removePicture model end interval)) ⌝ }
+    ensures { λ r. ⌜ (stepAnswer (r .answer) ≡ doneAnswer (removePicture model end interval)) × (r .model ≡ orElse model (removePicture model end interval)) ⌝ }
 {
     let mut lent = model;
     let answer = lent.remove_in_place(end, interval);

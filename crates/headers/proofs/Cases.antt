@@ -70,10 +70,10 @@ nextBack : Answer ℕ → NextStartCode
 nextBack (value p) = At p
 nextBack (refused n p c e) = Missing
 
-next-told : (r : NextStartCode) → nextBack (nextAnswer r) ≡ r
+next-code-told : (r : NextStartCode) → nextBack (nextAnswer r) ≡ r
 unfolding nextBack
-next-told (At p) = refl
-next-told Missing = refl
+next-code-told (At p) = refl
+next-code-told Missing = refl
 
 pub one-next : (r q : NextStartCode) → nextAnswer r ≡ nextAnswer q → r ≡ q
-one-next r q h = sym (next-told r) ∙ ap nextBack h ∙ next-told q
+one-next r q h = sym (next-code-told r) ∙ ap nextBack h ∙ next-code-told q

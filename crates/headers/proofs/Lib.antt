@@ -1,5 +1,6 @@
 pub mod Answers
 pub mod Cases
+pub mod GroupHeader
 pub mod MatrixLoop
 pub mod QuantMatrix
 pub mod Sequence

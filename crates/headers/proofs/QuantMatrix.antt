@@ -8,9 +8,9 @@ use native.Mathlib.Omega.{arith}
 use lib.ListN.{length, getD}
 use Rattle.bits.specs.Bits.{pick, bitsAt}
 use Rattle.bits.specs.Refusals.{Answer, value, refused, andThen, orElse}
-use Rattle.bits.specs.Fields.{any, readFields, total}
+use Rattle.bits.specs.Fields.{anyValue, readFields, total}
 use Rattle.bits.specs.Answers.{readBits}
-use Rattle.bits.proofs.Reading.{Bit, absent, present, bits-seen, found-bound, there-true, Seen, cut, broken, whole, then-seen, fields-seen, never-bad, read-length, read-append, total-none, total-more, total-same, first-found, after, read-none, any-missed, any-found}
+use Rattle.bits.proofs.Reading.{Bit, absent, present, bits-seen, found-bound, there-true, ParseOutcome, cut, broken, whole, then-seen, fields-seen, never-bad, read-length, read-append, total-none, total-more, total-same, first-found, prepended, read-none, any-missed, any-found}
 use Rattle.bits.proofs.Following.{Stays, then-stays}
 use Rattle.bits.proofs.Writing.{read-room}
 use Rattle.headers.specs.Answers.{flagOf}
@@ -25,18 +25,18 @@ module _ (s : List ℕ) (i : ℕ) where
   unfolding readMatrix
   none-there e = rw (any-missed 1 [] s i e)
 
-  behind-flag : (v : ℕ) → value v ≡ readBits s i 1 → readMatrix s i ≡ after (v ∷ []) (readFields (matrixBytes v) s (i + 1))
+  behind-flag : (v : ℕ) → value v ≡ readBits s i 1 → readMatrix s i ≡ prepended (v ∷ []) (readFields (matrixBytes v) s (i + 1))
   unfolding readMatrix
   behind-flag v e = rw (any-found 1 [] s i v e, read-none s (i + 1))
 
-  flag-table : (v : ℕ) → value v ≡ readBits s i 1 → readMatrix s i ≡ readFields (any 1 ∷ matrixBytes v) s i
+  flag-table : (v : ℕ) → value v ≡ readBits s i 1 → readMatrix s i ≡ readFields (anyValue 1 ∷ matrixBytes v) s i
   flag-table v e = behind-flag v e ∙ sym (any-found 1 (matrixBytes v) s i v e)
 
   pub none-loaded : value 0 ≡ readBits s i 1 → readMatrix s i ≡ value (0 ∷ [])
   unfolding matrixBytes
   none-loaded e = behind-flag 0 e ∙ rw (read-none s (i + 1))
 
-  pub one-loaded : value 1 ≡ readBits s i 1 → readMatrix s i ≡ after (1 ∷ []) (readFields (matrixBytes 1) s (i + 1))
+  pub one-loaded : value 1 ≡ readBits s i 1 → readMatrix s i ≡ prepended (1 ∷ []) (readFields (matrixBytes 1) s (i + 1))
   one-loaded e = behind-flag 1 e
 
   -- the three ways of read_matrix
@@ -53,18 +53,18 @@ module _ (s : List ℕ) (i : ℕ) where
       let z : v ≡ 1 = omega (arith, n, found-bound s i 1 v e) in
       rw (one-loaded (rw z at (e))) (behind (readFields (matrixBytes 1) s (i + 1)))
     where
-      behind : (p : Answer (List ℕ)) → andThen (after (1 ∷ []) p) (λ vs. value (matrixOf vs)) ≡ andThen p (λ bytes. value (loaded bytes))
+      behind : (p : Answer (List ℕ)) → andThen (prepended (1 ∷ []) p) (λ vs. value (matrixOf vs)) ≡ andThen p (λ bytes. value (loaded bytes))
       behind (value vs) = refl
       behind (refused m p c x) = refl
 
 -- what the code answers: its number, and the matrix or none
-abbrev Told : MatrixRead → Answer QuantiserMatrix → Type 0
-Told r a = (matrixAnswer r ≡ a) × (r .matrix ≡ orElse noMatrix a)
+abbrev MatrixTold : MatrixRead → Answer QuantiserMatrix → Type 0
+MatrixTold r a = (matrixAnswer r ≡ a) × (r .matrix ≡ orElse noMatrix a)
 
-pub told-missing : {m : QuantiserMatrix} {a : Answer QuantiserMatrix} → m ≡ noMatrix → a ≡ refused 1 0 0 0 → Told (record { there = false; matrix = m }) a
+pub told-missing : {m : QuantiserMatrix} {a : Answer QuantiserMatrix} → m ≡ noMatrix → a ≡ refused 1 0 0 0 → MatrixTold (record { there = false; matrix = m }) a
 told-missing e q = (sym q, rw q e)
 
-pub told-there : {m : QuantiserMatrix} {a : Answer QuantiserMatrix} → a ≡ value m → Told (record { there = true; matrix = m }) a
+pub told-there : {m : QuantiserMatrix} {a : Answer QuantiserMatrix} → a ≡ value m → MatrixTold (record { there = true; matrix = m }) a
 told-there q = (sym q, rw q)
 
 -- what a read finds: too few bits; the flag alone; or the flag and 64 bytes
@@ -77,11 +77,11 @@ pub matrix-seen : (s : List ℕ) (i : ℕ) → Matrix s i (readMatrix s i)
 unfolding matrixBytes
 matrix-seen s i = flag (bits-seen s i 1) refl
   where
-    bytes : {p : Answer (List ℕ)} → Seen p → readFields (matrixBytes 1) s (i + 1) ≡ p → i + 1 ≤ 8 * length s → Matrix s i (after (1 ∷ []) p)
+    bytes : {p : Answer (List ℕ)} → ParseOutcome p → readFields (matrixBytes 1) s (i + 1) ≡ p → i + 1 ≤ 8 * length s → Matrix s i (prepended (1 ∷ []) p)
     bytes cut e h = missing
     bytes broken e h = absurd (never-bad 64 8 s (i + 1) e)
     bytes (whole vs) e h =
-        one vs (read-length (matrixBytes 1) s (i + 1) vs e) (omega (arith, read-room (matrixBytes 1) s (i + 1) vs h e, total-same 64 (any 8)))
+        one vs (read-length (matrixBytes 1) s (i + 1) vs e) (omega (arith, read-room (matrixBytes 1) s (i + 1) vs h e, total-same 64 (anyValue 8)))
 
     bit : (v : ℕ) → value v ≡ readBits s i 1 → i + 1 ≤ 8 * length s → Matrix s i (readMatrix s i)
     bit zero e h = rw (none-loaded s i e) (none h)
@@ -123,30 +123,30 @@ module _ (s : List ℕ) (i : ℕ) (vs : List ℕ) (e : readMatrix s i ≡ value 
       case (one bytes l h) = refl
 
   -- it is the table that its flag chooses
-  pub matrix-as-table : readFields (any 1 ∷ matrixBytes (getD vs 0 0)) s i ≡ value vs
+  pub matrix-as-table : readFields (anyValue 1 ∷ matrixBytes (getD vs 0 0)) s i ≡ value vs
   matrix-as-table = case (bits-seen s i 1) refl
     where
-      case : {b : Answer ℕ} → Bit s i 1 b → b ≡ readBits s i 1 → readFields (any 1 ∷ matrixBytes (getD vs 0 0)) s i ≡ value vs
+      case : {b : Answer ℕ} → Bit s i 1 b → b ≡ readBits s i 1 → readFields (anyValue 1 ∷ matrixBytes (getD vs 0 0)) s i ≡ value vs
       case (absent t) b = let z = none-there s i b in cc
       case (present t) b =
           let v = bitsAt s i 1 in
-          let x : readFields (any 1 ∷ matrixBytes v) s i ≡ value vs = sym (flag-table s i v b) ∙ e in
-          let y : v ≡ getD vs 0 0 = let f = first-found (any 1) (matrixBytes v) s i vs x in cc in
+          let x : readFields (anyValue 1 ∷ matrixBytes v) s i ≡ value vs = sym (flag-table s i v b) ∙ e in
+          let y : v ≡ getD vs 0 0 = let f = first-found (anyValue 1) (matrixBytes v) s i vs x in cc in
           rw (← y) x
 
-pub table-as-matrix : (s : List ℕ) (i : ℕ) (vs : List ℕ) → readFields (any 1 ∷ matrixBytes (getD vs 0 0)) s i ≡ value vs → readMatrix s i ≡ value vs
-table-as-matrix s i vs e = flag-table s i (getD vs 0 0) (first-found (any 1) (matrixBytes (getD vs 0 0)) s i vs e) ∙ e
+pub table-as-matrix : (s : List ℕ) (i : ℕ) (vs : List ℕ) → readFields (anyValue 1 ∷ matrixBytes (getD vs 0 0)) s i ≡ value vs → readMatrix s i ≡ value vs
+table-as-matrix s i vs e = flag-table s i (getD vs 0 0) (first-found (anyValue 1) (matrixBytes (getD vs 0 0)) s i vs e) ∙ e
 
--- too few bits or a matrix, and what stands behind does not matter to one
+-- too few bits or a matrix, and what stands after does not matter to one
 module _ (s : List ℕ) (i : ℕ) where
-  pub matrix-found : Seen (readMatrix s i)
+  pub matrix-found : ParseOutcome (readMatrix s i)
   unfolding readMatrix
-  matrix-found = then-seen (fields-seen (any 1 ∷ []) s i) (λ f. then-seen (fields-seen (matrixBytes (getD f 0 0)) s (i + 1)) (λ bytes. whole _))
+  matrix-found = then-seen (fields-seen (anyValue 1 ∷ []) s i) (λ f. then-seen (fields-seen (matrixBytes (getD f 0 0)) s (i + 1)) (λ bytes. whole _))
 
   pub matrix-stays : (t : List ℕ) → Stays (readMatrix s i) (readMatrix (s ++ t) i)
   unfolding readMatrix
   matrix-stays t =
-      then-stays (readFields (any 1 ∷ []) s i) _ _ _ (read-append (any 1 ∷ []) s t i) (λ f.
+      then-stays (readFields (anyValue 1 ∷ []) s i) _ _ _ (read-append (anyValue 1 ∷ []) s t i) (λ f.
       then-stays (readFields (matrixBytes (getD f 0 0)) s (i + 1)) _ _ _ (read-append (matrixBytes (getD f 0 0)) s t (i + 1)) (λ bytes k. refl))
 
 -- a matrix that was read is written again
@@ -195,8 +195,8 @@ module _ (m : QuantiserMatrix) where
 
   pub matrix-total : total (matrixFields m) ≡ 1 + 512 * flagOf (m .load)
   unfolding matrixFields matrixBytes
-  matrix-total = total-more (any 1) (matrixBytes (flagOf (m .load))) ∙ ap (λ (n : ℕ). 1 + n) (case (m .load))
+  matrix-total = total-more (anyValue 1) (matrixBytes (flagOf (m .load))) ∙ ap (λ (n : ℕ). 1 + n) (case (m .load))
     where
       case : (b : Bool) → total (matrixBytes (flagOf b)) ≡ 512 * flagOf b
-      case true = total-same 64 (any 8)
+      case true = total-same 64 (anyValue 8)
       case false = total-none

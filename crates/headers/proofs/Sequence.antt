@@ -1,4 +1,4 @@
--- A sequence header with its extension: the ways that reading the two goes, and what stands behind them.
+-- A sequence header with its extension: the ways that reading the two goes, and what stands after them.
 -- Assumes nothing.
 use mathlib.Core.Path.{_≡_, sym, ap, _∙_}
 use mathlib.Core.List.{List}
@@ -7,17 +7,17 @@ use native.Mathlib.Omega.{arith}
 use lib.ListN.{length, take, drop}
 use lib.Seq.{drop-append-le}
 use Rattle.bits.specs.Refusals.{Answer, value, refused, andThen, number, orElse}
-use Rattle.bits.proofs.Reading.{Seen, whole, then-seen, rest-is}
+use Rattle.bits.proofs.Reading.{rest-is}
 use Rattle.bits.proofs.Following.{then-value}
-use Rattle.headers.specs.Answers.{refusal, flagged, headerAnswer, sequenceAnswer}
+use Rattle.headers.specs.Answers.{headerRefusal, flagged, headerAnswer, sequenceAnswer}
 use Rattle.headers.specs.StartCode.{nextStartCode}
 use Rattle.headers.specs.SequenceHeader.{sequenceHeader, sequenceHeaderBytes}
 use Rattle.headers.specs.SequenceExtension.{sequenceExtension}
 use Rattle.headers.specs.Sequence.{sequenceOf, noSequence, sequence}
 use Rattle.headers.specs.RoundTrips.{SequenceStays}
-use Rattle.headers.proofs.StartCode.{next-seen, next-found, next-append}
-use Rattle.headers.proofs.SequenceHeader.{HeaderBounds, header-seen, sequence-header-bounds, sequence-header-append}
-use Rattle.headers.proofs.SequenceExtension.{extension-seen, extension-append}
+use Rattle.headers.proofs.StartCode.{next-found, next-append}
+use Rattle.headers.proofs.SequenceHeader.{HeaderBounds, sequence-header-bounds, sequence-header-append}
+use Rattle.headers.proofs.SequenceExtension.{extension-append}
 use Rattle.headers.specs.declared.Error.{Error}
 use Rattle.headers.specs.declared.sequence_header.Answer.{Answer as Flag}
 use Rattle.headers.specs.declared.sequence_header.Mpeg2SequenceHeader.{Mpeg2SequenceHeader}
@@ -27,11 +27,11 @@ use Rattle.headers.specs.declared.sequence_extension.Mpeg2Sequence.{Mpeg
 use Rattle.headers.specs.declared.sequence_extension.SequenceRead.{SequenceRead}
 
 -- what the code answers: its number, and the sequence or none
-abbrev Told : SequenceRead → Answer Mpeg2Sequence → Type 0
-Told r a = (sequenceAnswer r ≡ a) × (r .sequence ≡ orElse noSequence a)
+abbrev SequenceTold : SequenceRead → Answer Mpeg2Sequence → Type 0
+SequenceTold r a = (sequenceAnswer r ≡ a) × (r .sequence ≡ orElse noSequence a)
 
-pub told-refused : (r : SequenceRead) {a : Answer Mpeg2Sequence} (e : Error) → (sequenceAnswer r ≡ refusal e) × (r .sequence ≡ noSequence) → a ≡ refusal e → Told r a
-told-refused r e t q = (t .0 ∙ sym q, rw q (t .1))
+pub sequence-told-refused : (r : SequenceRead) {a : Answer Mpeg2Sequence} (e : Error) → (sequenceAnswer r ≡ headerRefusal e) × (r .sequence ≡ noSequence) → a ≡ headerRefusal e → SequenceTold r a
+sequence-told-refused r e t q = (t .0 ∙ sym q, rw q (t .1))
 
 -- a case of the header's answer, by what it tells
 pub header-case : (r : SequenceHeaderRead) {f : Flag} {a : Answer Mpeg2SequenceHeader} → r .answer ≡ f → headerAnswer r ≡ a → flagged f (r .header) ≡ a
@@ -83,16 +83,7 @@ sequence-parts s q e =
       sequence-is = cc;
     }
 
--- it is a sequence, or refused with 1 or 2
-pub sequence-seen : (s : List ℕ) → Seen (sequence s)
-unfolding sequence
-sequence-seen s =
-    then-seen (header-seen s) (λ h.
-    then-seen (next-seen s (sequenceHeaderBytes h)) (λ place.
-    then-seen (extension-seen (drop place s)) (λ x.
-    whole _)))
-
--- what stands behind a parsed sequence does not matter
+-- what stands after a parsed sequence does not matter
 pub sequence-append : SequenceStays
 unfolding sequence
 sequence-append s t q a =

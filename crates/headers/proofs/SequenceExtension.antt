@@ -1,4 +1,4 @@
--- The sequence extension: what a parsed one holds, that what stands behind it does not matter, and both round trips.
+-- The sequence extension: what a parsed one holds, that what stands after it does not matter, and both round trips.
 -- Assumes nothing.
 use mathlib.Core.Path.{_≡_, refl, ap, _∙_}
 use mathlib.Core.List.{List, _∷_}
@@ -12,7 +12,7 @@ use Rattle.bits.specs.Fields.{Field, readHeader, writeHeader, fitsAll, total}
 use Rattle.bits.specs.Refusals.{Answer, value}
 use Rattle.bits.specs.Answers.{places}
 use Rattle.bits.specs.StartCodes.{startCode, extensionStartCode}
-use Rattle.bits.proofs.Reading.{places-at, Seen, whole, then-seen, header-seen, header-got, read-range, read-length, header-append, total-none, total-more}
+use Rattle.bits.proofs.Reading.{places-at, ParseOutcome, whole, then-seen, header-seen, header-got, read-range, read-length, header-append, total-none, total-more}
 use Rattle.bits.proofs.Following.{then-value, then-stays, short-cut}
 use Rattle.bits.proofs.Checking.{Fits, fits-none, fits-more, fits-all}
 use Rattle.bits.proofs.Writing.{header-read-written, header-write-read, read-fits}
@@ -26,7 +26,7 @@ use Rattle.headers.specs.declared.sequence_extension.ChromaFormat.the-va
 use Rattle.headers.specs.declared.sequence_extension.Mpeg2SequenceExtension.{Mpeg2SequenceExtension}
 use Rattle.headers.specs.declared.sequence_extension.SequenceExtensionRead.{SequenceExtensionRead}
 
--- the zeros behind the values do not matter
+-- the zeros after the values do not matter
 pub extension-places : (vs : List ℕ) → extensionOf (places vs) ≡ extensionOf vs
 unfolding extensionOf
 extension-places vs = simp places-at
@@ -63,14 +63,14 @@ extension-bounds s e q =
       frame-d = r 11 .1;
     }
 
--- what stands behind does not matter, unless the bytes are too short
+-- what stands after does not matter, unless the bytes are too short
 pub extension-append : ExtensionStays
 unfolding sequenceExtension
 extension-append s t =
     then-stays (readHeader (startCode extensionStartCode) sequenceExtensionFields s) _ _ _ (header-append (startCode extensionStartCode) sequenceExtensionFields s t) (λ vs k. refl)
 
 -- it is an extension, or refused with 1 or 2
-pub extension-seen : (s : List ℕ) → Seen (sequenceExtension s)
+pub extension-seen : (s : List ℕ) → ParseOutcome (sequenceExtension s)
 unfolding sequenceExtension
 extension-seen s = then-seen (header-seen (startCode extensionStartCode) sequenceExtensionFields s) (λ vs. whole _)
 
@@ -100,7 +100,7 @@ values-whole : (e : Mpeg2SequenceExtension) → extensionOf (extensionValues e) 
 unfolding extensionOf extensionValues
 values-whole e = rw (chroma-same (e .«chroma_format»), flag-same (e .«progressive_sequence»), flag-same (e .«low_delay»))
 
--- what was written is read again, whatever stands behind
+-- what was written is read again, whatever stands after
 pub extension-read-back : ExtensionWrittenReads
 unfolding sequenceExtension
 extension-read-back e t f = rw (header-read-written (startCode extensionStartCode) sequenceExtensionFields (extensionValues e) t refl f, values-whole e)

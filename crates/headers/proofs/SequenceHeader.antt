@@ -9,13 +9,14 @@ use lib.ListN.{getD}
 use Rattle.bits.specs.Refusals.{Answer, value, refused, orElse}
 use Rattle.bits.specs.Fields.{readHeader}
 use Rattle.bits.specs.StartCodes.{startCode, sequenceHeaderCode}
-use Rattle.bits.proofs.Reading.{both-true, Seen, whole, then-seen, header-seen as table-seen, read-range, header-got, header-append}
+use Rattle.bits.proofs.Flags.{both-true}
+use Rattle.bits.proofs.Reading.{ParseOutcome, whole, then-seen, header-seen, read-range, header-got, header-append}
 use Rattle.bits.proofs.Following.{then-value, then-stays, short-cut}
-use Rattle.headers.specs.Answers.{flagOf, refusal, headerAnswer}
+use Rattle.headers.specs.Answers.{flagOf, headerRefusal, headerAnswer}
 use Rattle.headers.specs.Steps.{matrixAt, matrixAnswer}
 use Rattle.headers.specs.QuantMatrix.{readMatrix, matrixOf}
 use Rattle.headers.specs.SequenceHeader.{sequenceHeaderFields, aspectRatio, headerOf, noHeader, sequenceHeader}
-use Rattle.headers.specs.RoundTrips.{HeaderStays, HeaderCut}
+use Rattle.headers.specs.RoundTrips.{SequenceHeaderStays, SequenceHeaderCut}
 use Rattle.headers.specs.declared.Error.{Error}
 use Rattle.headers.specs.declared.quant_matrix_extension.QuantiserMatrix.{QuantiserMatrix}
 use Rattle.headers.specs.declared.quant_matrix_extension.MatrixRead.{MatrixRead}
@@ -50,14 +51,14 @@ module _ (s : List ℕ) where
       header-parsed nonIntra g = rw (e, f, g)
 
 -- what the code answers: its number, and the header or none
-abbrev Told : SequenceHeaderRead → Answer Mpeg2SequenceHeader → Type 0
-Told r a = (headerAnswer r ≡ a) × (r .header ≡ orElse noHeader a)
+abbrev HeaderTold : SequenceHeaderRead → Answer Mpeg2SequenceHeader → Type 0
+HeaderTold r a = (headerAnswer r ≡ a) × (r .header ≡ orElse noHeader a)
 
-pub told-refused : (r : SequenceHeaderRead) {a : Answer Mpeg2SequenceHeader} (e : Error) → (headerAnswer r ≡ refusal e) × (r .header ≡ noHeader) → a ≡ refusal e → Told r a
-told-refused r e t q = (t .0 ∙ sym q, rw q (t .1))
+pub header-told-refused : (r : SequenceHeaderRead) {a : Answer Mpeg2SequenceHeader} (e : Error) → (headerAnswer r ≡ headerRefusal e) × (r .header ≡ noHeader) → a ≡ headerRefusal e → HeaderTold r a
+header-told-refused r e t q = (t .0 ∙ sym q, rw q (t .1))
 
-told-parsed : (h : Mpeg2SequenceHeader) {a : Answer Mpeg2SequenceHeader} → a ≡ value h → Told (record { answer = Parsed; header = h }) a
-told-parsed h q = (sym q, rw q)
+header-told-parsed : (h : Mpeg2SequenceHeader) {a : Answer Mpeg2SequenceHeader} → a ≡ value h → HeaderTold (record { answer = Parsed; header = h }) a
+header-told-parsed h q = (sym q, rw q)
 
 -- the ways of parse, with what its calls of read_matrix answer
 module _ (s h : List ℕ) (e : fixedFields s ≡ value h) (first second : MatrixRead)
@@ -75,7 +76,7 @@ module _ (s h : List ℕ) (e : fixedFields s ≡ value h) (first second : Matrix
           non-intra-refused s h e (i .0) (i .1) (matrix-missing s _ second (at-second (i .0) (i .1) (i .2)) (rw a at (t)))
 
   pub matrices-there : first .there && second .there ≡ true
-      → Told (record {
+      → HeaderTold (record {
         answer = Parsed;
         header = record {
           width = getD h 0 0;
@@ -94,7 +95,7 @@ module _ (s h : List ℕ) (e : fixedFields s ≡ value h) (first second : Matrix
       let b = both-true (first .there) (second .there) t in
       let i = matrix-there s 94 first f (b .0) in
       let n = matrix-there s _ second (at-second (i .0) (i .1) (i .2)) (b .1) in
-      told-parsed _ (header-parsed s h e (i .0) (i .1) (n .0) (n .1) ∙ made (i .0) (n .0) (first .matrix) (second .matrix) (i .2) (n .2))
+      header-told-parsed _ (header-parsed s h e (i .0) (i .1) (n .0) (n .1) ∙ made (i .0) (n .0) (first .matrix) (second .matrix) (i .2) (n .2))
     where
       made : (i n : List ℕ) (a b : QuantiserMatrix) → a ≡ matrixOf i → b ≡ matrixOf n
           → value (headerOf h i n)
@@ -167,22 +168,22 @@ sequence-header-bounds s h a =
     })
 
 -- it is a header, or refused with 1 or 2
-pub header-seen : (s : List ℕ) → Seen (sequenceHeader s)
+pub sequence-header-seen : (s : List ℕ) → ParseOutcome (sequenceHeader s)
 unfolding sequenceHeader
-header-seen s =
-    then-seen (table-seen (startCode sequenceHeaderCode) sequenceHeaderFields s) (λ h.
+sequence-header-seen s =
+    then-seen (header-seen (startCode sequenceHeaderCode) sequenceHeaderFields s) (λ h.
     then-seen (matrix-found s 94) (λ intra.
     then-seen (matrix-found s (95 + 512 * getD intra 0 0)) (λ nonIntra.
     whole _)))
 
--- what stands behind the bytes does not matter, unless they are too short
-pub sequence-header-append : HeaderStays
+-- what stands after the bytes does not matter, unless they are too short
+pub sequence-header-append : SequenceHeaderStays
 unfolding sequenceHeader
 sequence-header-append s t =
     then-stays (fixedFields s) _ _ _ (header-append (startCode sequenceHeaderCode) sequenceHeaderFields s t) (λ h.
     then-stays (readMatrix s 94) _ _ _ (matrix-stays s 94 t) (λ intra.
     then-stays (readMatrix s (95 + 512 * getD intra 0 0)) _ _ _ (matrix-stays s (95 + 512 * getD intra 0 0) t) (λ nonIntra k. refl)))
 
--- so what is too short with more behind it is too short
-pub sequence-header-short-cut : HeaderCut
-sequence-header-short-cut s t = short-cut (header-seen s) (sequence-header-append s t)
+-- so what is too short with more after it is too short
+pub sequence-header-short-cut : SequenceHeaderCut
+sequence-header-short-cut s t = short-cut (sequence-header-seen s) (sequence-header-append s t)

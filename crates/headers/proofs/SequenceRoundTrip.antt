@@ -2,13 +2,12 @@
 -- Assumes nothing.
 use mathlib.Core.Path.{_≡_, refl, sym, ap, _∙_}
 use mathlib.Core.List.{List, _++_}
-use mathlib.Core.Bool.{Bool, true, false}
+use mathlib.Core.Bool.{false}
 use Prim.Native.Nat.{ℕ, _+_, _*_, _/_}
 use native.Mathlib.Omega.{arith}
 use lib.Dec.{eqb}
 use lib.ListN.{getD, take}
 use borrow.Author.Tests.{eqb-true, eqb-false}
-use Rattle.bits.specs.Bits.{pick}
 use Rattle.bits.specs.Fields.{Field, readFields, writeHeader, total}
 use Rattle.bits.specs.Refusals.{value}
 use Rattle.bits.specs.StartCodes.{startCode, sequenceHeaderCode}
@@ -16,6 +15,7 @@ use Rattle.bits.proofs.Reading.{read-both, read-split, read-range, read-length,
 use Rattle.bits.proofs.Appending.{Below}
 use Rattle.bits.proofs.Putting.{total-append}
 use Rattle.bits.proofs.Writing.{header-read-written, header-write-read, read-fits}
+use Rattle.bits.proofs.Flags.{pick-elim}
 use Rattle.headers.specs.Answers.{flagOf}
 use Rattle.headers.specs.QuantMatrix.{readMatrix, matrixOf, matrixFields, matrixValues}
 use Rattle.headers.specs.SequenceHeader.{sequenceHeaderFields, aspectRatio, headerOf, sequenceHeaderBytes}
@@ -23,13 +23,12 @@ use Rattle.headers.specs.StreamWriter.{paramsFields, baseValues, paramsV
 use Rattle.headers.specs.RoundTrips.{sequenceWritten, Writable, WrittenReads, ReadWrites}
 use Rattle.headers.specs.declared.quant_matrix_extension.QuantiserMatrix.{QuantiserMatrix}
 use Rattle.headers.specs.declared.sequence_header.AspectRatio.{AspectRatio}
-use Rattle.headers.specs.declared.sequence_header.AspectRatio.the-variants.{Reserved}
 use Rattle.headers.proofs.Answers.{spread, spread-is}
 use Rattle.headers.proofs.QuantMatrix.{matrix-flag, matrix-fields-back, matrix-values-back, matrix-read-back, matrix-of-values, matrix-count, matrix-places, matrix-total}
 use Rattle.headers.proofs.SequenceHeader.{fixedFields, header-parsed, header-parts}
 use Rattle.headers.proofs.StreamWriter.{total-fixed}
 
--- what was written is read again, whatever stands behind
+-- what was written is read again, whatever stands after
 pub sequence-read-back : WrittenReads
 unfolding paramsFields paramsValues baseValues headerOf headerOfParams matrixValues
 sequence-read-back p t w =
@@ -46,18 +45,14 @@ sequence-read-back p t w =
     ∙ rw (matrix-of-values i, matrix-of-values n)
 
 -- each code is that of its aspect ratio
-choose : (c : ℕ) (b : Bool) (x y : AspectRatio) → (b ≡ true → aspectCode x ≡ c) → aspectCode y ≡ c → aspectCode (pick b x y) ≡ c
-unfolding pick
-choose c true x y f g = f refl
-choose c false x y f g = g
-
 aspect-back : (c : ℕ) → aspectCode (aspectRatio c) ≡ c
 unfolding aspectRatio
 aspect-back c =
-    choose c (eqb c 1) _ _ (λ e. sym (eqb-true c 1 e))
-    (choose c (eqb c 2) _ _ (λ e. sym (eqb-true c 2 e))
-    (choose c (eqb c 3) _ _ (λ e. sym (eqb-true c 3 e))
-    (choose c (eqb c 4) _ (Reserved c) (λ e. sym (eqb-true c 4 e)) refl)))
+    let back : AspectRatio → Type 0 = λ x. aspectCode x ≡ c in
+    pick-elim back (eqb c 1) (λ e. sym (eqb-true c 1 e)) λ a.
+    pick-elim back (eqb c 2) (λ e. sym (eqb-true c 2 e)) λ b.
+    pick-elim back (eqb c 3) (λ e. sym (eqb-true c 3 e)) λ d.
+    pick-elim back (eqb c 4) (λ e. sym (eqb-true c 4 e)) λ e. refl
 
 -- the fixed fields of what was read
 fixed-back : (s h intra nonIntra : List ℕ) → fixedFields s ≡ value h → eqb (getD h 7 0) 1 ≡ false

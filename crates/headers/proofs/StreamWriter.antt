@@ -1,4 +1,4 @@
--- Writing a sequence header: a matrix behind its flag, and the whole as the fixed fields gone on with.
+-- Writing a sequence header: a matrix after its flag, and the whole as the fixed fields gone on with.
 -- Assumes nothing.
 use mathlib.Core.Path.{_≡_, refl, _∙_}
 use mathlib.Core.List.{List, [], _∷_, _++_, append-nil}
@@ -8,7 +8,7 @@ use native.Mathlib.Omega.{arith}
 use lib.Dec.{lit<}
 use lib.ListN.{length}
 use Rattle.bits.specs.Bits.{pick, digits, bitList, appendBits}
-use Rattle.bits.specs.Fields.{any, fieldBits, writeHeader, fitsAll, total}
+use Rattle.bits.specs.Fields.{anyValue, fieldBits, writeHeader, fitsAll, total}
 use Rattle.bits.specs.Answers.{over, wroteBits, writeAnswer, writeResult}
 use Rattle.bits.specs.StartCodes.{startCode, sequenceHeaderCode}
 use Rattle.bits.proofs.Laws.{length-digits, bit-list-length}
@@ -53,13 +53,13 @@ matrix-loaded m n = matrix-total m ∙ rw n
 module _ (m : QuantiserMatrix) (l : length (m .bytes) ≡ 64) where
   pub matrix-bits : fieldBits (matrixFields m) (matrixValues m) ≡ digits 1 (flagOf (m .load)) ++ pick (m .load) (bitList (m .bytes)) []
   unfolding matrixFields matrixValues
-  matrix-bits = field-bits-more (any 1) _ _ _ ∙ rw (loaded-bits (m .load) (m .bytes) l)
+  matrix-bits = field-bits-more (anyValue 1) _ _ _ ∙ rw (loaded-bits (m .load) (m .bytes) l)
 
   pub matrix-fits : Below 256 (m .bytes) → Fits (matrixFields m) (matrixValues m)
   unfolding matrixFields matrixValues
   matrix-fits h =
       let b = flag-bound (m .load) in
-      fits-more {f = any 1} {v = flagOf (m .load)} (omega arith) (omega arith) zero-le (omega arith)
+      fits-more {f = anyValue 1} {v = flagOf (m .load)} (omega arith) (omega arith) zero-le (omega arith)
       (loaded-fits (m .load) (m .bytes) l h)
 
   -- the ways of `append_matrix`
@@ -132,13 +132,13 @@ params-laid p out {q = q} a b f h x y z =
     (write-on (startCode sequenceHeaderCode) (fs ++ i) (vs ++ v) out _ (matrixValues (nonIntra p)) code-small refl (omega arith) (matrix-count (nonIntra p) b) (omega arith))
 
 -- what `write_sequence_header` promises of its answer and of the bytes that it leaves
-abbrev Promised : SequenceHeaderParams → List ℕ → Written → List ℕ → Type 0
-Promised p out r o =
+abbrev HeaderPromised : SequenceHeaderParams → List ℕ → Written → List ℕ → Type 0
+HeaderPromised p out r o =
     (writtenAnswer r ≡ writeAnswer (startCode sequenceHeaderCode) (paramsFields p) (paramsValues p) out)
     × (o ≡ writeResult (startCode sequenceHeaderCode) (paramsFields p) (paramsValues p) out)
 
 pub params-unfit : (p : SequenceHeaderParams) (out : List ℕ) → fitsAll sequenceHeaderFields (baseValues p) ≡ false
-    → Promised p out (Refused FieldToWrite) out
+    → HeaderPromised p out (Refused FieldToWrite) out
 unfolding paramsFields paramsValues baseValues
 params-unfit p out f =
     write-unfit (startCode sequenceHeaderCode) (paramsFields p) (paramsValues p) out (fits-append sequenceHeaderFields _ (baseValues p) _ refl ∙ rw f)
@@ -167,12 +167,12 @@ module _ {p : SequenceHeaderParams} {k : ℕ} (d : Sized p k) (out : List ℕ) w
       fits-append sequenceHeaderFields _ (baseValues p) _ refl
       ∙ rw (d .fit, fits-append (matrixFields (intra p)) _ (matrixValues (intra p)) _ (fits-length i)) (rw (fits-all i, fits-all n))
 
-  pub params-full : length out < k → Promised p out (Refused ShortOutput) out
+  pub params-full : length out < k → HeaderPromised p out (Refused ShortOutput) out
   params-full h =
       write-full (startCode sequenceHeaderCode) (paramsFields p) (paramsValues p) out refl params-fit (omega (arith, params-bytes d))
 
   pub params-written : {r : List ℕ} → k ≤ length out → r ≡ over (writeHeader (startCode sequenceHeaderCode) (paramsFields p) (paramsValues p)) out
-      → Promised p out (Bytes k) r
+      → HeaderPromised p out (Bytes k) r
   params-written h x =
       write-over (startCode sequenceHeaderCode) (paramsFields p) (paramsValues p) out refl params-fit (params-bytes d) h x
 

@@ -25,8 +25,8 @@ errorNumber InvalidBitstream = 2
 errorNumber FieldToWrite = 16
 errorNumber ShortOutput = 19
 
-abbrev pub refusal : {X : Type 0} → Error → Answer X
-refusal e = refused (errorNumber e) 0 0 0
+abbrev pub headerRefusal : {X : Type 0} → Error → Answer X
+headerRefusal e = refused (errorNumber e) 0 0 0
 
 -- a missing prefix is a bad header (2)
 abbrev pub nextAnswer : NextStartCode → Answer ℕ
@@ -36,14 +36,14 @@ nextAnswer Missing = refused 2 0 0 0
 -- what stands beside the flag, if the flag says that it was parsed
 abbrev pub flagged : {X : Type 0} → Flag → X → Answer X
 flagged Parsed x = value x
-flagged (Refused e) x = refusal e
+flagged (Refused e) x = headerRefusal e
 
 abbrev pub headerAnswer : SequenceHeaderRead → Answer Mpeg2SequenceHeader
 headerAnswer r = flagged (r .answer) (r .header)
 
 abbrev pub extensionAnswer : SequenceExtensionRead → Answer Mpeg2SequenceExtension
 extensionAnswer (ex.Parsed x) = value x
-extensionAnswer (ex.Refused e) = refusal e
+extensionAnswer (ex.Refused e) = headerRefusal e
 
 abbrev pub sequenceAnswer : SequenceRead → Answer Mpeg2Sequence
 sequenceAnswer r = flagged (r .answer) (r .sequence)
@@ -51,7 +51,7 @@ sequenceAnswer r = flagged (r .answer) (r .sequence)
 -- a writer's: how many bytes
 abbrev pub writtenAnswer : Written → Answer ℕ
 writtenAnswer (wr.Bytes n) = value n
-writtenAnswer (wr.Refused e) = refusal e
+writtenAnswer (wr.Refused e) = headerRefusal e
 
 -- a flag's bit
 abbrev pub flagOf : Bool → ℕ

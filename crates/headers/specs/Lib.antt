@@ -5,6 +5,7 @@ pub mod Steps
 pub mod SequenceHeader
 pub mod SequenceExtension
 pub mod Sequence
+pub mod GroupHeader
 pub mod StreamWriter
 pub mod RoundTrips
 pub mod Numbers

@@ -1,4 +1,4 @@
--- The round trips of paper 01 ('Headers read and written'), as statements: what is owed of the sequence header and of its extension; and that bytes behind them do not matter.
+-- The round trips of paper 01 ('Headers read and written'), as statements: what is owed of the sequence header and of its extension; and that bytes after them do not matter.
 -- Assumes nothing.
 use Prim.Native.Nat.{ℕ, _<_}
 use mathlib.Core.Path.{_≡_}
@@ -35,7 +35,7 @@ pub record Writable (p : SequenceHeaderParams) : Type 0 where
   pub intra-places : length (p .«intra_quantiser_matrix» .bytes) ≡ 64
   pub non-intra-places : length (p .«non_intra_quantiser_matrix» .bytes) ≡ 64
 
--- a written sequence header parses to the fields given, whatever stands behind it
+-- a written sequence header parses to the fields given, whatever stands after it
 abbrev pub WrittenReads : Type 0
 WrittenReads = (p : SequenceHeaderParams) (behind : List ℕ) → Writable p
     → sequenceHeader (sequenceWritten p ++ behind) ≡ value (headerOfParams p)
@@ -60,20 +60,20 @@ PlainWrittenReads = (c : ChromaFormat) (progressive : Bool) (behind : List ℕ)
     → (fitsAll sequenceExtensionFields (extensionValues (plainExtension c progressive)) ≡ true)
     × (sequenceExtension (extensionWritten (plainExtension c progressive) ++ behind) ≡ value (plainExtension c progressive))
 
--- more bytes behind a header change its answer only where that is 1
-abbrev pub HeaderStays : Type 0
-HeaderStays = (s behind : List ℕ) → (sequenceHeader s ≡ refused 1 0 0 0 → ⊥) → sequenceHeader (s ++ behind) ≡ sequenceHeader s
+-- more bytes after a header change its answer only where that is 1
+abbrev pub SequenceHeaderStays : Type 0
+SequenceHeaderStays = (s behind : List ℕ) → (sequenceHeader s ≡ refused 1 0 0 0 → ⊥) → sequenceHeader (s ++ behind) ≡ sequenceHeader s
 
 abbrev pub ExtensionStays : Type 0
 ExtensionStays = (s behind : List ℕ) → (sequenceExtension s ≡ refused 1 0 0 0 → ⊥) → sequenceExtension (s ++ behind) ≡ sequenceExtension s
 
--- and what is too short with more bytes behind it (1) is too short without them
-abbrev pub HeaderCut : Type 0
-HeaderCut = (s behind : List ℕ) → sequenceHeader (s ++ behind) ≡ refused 1 0 0 0 → sequenceHeader s ≡ refused 1 0 0 0
+-- and what is too short with more bytes after it (1) is too short without them
+abbrev pub SequenceHeaderCut : Type 0
+SequenceHeaderCut = (s behind : List ℕ) → sequenceHeader (s ++ behind) ≡ refused 1 0 0 0 → sequenceHeader s ≡ refused 1 0 0 0
 
 abbrev pub ExtensionCut : Type 0
 ExtensionCut = (s behind : List ℕ) → sequenceExtension (s ++ behind) ≡ refused 1 0 0 0 → sequenceExtension s ≡ refused 1 0 0 0
 
--- a sequence that parses does so with more bytes behind it; a missing prefix (2) may come with them
+-- a sequence that parses does so with more bytes after it; a missing prefix (2) may come with them
 abbrev pub SequenceStays : Type 0
 SequenceStays = (s behind : List ℕ) (q : Mpeg2Sequence) → sequence s ≡ value q → sequence (s ++ behind) ≡ value q

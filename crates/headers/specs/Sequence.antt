@@ -1,4 +1,4 @@
--- A sequence header and the sequence extension behind it (ISO/IEC 13818-2 6.2.2), with the sizes, the rate and the buffer that the two make (6.3.3, 6.3.5).
+-- A sequence header and the sequence extension after it (ISO/IEC 13818-2 6.2.2), with the sizes, the rate and the buffer that the two make (6.3.3, 6.3.5).
 -- Assumes nothing.
 use Prim.Native.Nat.{ℕ, _+_, _*_}
 use mathlib.Core.List.{List}

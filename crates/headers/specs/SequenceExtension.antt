@@ -5,7 +5,7 @@ use mathlib.Core.List.{List, [], _∷_}
 use lib.Dec.{eqb}
 use lib.ListN.{getD}
 use Rattle.bits.specs.Bits.{pick}
-use Rattle.bits.specs.Fields.{Field, any, nonzero, exactly, readHeader}
+use Rattle.bits.specs.Fields.{Field, anyValue, nonzero, exactly, readHeader}
 use Rattle.bits.specs.Refusals.{Answer, value, andThen}
 use Rattle.bits.specs.StartCodes.{startCode, extensionStartCode}
 use Rattle.headers.specs.Answers.{flagOf}
@@ -16,17 +16,17 @@ use Rattle.headers.specs.declared.sequence_extension.Mpeg2SequenceExtens
 abbrev pub sequenceExtensionFields : List Field
 sequenceExtensionFields =
     exactly 4 1 ∷  -- 0 extension_start_code_identifier (Table 6-2)
-    any 8 ∷  -- 1 profile_and_level_indication
-    any 1 ∷  -- 2 progressive_sequence
+    anyValue 8 ∷  -- 1 profile_and_level_indication
+    anyValue 1 ∷  -- 2 progressive_sequence
     nonzero 2 ∷  -- 3 chroma_format, 00 reserved
-    any 2 ∷  -- 4 horizontal_size_extension
-    any 2 ∷  -- 5 vertical_size_extension
-    any 12 ∷  -- 6 bit_rate_extension
+    anyValue 2 ∷  -- 4 horizontal_size_extension
+    anyValue 2 ∷  -- 5 vertical_size_extension
+    anyValue 12 ∷  -- 6 bit_rate_extension
     exactly 1 1 ∷  -- 7 marker_bit
-    any 8 ∷  -- 8 vbv_buffer_size_extension
-    any 1 ∷  -- 9 low_delay
-    any 2 ∷  -- 10 frame_rate_extension_n
-    any 5 ∷ []  -- 11 frame_rate_extension_d
+    anyValue 8 ∷  -- 8 vbv_buffer_size_extension
+    anyValue 1 ∷  -- 9 low_delay
+    anyValue 2 ∷  -- 10 frame_rate_extension_n
+    anyValue 5 ∷ []  -- 11 frame_rate_extension_d
 
 -- Table 6-5, and the other way
 unfoldable pub chromaFormat : ℕ → ChromaFormat

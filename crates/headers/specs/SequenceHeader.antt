@@ -6,7 +6,7 @@ use mathlib.Core.Bool.{false}
 use lib.Dec.{eqb}
 use lib.ListN.{getD}
 use Rattle.bits.specs.Bits.{pick}
-use Rattle.bits.specs.Fields.{Field, any, nonzero, exactly, readHeader}
+use Rattle.bits.specs.Fields.{Field, anyValue, nonzero, exactly, readHeader}
 use Rattle.bits.specs.Refusals.{Answer, value, andThen}
 use Rattle.bits.specs.StartCodes.{startCode, sequenceHeaderCode}
 use Rattle.headers.specs.Answers.{flagOf}
@@ -24,14 +24,14 @@ sequenceHeaderFields =
     nonzero 4 ∷  -- 3 frame_rate_code
     nonzero 18 ∷  -- 4 bit_rate_value
     exactly 1 1 ∷  -- 5 marker_bit
-    any 10 ∷  -- 6 vbv_buffer_size_value
-    any 1 ∷ []  -- 7 constrained_parameters_flag
+    anyValue 10 ∷  -- 6 vbv_buffer_size_value
+    anyValue 1 ∷ []  -- 7 constrained_parameters_flag
 
 -- Table 6-3 (for 11172-2, whose codes mean other ratios, see docs/DIFFERENCES.md)
 unfoldable pub aspectRatio : ℕ → AspectRatio
 aspectRatio c = pick (eqb c 1) Square (pick (eqb c 2) Dar3x4 (pick (eqb c 3) Dar9x16 (pick (eqb c 4) Dar1x221 (Reserved c))))
 
--- the header of the fields h, with the two matrices that were read behind them
+-- the header of the fields h, with the two matrices that were read after them
 unfoldable pub headerOf : List ℕ → List ℕ → List ℕ → Mpeg2SequenceHeader
 headerOf h intra nonIntra = record {
   width = getD h 0 0;
@@ -45,7 +45,7 @@ headerOf h intra nonIntra = record {
   «non_intra_quant» = matrixOf nonIntra;
 }
 
--- the fields up to bit 94; there the intra matrix, and behind it the other
+-- the fields up to bit 94; there the intra matrix, and after it the other
 unfoldable pub sequenceHeader : List ℕ → Answer Mpeg2SequenceHeader
 sequenceHeader s =
     andThen (readHeader (startCode sequenceHeaderCode) sequenceHeaderFields s) (λ h.

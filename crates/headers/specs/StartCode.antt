@@ -1,4 +1,4 @@
--- next_start_code() (ISO/IEC 13818-2 5.2.3), as the headers look for the extension behind them.
+-- next_start_code() (ISO/IEC 13818-2 5.2.3), as the headers look for the extension after them.
 -- Assumes nothing.
 use Prim.Native.Nat.{ℕ, zero, suc, _+_, _-_}
 use mathlib.Core.List.{List, [], _∷_}
@@ -9,10 +9,10 @@ use Rattle.bits.specs.Fields.{sameBytes}
 use Rattle.bits.specs.StartCodes.{startCodePrefix}
 
 -- how many zero bytes come first
-unfoldable pub zeros : List ℕ → ℕ
-zeros [] = 0
-zeros (zero ∷ s) = suc (zeros s)
-zeros (suc b ∷ s) = 0
+unfoldable pub leadingZeros : List ℕ → ℕ
+leadingZeros [] = 0
+leadingZeros (zero ∷ s) = suc (leadingZeros s)
+leadingZeros (suc b ∷ s) = 0
 
 -- 00 00 01 stands at byte p
 unfoldable pub prefixAt : List ℕ → ℕ → Bool
@@ -20,4 +20,4 @@ prefixAt s p = sameBytes (take 3 (drop p s)) startCodePrefix
 
 -- the prefix that ends with the first byte, from byte k on, that is not zero; its two zeros may lie before byte k (docs/DIFFERENCES.md), and no byte need follow it
 unfoldable pub nextStartCode : List ℕ → ℕ → Answer ℕ
-nextStartCode s k = refuse 2 (not (prefixAt s (k + zeros (drop k s) - 2))) (value (k + zeros (drop k s) - 2))
+nextStartCode s k = refuse 2 (not (prefixAt s (k + leadingZeros (drop k s) - 2))) (value (k + leadingZeros (drop k s) - 2))

@@ -4,8 +4,9 @@ ghost use mathlib.Core.Path.{_≡_};
 ghost use Prim.Native.Nat.{_+_, _*_, _≤_};
 ghost use lib.ListN.{drop};
 ghost use Rattle.headers.specs.Answers.{errorNumber, nextAnswer, flagOf};
-ghost use Rattle.headers.specs.StartCode.{zeros, prefixAt, nextStartCode};
+ghost use Rattle.headers.specs.StartCode.{leadingZeros, prefixAt, nextStartCode};
 
+pub mod gop_header; // group_of_pictures_header(), and the time code
 pub mod quant_matrix_extension; // the 64-byte matrices
 pub mod sequence_extension; // sequence_extension(), and both sequence headers together
 pub mod sequence_header; // sequence_header()
@@ -51,9 +52,9 @@ pub enum NextStartCode {
     Missing,
 }
 
-// The byte behind the zero bytes from `from` on.
+// The byte after the zero bytes from `from` on.
 fn past_zeros(buf: &[u8], from: usize) -> usize
-    ensures { λ r. ⌜ r ≡ from + zeros (drop from (now (buf .entry))) ⌝ }
+    ensures { λ r. ⌜ r ≡ from + leadingZeros (drop from (now (buf .entry))) ⌝ }
 {
     let mut at = from;
     while at < buf.len() && buf[at] == 0 {

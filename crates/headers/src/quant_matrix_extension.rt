@@ -1,6 +1,6 @@
 // The 64-byte quantiser matrix of a sequence header, with its load flag (6.2.2.1, 6.3.11).
 ghost use mathlib.Core.Path.{_≡_};
-ghost use Prim.Native.Nat.{_+_, _≤_};
+ghost use Prim.Native.Nat.{_≤_};
 ghost use Rattle.bits.specs.Refusals.{orElse};
 ghost use Rattle.headers.specs.QuantMatrix.{noMatrix};
 ghost use Rattle.headers.specs.Steps.{matrixAt, loadedAt, matrixAnswer};
@@ -54,7 +54,7 @@ fn read_bytes(buf: &[u8], at: usize) -> MatrixRead
     }
 }
 
-// The load flag at bit `at` and, where it is 1, the 64 bytes behind it.
+// The load flag at bit `at` and, where it is 1, the 64 bytes after it.
 pub(crate) fn read_matrix(buf: &[u8], at: u32) -> MatrixRead
     ensures { λ r. ⌜ matrixAnswer r ≡ matrixAt (now (buf .entry)) at ⌝ }
     ensures { λ r. ⌜ r .matrix ≡ orElse noMatrix (matrixAt (now (buf .entry)) at) ⌝ }

@@ -2,7 +2,7 @@
 ghost use mathlib.Core.Path.{_≡_};
 ghost use Prim.Native.Nat.{_≤_};
 ghost use Rattle.bits.specs.Refusals.{value, andThen, orElse};
-ghost use Rattle.headers.specs.Answers.{refusal, extensionAnswer, sequenceAnswer};
+ghost use Rattle.headers.specs.Answers.{headerRefusal, extensionAnswer, sequenceAnswer};
 ghost use Rattle.headers.specs.SequenceExtension.{chromaFormat, sequenceExtension};
 ghost use Rattle.headers.specs.SequenceHeader.{sequenceHeaderBytes};
 ghost use Rattle.headers.specs.Sequence.{sequenceOf, noExtension, noSequence, sequence};
@@ -132,7 +132,7 @@ fn no_extension() -> Mpeg2SequenceExtension
 }
 
 fn refused(error: Error) -> SequenceRead
-    ensures { λ r. ⌜ (sequenceAnswer r ≡ refusal error) × (r .sequence ≡ noSequence) ⌝ }
+    ensures { λ r. ⌜ (sequenceAnswer r ≡ headerRefusal error) × (r .sequence ≡ noSequence) ⌝ }
 {
     let none = sequence_header::refused(error);
     let header = none.header;

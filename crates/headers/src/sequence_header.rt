@@ -2,7 +2,7 @@
 ghost use mathlib.Core.Path.{_≡_};
 ghost use Prim.Native.Nat.{_≤_, _+_, _*_};
 ghost use Rattle.bits.specs.Refusals.{orElse};
-ghost use Rattle.headers.specs.Answers.{refusal, headerAnswer, flagOf};
+ghost use Rattle.headers.specs.Answers.{headerRefusal, headerAnswer, flagOf};
 ghost use Rattle.headers.specs.SequenceHeader.{aspectRatio, noHeader, sequenceHeader};
 use crate::Error;
 use crate::quant_matrix_extension::QuantiserMatrix;
@@ -69,7 +69,7 @@ fn aspect_ratio_of(code: u32) -> AspectRatio
 }
 
 pub(crate) fn refused(error: Error) -> SequenceHeaderRead
-    ensures { λ r. ⌜ (headerAnswer r ≡ refusal error) × (r .header ≡ noHeader) ⌝ }
+    ensures { λ r. ⌜ (headerAnswer r ≡ headerRefusal error) × (r .header ≡ noHeader) ⌝ }
 {
     let intra_quant = no_matrix();
     let non_intra_quant = no_matrix();
@@ -89,7 +89,7 @@ pub(crate) fn refused(error: Error) -> SequenceHeaderRead
     }
 }
 
-// The bit behind the intra matrix.
+// The bit after the intra matrix.
 fn behind(load: bool) -> u32
     ensures { λ r. ⌜ r ≡ 95 + 512 * flagOf load ⌝ }
 {

@@ -10,7 +10,7 @@ use lib.ListN.{length}
 use borrow.Author.Tests.{lt-ltb, le-ltb}
 use Rattle.bits.specs.Bits.{pick}
 use Rattle.bits.specs.Refusals.{value, refused, number}
-use Rattle.vbv.specs.Answers.{errorNumber, refusal}
+use Rattle.vbv.specs.Answers.{modelNumber, modelRefusal}
 use Rattle.vbv.specs.declared.RemovalInterval.{RemovalInterval}
 use Rattle.vbv.specs.declared.VbvError.{VbvError}
 use Rattle.bits.specs.Refusals.{plain}
@@ -54,10 +54,10 @@ module _ (c : CbrConfig) (place : List ℕ) where
         let a : create c ≡ value (r .writer) = sym e ∙ ap (λ x. creationAnswer x (r .writer)) h in
         rw (le-ltb (length place) stateSize room, a) (refl, g)
 
-    pub not-created : (v : VbvError) (n : ℕ) → r .answer ≡ NotCreated v → n ≡ errorNumber v → Creates n place
+    pub not-created : (v : VbvError) (n : ℕ) → r .answer ≡ NotCreated v → n ≡ modelNumber v → Creates n place
     unfolding createIn stateAfter pick
     not-created v n h g =
-        let a : create c ≡ refusal v = sym e ∙ ap (λ x. creationAnswer x (r .writer)) h in
+        let a : create c ≡ modelRefusal v = sym e ∙ ap (λ x. creationAnswer x (r .writer)) h in
         rw (le-ltb (length place) stateSize room, a) (g, refl)
 
 -- ---- an offer: the number, and state, output part and answer place afterwards
@@ -143,6 +143,6 @@ module _ (s : List ℕ) (x : CbrState) (e : x ≡ stateAt s) where
     pub not-withdrawn : (v : VbvError) {n : ℕ} {after : List ℕ} → r .answer ≡ NotWithdrawn v → Withdraws n after
     not-withdrawn v a =
         let k = holds s x e h in
-        let b : refusal v ≡ withdraw (x .writer) = sym (ap (λ y. withdrawalAnswer y (r .writer)) a) ∙ f in
+        let b : modelRefusal v ≡ withdraw (x .writer) = sym (ap (λ y. withdrawalAnswer y (r .writer)) a) ∙ f in
         let d : withdraw (x .writer) ≡ value _ = ap withdraw (k .1) ∙ withdraw-answer (writerAt s) (state-fits s (k .0) .2) in
         absurd (true≢false cc)

@@ -15,24 +15,24 @@ use borrow.Author.Tests.{not-true, eqb-true, ne-eqb}
 use Rattle.vbv.specs.Params.{rateUnit, bufferUnit}
 use Rattle.bits.specs.StartCodes.{userDataStartCode, extensionStartCode, sequenceEndCode, lastSliceCode, sequenceHeaderCode, groupStartCode}
 use Rattle.bits.specs.Bits.{bitsAt}
-use Rattle.bits.proofs.Flags.{and-left}
-use Rattle.bits.proofs.Reading.{both-true, same-self}
+use Rattle.bits.proofs.Flags.{and-left, both-true}
+use Rattle.bits.proofs.Reading.{same-self}
 use Rattle.bits.proofs.Appending.{Below}
-use Rattle.headers.specs.StartCode.{zeros}
+use Rattle.headers.specs.StartCode.{leadingZeros}
 use Rattle.picture_header.specs.Picture.{picture}
 use Rattle.headers.specs.Sequence.{sequence}
 use Rattle.headers.specs.declared.sequence_extension.Mpeg2Sequence.{Mpeg2Sequence}
 use Rattle.picture_header.proofs.Picture.{picture-append}
 use Rattle.headers.proofs.StartCode.{prefix-true}
 use Rattle.headers.proofs.Sequence.{sequence-append}
-use Rattle.picture_header.proofs.OtherDelay.{OtherDelay, delayed, delayed-delay, picture-delayed}
+use Rattle.picture_header.proofs.OtherDelay.{OtherDelay, withDelay, delayed-delay, picture-delayed}
 use Rattle.vbv.specs.Patch.{startsPicture, patched}
 use Rattle.bits.specs.Refusals.{Answer, value, refused, andThen, orElse}
 use Rattle.vbv.specs.Answers.{frameRate}
 use Rattle.vbv.proofs.Params.{params-are as fields-are}
 use Rattle.vbv.specs.declared.VbvParams.{VbvParams}
 use Rattle.vbv.specs.declared.RemovalInterval.{RemovalInterval}
-use Rattle.vbv.proofs.Patching.{starts-is, patched-length, patched-front, patched-rest, patched-below, patched-delay, patched-before, patched-behind}
+use Rattle.vbv.proofs.Patching.{starts-picture-is, patched-length, patched-front, patched-rest, patched-below, patched-delay, patched-before, patched-behind}
 use Rattle.scan.specs.Codes.{Code, codes, codesFrom, every, endsPrefix}
 use Rattle.scan.specs.Pictures.{isSlice, notSlice, notPicture, skip}
 use Rattle.scan.proofs.Laying.{OnePicture, Opened, Piece}
@@ -105,7 +105,7 @@ module _ (k : PictureKind) (i : RemovalInterval) (s : List ℕ) (fits : layerFit
   layer-long = omega (arith, layer-twelve f)
 
   pub layer-starts : startsPicture s ≡ true
-  layer-starts = sym (starts-is s layer-long) ∙ rw (layer-header f .code-first) (same-self (0x00 ∷ 0x00 ∷ 0x01 ∷ 0x00 ∷ []))
+  layer-starts = sym (starts-picture-is s layer-long) ∙ rw (layer-header f .code-first) (same-self (0x00 ∷ 0x00 ∷ 0x01 ∷ 0x00 ∷ []))
 
   pub layer-length : (d : ℕ) → length (patched s d) ≡ length s
   layer-length d = patched-length s d layer-starts
@@ -132,7 +132,7 @@ module _ (k : PictureKind) (i : RemovalInterval) (s : List ℕ) (fits : layerFit
     patched-low =
         ⊎-elim
         (λ (v : 1 ≤ bitsAt s 61 3). inl (rw (other .same-behind 61 3 (lit≤ tt)) v))
-        (λ (v : 2 ≤ zeros (drop 8 s)). inr (rw (other .same-rest) v))
+        (λ (v : 2 ≤ leadingZeros (drop 8 s)). inr (rw (other .same-rest) v))
         (layer-low f)
 
     patched-head : PictureHead (patched s d)
@@ -171,7 +171,7 @@ module _ (k : PictureKind) (i : RemovalInterval) (s : List ℕ) (fits : layerFit
     -- and shows the delay that was put in, and the facts that the layer's headers have
     pub layer-shown : (t : List ℕ) → shown Mpeg2 (patched s d ++ t) ≡ value (d, factsIn s)
     layer-shown t =
-        let h = delayed (f .header) (bitsAt (patched s d) 45 16) in
+        let h = withDelay (f .header) (bitsAt (patched s d) 45 16) in
         let p : picture (patched s d ++ t) ≡ value (h, f .extension) =
         picture-append (patched s d) t h (f .extension) (picture-delayed s (patched s d) other (f .header) (f .extension) (f .parsed) (f .zeros-behind)) in
         shown-parsed (patched s d ++ t) h (f .extension) p

@@ -13,10 +13,10 @@ use borrow.Author.Tests.{not-true, leb-true, eqb-true}
 use Rattle.bits.specs.Bits.{bitsAt}
 use Rattle.bits.specs.Refusals.{Answer, value, refused, andThen, orElse}
 use Rattle.bits.proofs.Laws.{bits-bound, bits-split}
-use Rattle.bits.proofs.Reading.{both-true}
+use Rattle.bits.proofs.Flags.{both-true}
 use Rattle.bits.proofs.Appending.{Below}
 use Rattle.bits.proofs.Patching.{byte-bits}
-use Rattle.headers.specs.StartCode.{zeros}
+use Rattle.headers.specs.StartCode.{leadingZeros}
 use Rattle.picture_header.specs.PictureHeader.{pictureHeader, pictureHeaderBytes}
 use Rattle.picture_header.specs.Picture.{picture}
 use Rattle.picture_header.specs.declared.PictureCodingType.{PictureCodingType}
@@ -30,7 +30,7 @@ use Rattle.picture_header.proofs.PictureHeader.{PictureHeaderParsed, picture-he
 use Rattle.picture_header.proofs.Picture.{picture-parsed, extension-placed}
 use Rattle.headers.proofs.StartCode.{next-found}
 use Rattle.picture_header.proofs.Extent.{header-bytes}
-use Rattle.picture_header.proofs.OtherDelay.{delayed, delayed-type, forward-code, extra-flag}
+use Rattle.picture_header.proofs.OtherDelay.{withDelay, delayed-type, forward-code, extra-flag}
 use Rattle.vbv.specs.declared.RemovalInterval.{RemovalInterval}
 use Rattle.vbv.specs.declared.RemovalInterval.the-variants.{Frame, Field}
 use Rattle.pictures.proofs.Showing.{facts-are}
@@ -47,7 +47,7 @@ pub record LayerFits (k : PictureKind) (i : RemovalInterval) (s : List ℕ) : Ty
   pub parsed : picture s ≡ value (header, extension)
   pub interval : intervalOf (isField (extension .«picture_structure»)) ≡ i
   pub seven : codeSeven (header .«fwd_f_code») ≡ true
-  pub zeros-behind : 2 ≤ zeros (drop (pictureHeaderBytes header) s)
+  pub zeros-behind : 2 ≤ leadingZeros (drop (pictureHeaderBytes header) s)
   pub codes-fit : layerCodes (codes s) ≡ true
   pub closed : endsPrefix s ≡ false
 
@@ -105,9 +105,9 @@ facts-parsed f = rw (f .parsed)
 
 -- the delay is no fact
 pub facts-delayed : {k : PictureKind} {i : RemovalInterval} {s : List ℕ} (f : LayerFits k i s) (d : ℕ)
-    → factsOf (delayed (f .header) d) (f .extension) ≡ factsIn s
+    → factsOf (withDelay (f .header) d) (f .extension) ≡ factsIn s
 facts-delayed f d =
-    facts-are (delayed (f .header) d) (f .extension)
+    facts-are (withDelay (f .header) d) (f .extension)
     ∙ rw (delayed-type (f .header) d) (sym (facts-are (f .header) (f .extension)))
     ∙ sym (facts-parsed f)
 
@@ -121,7 +121,7 @@ facts-field k i s e =
 
 -- the low three bits of byte 7 are not all zero, or two zero bytes follow
 abbrev pub LowBits : List ℕ → Type 0
-LowBits s = (1 ≤ bitsAt s 61 3) ⊎ (2 ≤ zeros (drop 8 s))
+LowBits s = (1 ≤ bitsAt s 61 3) ⊎ (2 ≤ leadingZeros (drop 8 s))
 
 seven-is : (c : OptionCode) (v : ℕ) → c ≡ SomeCode v → codeSeven c ≡ true → v ≡ 7
 unfolding codeSeven
@@ -129,7 +129,7 @@ seven-is NoCode v e q = cc
 seven-is (SomeCode w) v e q = let z : w ≡ v = cc in rw (← z) (eqb-true w 7 q)
 
 low-bits : (s : List ℕ) (h : Mpeg2PictureHeader) → pictureHeader s ≡ value h → (h .«picture_coding_type» ≡ DcIntra → ⊥)
-    → codeSeven (h .«fwd_f_code») ≡ true → 2 ≤ zeros (drop (pictureHeaderBytes h) s) → LowBits s
+    → codeSeven (h .«fwd_f_code») ≡ true → 2 ≤ leadingZeros (drop (pictureHeaderBytes h) s) → LowBits s
 low-bits s h e n q z = type (h .«picture_coding_type») refl
   where
     p : PictureHeaderParsed s h
@@ -166,7 +166,7 @@ picture-head t b l c k w = record {
   clear =
       ⊎-elim
       (λ (v : 1 ≤ bitsAt t 61 3). inl (λ z. omega (arith, byte-bits t 7 (b 7), bits-split t 56 5 3)))
-      (λ (v : 2 ≤ zeros (drop 8 t)). inr (
+      (λ (v : 2 ≤ leadingZeros (drop 8 t)). inr (
         sym (getD-drop 8 t 0 0) ∙ zeros-zero (drop 8 t) 0 (omega arith),
         sym (getD-drop 8 t 1 0) ∙ zeros-zero (drop 8 t) 1 (omega arith),
       ))

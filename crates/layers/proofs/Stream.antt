@@ -13,7 +13,7 @@ use Rattle.vbv.specs.declared.RemovalInterval.{RemovalInterval}
 use Rattle.vbv.specs.declared.VbvParams.{VbvParams}
 use Rattle.scan.specs.Pictures.{pictures}
 use Rattle.scan.proofs.Laid.{Tail, laid-pictures}
-use Rattle.scan.proofs.Laying.{Piece, Pieces, none, more, laid, laidPics, laid-none, laid-more, pics-none, pics-last, pics-more}
+use Rattle.scan.proofs.Laying.{Piece, Pieces, none, more, laidPieces, laidPics, laid-none, laid-more, pics-none, pics-last, pics-more}
 use Rattle.scan.proofs.Pieces.{piece-zeros}
 use Rattle.bits.specs.Refusals.{value}
 use Rattle.pictures.specs.Seen.{intervalOf, shown, seenEach, seenPictures}
@@ -118,7 +118,7 @@ pieces : {p : VbvParams} {placed : Bool} {xs : List Part} → PartsFit p placed 
 pieces no-parts = none
 pieces (part {x} f fs) = more (bytesOf x) (length (x .headers)) (part-piece f) (pieces fs)
 
-stream-laid : {p : VbvParams} {placed : Bool} {xs : List Part} (f : PartsFit p placed xs) (t : List ℕ) → stream xs t ≡ laid (pieces f) t
+stream-laid : {p : VbvParams} {placed : Bool} {xs : List Part} (f : PartsFit p placed xs) (t : List ℕ) → stream xs t ≡ laidPieces (pieces f) t
 unfolding stream pieces
 stream-laid no-parts t = sym (laid-none t)
 stream-laid (part {x} f fs) t =

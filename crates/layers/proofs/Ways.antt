@@ -13,8 +13,8 @@ use Rattle.bits.specs.Bits.{there}
 use Rattle.bits.specs.Answers.{readBits}
 use Rattle.bits.specs.Refusals.{Answer, value, refused}
 use Rattle.bits.proofs.Laws.{bits-drop}
-use Rattle.bits.proofs.Reading.{there-is, there-drop, found as read-found, missed, rest-is}
-use Rattle.headers.specs.StartCode.{zeros, prefixAt}
+use Rattle.bits.proofs.Reading.{there-is, there-drop, bits-found as read-found, missed, rest-is}
+use Rattle.headers.specs.StartCode.{leadingZeros, prefixAt}
 use Rattle.picture_header.specs.Picture.{picture}
 use Rattle.picture_header.specs.PictureHeader.{pictureHeader, pictureHeaderBits, pictureHeaderBytes}
 use Rattle.picture_header.specs.declared.Mpeg2PictureHeader.{Mpeg2PictureHeader}
@@ -27,7 +27,7 @@ use Rattle.pictures.specs.Seen.{isField, intervalOf}
 use Rattle.scan.specs.declared.Found.the-variants.{At, Nothing}
 use Rattle.scan.specs.Codes.{codes, codesAt, every, nextCode, endsPrefix, found}
 use Rattle.scan.specs.Pictures.{isSlice, notSequence, skip}
-use Rattle.scan.proofs.Walk.{seen, unseen, sought, unsought}
+use Rattle.scan.proofs.Walk.{code-seen, unseen, sought, unsought}
 use Rattle.scan.proofs.Search.{codes-from-zero, every-more}
 use Rattle.scan.proofs.Prefix.{ends-last-three}
 use Rattle.layers.specs.Headers.{opensHeaders, sequenceFirst}
@@ -58,7 +58,7 @@ first-none s e = rw (codes-from-zero s, unseen s 0 e)
 pub first-some : (s : List ℕ) (o c : ℕ) → nextCode s 0 ≡ At o c
     → (eqb o 0 && (eqb c sequenceHeaderCode && every notSequence (codesAt s (o + 4)))) ≡ sequenceFirst (codes s)
 unfolding sequenceFirst
-first-some s o c e = rw (codes-from-zero s, seen s 0 o c e .list)
+first-some s o c e = rw (codes-from-zero s, code-seen s 0 o c e .list)
 
 pub layer-none : (s : List ℕ) → nextCode s 0 ≡ Nothing → false ≡ layerCodes (codes s)
 unfolding layerCodes
@@ -67,7 +67,7 @@ layer-none s e = rw (codes-from-zero s, unseen s 0 e)
 pub layer-some : (s : List ℕ) (o c : ℕ) → nextCode s 0 ≡ At o c
     → (eqb o 0 && (eqb c 0 && slices (skip isExtension (codesAt s (o + 4))))) ≡ layerCodes (codes s)
 unfolding layerCodes
-layer-some s o c e = rw (codes-from-zero s, seen s 0 o c e .list)
+layer-some s o c e = rw (codes-from-zero s, code-seen s 0 o c e .list)
 
 pub slices-none : (s : List ℕ) (i : ℕ) → found (skip isExtension (codesAt s i)) ≡ Nothing → false ≡ slices (skip isExtension (codesAt s i))
 unfolding slices
@@ -83,21 +83,21 @@ slices-some s i o c e =
 
 -- ---- zero bytes
 
-pub zeros-few : (s : List ℕ) (k : ℕ) → length s < k + 2 → false ≡ leb 2 (zeros (drop k s))
-zeros-few s k h = sym (lt-leb 2 (zeros (drop k s)) (case (eqb (getD s k 0) 0) refl (leb (length s) k) refl))
+pub zeros-few : (s : List ℕ) (k : ℕ) → length s < k + 2 → false ≡ leb 2 (leadingZeros (drop k s))
+zeros-few s k h = sym (lt-leb 2 (leadingZeros (drop k s)) (case (eqb (getD s k 0) 0) refl (leb (length s) k) refl))
   where
-    case : (b : Bool) → eqb (getD s k 0) 0 ≡ b → (t : Bool) → leb (length s) k ≡ t → zeros (drop k s) < 2
+    case : (b : Bool) → eqb (getD s k 0) 0 ≡ b → (t : Bool) → leb (length s) k ≡ t → leadingZeros (drop k s) < 2
     case b e true t = omega (arith, zeros-past s k (leb-true _ _ t))
     case true e false t = omega (arith, zeros-more s k (leb-false _ _ t) e, zeros-past s (k + 1) (omega arith))
     case false e false t = omega (arith, zeros-none s k (leb-false _ _ t) e)
 
-pub zeros-test : (s : List ℕ) (k : ℕ) → k + 2 ≤ length s → (eqb (getD s k 0) 0 && eqb (getD s (k + 1) 0) 0) ≡ leb 2 (zeros (drop k s))
+pub zeros-test : (s : List ℕ) (k : ℕ) → k + 2 ≤ length s → (eqb (getD s k 0) 0 && eqb (getD s (k + 1) 0) 0) ≡ leb 2 (leadingZeros (drop k s))
 zeros-test s k h = case (eqb (getD s k 0) 0) refl (eqb (getD s (k + 1) 0) 0) refl
   where
-    case : (a : Bool) → eqb (getD s k 0) 0 ≡ a → (b : Bool) → eqb (getD s (k + 1) 0) 0 ≡ b → (a && b) ≡ leb 2 (zeros (drop k s))
-    case false e b f = sym (lt-leb 2 (zeros (drop k s)) (omega (arith, zeros-none s k (omega arith) e)))
-    case true e false f = sym (lt-leb 2 (zeros (drop k s)) (omega (arith, zeros-more s k (omega arith) e, zeros-none s (k + 1) (omega arith) f)))
-    case true e true f = sym (le-leb 2 (zeros (drop k s)) (omega (arith, zeros-more s k (omega arith) e, zeros-more s (k + 1) (omega arith) f)))
+    case : (a : Bool) → eqb (getD s k 0) 0 ≡ a → (b : Bool) → eqb (getD s (k + 1) 0) 0 ≡ b → (a && b) ≡ leb 2 (leadingZeros (drop k s))
+    case false e b f = sym (lt-leb 2 (leadingZeros (drop k s)) (omega (arith, zeros-none s k (omega arith) e)))
+    case true e false f = sym (lt-leb 2 (leadingZeros (drop k s)) (omega (arith, zeros-more s k (omega arith) e, zeros-none s (k + 1) (omega arith) f)))
+    case true e true f = sym (le-leb 2 (leadingZeros (drop k s)) (omega (arith, zeros-more s k (omega arith) e, zeros-more s (k + 1) (omega arith) f)))
 
 -- ---- after a picture header
 
@@ -153,7 +153,7 @@ pub tests-are : (k : PictureKind) (i : RemovalInterval) (s : List ℕ) (h : Mpeg
     && (sameInterval i (intervalOf (isField (x .«picture_structure»)))
     && (not (x .«repeat_first_field»)
     && ((flagClear (h .«full_pel_forward_vector») && (codeSeven (h .«fwd_f_code») && (flagClear (h .«full_pel_backward_vector») && codeSeven (h .«bwd_f_code»))))
-    && (eqb (padding s h) 0 && leb 2 (zeros (drop (pictureHeaderBytes h) s)))))))
+    && (eqb (padding s h) 0 && leb 2 (leadingZeros (drop (pictureHeaderBytes h) s)))))))
     ≡ headerFits k i s
 unfolding headerFits headersTell
 tests-are k i s h x e = rw (← e) (simp and-assoc)

@@ -8,7 +8,7 @@ use lib.ListN.{drop}
 use Rattle.bits.specs.StartCodes.{userDataStartCode, extensionStartCode}
 use Rattle.bits.specs.Bits.{bitsAt}
 use Rattle.bits.specs.Refusals.{value, andThen, orElse}
-use Rattle.headers.specs.StartCode.{zeros}
+use Rattle.headers.specs.StartCode.{leadingZeros}
 use Rattle.picture_header.specs.PictureHeader.{pictureHeaderBits, pictureHeaderBytes}
 use Rattle.picture_header.specs.Picture.{picture}
 use Rattle.picture_header.specs.declared.PictureCodingType.{PictureCodingType}
@@ -73,7 +73,7 @@ headersTell k i s h x =
     && (flagClear (h .«full_pel_backward_vector»)
     && (codeSeven (h .«bwd_f_code»)
     && (eqb (padding s h) 0
-    && leb 2 (zeros (drop (pictureHeaderBytes h) s)))))))))
+    && leb 2 (leadingZeros (drop (pictureHeaderBytes h) s)))))))))
 
 -- both headers parse, and tell this
 unfoldable pub headerFits : PictureKind → RemovalInterval → List ℕ → Bool

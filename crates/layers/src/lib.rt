@@ -4,7 +4,7 @@ ghost use mathlib.Core.Bool.{_&&_};
 ghost use lib.Dec.{eqb, leb};
 ghost use lib.ListN.{drop};
 ghost use Rattle.bits.specs.Refusals.{value};
-ghost use Rattle.headers.specs.StartCode.{zeros};
+ghost use Rattle.headers.specs.StartCode.{leadingZeros};
 ghost use Rattle.picture_header.specs.PictureHeader.{pictureHeader, pictureHeaderBytes};
 ghost use Rattle.scan.specs.Codes.{codes, codesAt, every, endsPrefix, found};
 ghost use Rattle.scan.specs.Pictures.{skip};
@@ -267,7 +267,7 @@ fn padding_clear(layer: &[u8], header: Mpeg2PictureHeader) -> bool
 
 // Whether two zero bytes stand at a byte.
 fn two_zeros(s: &[u8], at: usize) -> bool
-    ensures { λ r. ⌜ r ≡ leb 2 (zeros (drop at (now (s .entry)))) ⌝ }
+    ensures { λ r. ⌜ r ≡ leb 2 (leadingZeros (drop at (now (s .entry)))) ⌝ }
 {
     if s.len() < 2 {
         return false;
@@ -281,7 +281,7 @@ fn two_zeros(s: &[u8], at: usize) -> bool
 // Whether two zero bytes follow a picture header.
 fn zeros_behind(layer: &[u8], header: Mpeg2PictureHeader) -> bool
     requires { ⌜ pictureHeader (now layer) ≡ value header ⌝ }
-    ensures { λ r. ⌜ r ≡ leb 2 (zeros (drop (pictureHeaderBytes header) (now (layer .entry)))) ⌝ }
+    ensures { λ r. ⌜ r ≡ leb 2 (leadingZeros (drop (pictureHeaderBytes header) (now (layer .entry)))) ⌝ }
 {
     let n = header.extra_information_bytes;
     let bit = header.extra_information_bit as usize;

@@ -19,7 +19,7 @@ use Rattle.vbv.proofs.Fitting.{model-fits}
 use Rattle.rate_control.proofs.Fitting.{all-fit-at, quantiser-is, writer-fits}
 use Rattle.rate_control.proofs.States.{pending-some}
 use Rattle.layout.specs.State.{pendingCode, pendingQuantiser, stateWords}
-use Rattle.words.proofs.Bytes.{AllSmall, none, some, each-small, small-append}
+use Rattle.words.proofs.Bytes.{AllWords, none, some, each-small, small-append}
 
 pub code-low : (p : Pending) → pendingCode p ≤ 3
 unfolding pendingCode
@@ -33,17 +33,17 @@ unfolding pendingQuantiser
 quantiser-low Nothing h = omega arith
 quantiser-low (Waits k q) h = quantiser-is (pending-some (Waits k q) k q (quantiserFits q) refl refl ∙ h) .high
 
-targets-small : (vs : List ℕ) → allFit (λ t. leb t farthest) vs ≡ true → AllSmall vs
+targets-small : (vs : List ℕ) → allFit (λ t. leb t farthest) vs ≡ true → AllWords vs
 targets-small vs h = each-small vs (λ k g. omega (arith, leb-true (getD vs k 0) farthest (all-fit-at _ vs k h g)))
 
-quantisers-small : (vs : List ℕ) → allFit quantiserFits vs ≡ true → AllSmall vs
+quantisers-small : (vs : List ℕ) → allFit quantiserFits vs ≡ true → AllWords vs
 quantisers-small vs h = each-small vs (λ k g. omega (arith, quantiser-is (all-fit-at quantiserFits vs k h g) .high))
 
 -- as a function, so that the goal says which word is meant
-small-more : {v : ℕ} {vs : List ℕ} → v < 2 ^ 64 → AllSmall vs → AllSmall (v ∷ vs)
+small-more : {v : ℕ} {vs : List ℕ} → v < 2 ^ 64 → AllWords vs → AllWords (v ∷ vs)
 small-more h f = some h f
 
-pub state-small : (w : CbrWriter) → writerFits w ≡ true → AllSmall (stateWords w)
+pub state-small : (w : CbrWriter) → writerFits w ≡ true → AllWords (stateWords w)
 unfolding stateWords
 state-small w h =
     let f = writer-fits h in

@@ -8,9 +8,8 @@ use native.Mathlib.Omega.{arith}
 use lib.Dec.{leb, eqb}
 use lib.ListN.{length}
 use borrow.Author.Tests.{leb-true, le-leb, eqb-true}
-use Rattle.bits.proofs.Flags.{pick-elim}
+use Rattle.bits.proofs.Flags.{pick-elim, both-true}
 use Rattle.bits.specs.Bits.{pick}
-use Rattle.bits.proofs.Reading.{both-true}
 use Rattle.vbv.specs.declared.VbvCbrModel.{VbvCbrModel}
 use Rattle.layers.specs.declared.PictureKind.{PictureKind}
 use Rattle.layers.specs.declared.PictureKind.the-variants.{I, P, B}

@@ -11,7 +11,7 @@ use lib.Seq.{length-take-le}
 use borrow.Author.Tests.{leb-true, eqb-true, le-leb}
 use Rattle.bits.specs.Bits.{pick}
 use Rattle.bits.proofs.Over.{over-is}
-use Rattle.bits.proofs.Reading.{both-true}
+use Rattle.bits.proofs.Flags.{both-true}
 use Rattle.headers.specs.Answers.{flagOf}
 use Rattle.headers.proofs.Answers.{flag-same, flag-back, flag-bound}
 use Rattle.layers.specs.declared.PictureKind.the-variants.{I, P, B}

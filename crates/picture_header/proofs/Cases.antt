@@ -16,17 +16,17 @@ use Rattle.picture_header.specs.declared.PictureRead.the-variants as pc
 use Rattle.picture_header.specs.declared.HeaderLength.{HeaderLength}
 use Rattle.picture_header.specs.declared.HeaderLength.the-variants as ln
 
-headerOf : Answer Mpeg2PictureHeader → PictureHeaderRead
-headerOf (value h) = hd.Parsed h
-headerOf (refused n p c e) = hd.Refused (errorOf n)
+headerBack : Answer Mpeg2PictureHeader → PictureHeaderRead
+headerBack (value h) = hd.Parsed h
+headerBack (refused n p c e) = hd.Refused (errorOf n)
 
-header-back : (r : PictureHeaderRead) → headerOf (pictureHeaderAnswer r) ≡ r
-unfolding headerOf
+header-back : (r : PictureHeaderRead) → headerBack (pictureHeaderAnswer r) ≡ r
+unfolding headerBack
 header-back (hd.Parsed h) = refl
 header-back (hd.Refused e) = ap hd.Refused (error-back e)
 
 pub one-header : (r q : PictureHeaderRead) → pictureHeaderAnswer r ≡ pictureHeaderAnswer q → r ≡ q
-one-header r q e = sym (header-back r) ∙ ap headerOf e ∙ header-back q
+one-header r q e = sym (header-back r) ∙ ap headerBack e ∙ header-back q
 
 codingOf : Answer PictureCodingExtension → PictureCodingExtensionRead
 codingOf (value x) = cx.Parsed x
@@ -40,17 +40,17 @@ coding-back (cx.Refused e) = ap cx.Refused (error-back e)
 pub one-coding : (r q : PictureCodingExtensionRead) → codingAnswer r ≡ codingAnswer q → r ≡ q
 one-coding r q e = sym (coding-back r) ∙ ap codingOf e ∙ coding-back q
 
-pictureOf : Answer (Mpeg2PictureHeader × PictureCodingExtension) → PictureRead
-pictureOf (value p) = pc.Parsed (p .0) (p .1)
-pictureOf (refused n p c e) = pc.Refused (errorOf n)
+pictureBack : Answer (Mpeg2PictureHeader × PictureCodingExtension) → PictureRead
+pictureBack (value p) = pc.Parsed (p .0) (p .1)
+pictureBack (refused n p c e) = pc.Refused (errorOf n)
 
-picture-back : (r : PictureRead) → pictureOf (pictureAnswer r) ≡ r
-unfolding pictureOf
+picture-back : (r : PictureRead) → pictureBack (pictureAnswer r) ≡ r
+unfolding pictureBack
 picture-back (pc.Parsed h x) = refl
 picture-back (pc.Refused e) = ap pc.Refused (error-back e)
 
 pub one-picture : (r q : PictureRead) → pictureAnswer r ≡ pictureAnswer q → r ≡ q
-one-picture r q e = sym (picture-back r) ∙ ap pictureOf e ∙ picture-back q
+one-picture r q e = sym (picture-back r) ∙ ap pictureBack e ∙ picture-back q
 
 lengthOf : Answer ℕ → HeaderLength
 lengthOf (value n) = ln.Bytes n

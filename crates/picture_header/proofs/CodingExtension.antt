@@ -1,4 +1,4 @@
--- The laws of picture_coding_extension(): the ways that reading it goes, what a parsed one has, and that bytes behind it do not matter.
+-- The laws of picture_coding_extension(): the ways that reading it goes, what a parsed one has, and that bytes after it do not matter.
 -- Assumes nothing.
 use mathlib.Core.Path.{_≡_, refl, ap}
 use mathlib.Core.List.{List}
@@ -9,12 +9,12 @@ use borrow.Author.Tests.{not-false}
 use Rattle.bits.specs.Bits.{pick}
 use Rattle.bits.specs.Refusals.{value, refused}
 use Rattle.bits.specs.Fields.{readFields, readHeader}
-use Rattle.bits.specs.Answers.{placed, fieldsAnswer}
+use Rattle.bits.specs.Answers.{inPlaces, fieldsAnswer}
 use Rattle.bits.specs.declared.Fields.{Fields}
 use Rattle.bits.specs.declared.Outcome.the-variants.{Done, Short, Bad}
 use Rattle.bits.specs.StartCodes.{startCode, extensionStartCode}
 use Rattle.bits.proofs.Flags.{pick-elim}
-use Rattle.bits.proofs.Reading.{Seen, broken, whole, then-seen, fields-seen, header-seen, read-append, header-got, header-append, answer-short, answer-bad, fields-done, header-done}
+use Rattle.bits.proofs.Reading.{ParseOutcome, broken, whole, then-seen, fields-seen, header-seen, read-append, header-got, header-append, answer-short, answer-bad, fields-done, header-done}
 use Rattle.picture_header.specs.CodingExtension.{
   motionCodeFields,
   motionCodesFit,
@@ -38,12 +38,12 @@ codes-same : (h k : List ℕ) → ((i : ℕ) → getD h i 0 ≡ getD k i 0) → 
 unfolding motionCodesFit
 codes-same h k e = simp e
 
-behind-same : (s h k : List ℕ) → ((i : ℕ) → getD h i 0 ≡ getD k i 0) → behindCodes s h ≡ behindCodes s k
+behind-codes-same : (s h k : List ℕ) → ((i : ℕ) → getD h i 0 ≡ getD k i 0) → behindCodes s h ≡ behindCodes s k
 unfolding behindCodes codingExtensionOf
-behind-same s h k e = rw (e 1, e 2, e 3, e 4)
+behind-codes-same s h k e = rw (e 1, e 2, e 3, e 4)
 
--- the ways behind the f_codes
-module _ (r : Fields) (s h : List ℕ) (e : fieldsAnswer r ≡ placed (readFields codingFields s 52)) where
+-- the ways after the f_codes
+module _ (r : Fields) (s h : List ℕ) (e : fieldsAnswer r ≡ inPlaces (readFields codingFields s 52)) where
   pub behind-short : r .outcome ≡ Short → refused 1 0 0 0 ≡ behindCodes s h
   unfolding behindCodes
   behind-short o = rw (answer-short r (readFields codingFields s 52) e o)
@@ -59,7 +59,7 @@ module _ (r : Fields) (s h : List ℕ) (e : fieldsAnswer r ≡ placed (readField
       rw (d .parsed) (ap value (coding-same h h (r .values) (d .vs) (λ i. refl) (d .same)))
 
 -- the ways of the whole extension
-module _ (r : Fields) (s : List ℕ) (e : fieldsAnswer r ≡ placed (readHeader (startCode extensionStartCode) motionCodeFields s)) where
+module _ (r : Fields) (s : List ℕ) (e : fieldsAnswer r ≡ inPlaces (readHeader (startCode extensionStartCode) motionCodeFields s)) where
   pub coding-short : r .outcome ≡ Short → refused 1 0 0 0 ≡ pictureCodingExtension s
   unfolding pictureCodingExtension
   coding-short o = rw (answer-short r (readHeader (startCode extensionStartCode) motionCodeFields s) e o)
@@ -78,7 +78,7 @@ module _ (r : Fields) (s : List ℕ) (e : fieldsAnswer r ≡ placed (readHeader 
   unfolding pictureCodingExtension pick
   coding-fit o f =
       let d = header-done r (startCode extensionStartCode) motionCodeFields s e o in
-      rw (d .parsed, ← codes-same (r .values) (d .vs) (d .same), f) (behind-same s (r .values) (d .vs) (d .same))
+      rw (d .parsed, ← codes-same (r .values) (d .vs) (d .same), f) (behind-codes-same s (r .values) (d .vs) (d .same))
 
 -- what was read of a parsed one
 pub record CodingParsed (s : List ℕ) (x : PictureCodingExtension) : Type 0 where
@@ -108,7 +108,7 @@ coding-code s x e =
     let p = coding-parsed s x e in
     header-got (startCode extensionStartCode) motionCodeFields s (p .h) (p .codes) .code-first
 
--- what stands behind the bytes does not matter, unless they are too short
+-- what stands after the bytes does not matter, unless they are too short
 pub coding-append : CodingStays
 unfolding pictureCodingExtension behindCodes
 coding-append s t =
@@ -116,13 +116,13 @@ coding-append s t =
     past-stays 2 (not (motionCodesFit h))
     (then-stays (readFields codingFields s 52) _ _ _ (read-append codingFields s t 52) (λ vs n. refl)))
 
-pub coding-seen : (s : List ℕ) → Seen (pictureCodingExtension s)
+pub coding-seen : (s : List ℕ) → ParseOutcome (pictureCodingExtension s)
 unfolding pictureCodingExtension behindCodes
 coding-seen s =
     then-seen (header-seen (startCode extensionStartCode) motionCodeFields s) (λ h.
-    pick-elim Seen (not (motionCodesFit h)) (λ f. broken) (λ f.
+    pick-elim ParseOutcome (not (motionCodesFit h)) (λ f. broken) (λ f.
     then-seen (fields-seen codingFields s 52) (λ vs. whole _)))
 
--- so what is too short with more behind it is too short
+-- so what is too short with more after it is too short
 pub coding-short-cut : CodingCut
 coding-short-cut s t = short-cut (coding-seen s) (coding-append s t)

@@ -1,5 +1,5 @@
 -- The laws of the extra information in a picture header: the walk from flag to flag, that it ends within the bytes, and that bytes
--- behind it change nothing.
+-- after it change nothing.
 -- Assumes nothing.
 use mathlib.Core.Path.{_≡_, refl, sym, ap, _∙_}
 use mathlib.Core.List.{List, [], _∷_, _++_}
@@ -15,11 +15,12 @@ use Rattle.bits.specs.Bits.{bitAt, bitsAt, bitList, there}
 use Rattle.bits.specs.Refusals.{Answer, value, refused, andThen}
 use Rattle.bits.specs.Answers.{readBits}
 use Rattle.bits.proofs.Laws.{bits-none, bits-more, bits-drop, bit-list-length, bit-list-append, bit-list-at}
-use Rattle.bits.proofs.Reading.{Seen, cut, whole, then-seen, found, missed, there-is, there-true, rest-is, there-drop}
+use Rattle.bits.proofs.Reading.{ParseOutcome, cut, whole, then-seen, bits-found, missed, there-is, there-true, rest-is, there-drop}
 use Rattle.picture_header.specs.PictureHeader.{extra, extraAt}
 use Rattle.picture_header.specs.Answers.{extraAnswer}
 use Rattle.picture_header.specs.declared.ExtraRead.{ExtraRead}
 use Rattle.bits.proofs.Following.{Stays, then-stays}
+use Rattle.bits.proofs.Flags.{clash}
 
 -- the case, by what is told of it
 pub extra-case : {r x : ExtraRead} {a : Answer ℕ} → r ≡ x → extraAnswer r ≡ a → extraAnswer x ≡ a
@@ -56,33 +57,33 @@ module _ (bs : List ℕ) (p : ℕ) where
       one (suc b) z = refl
 
 -- n bytes before
-unfoldable pub behind : ℕ → Answer ℕ → Answer ℕ
-behind n a = andThen a (λ k. value (n + k))
+unfoldable pub countedOn : ℕ → Answer ℕ → Answer ℕ
+countedOn n a = andThen a (λ k. value (n + k))
 
-behind-none : (a : Answer ℕ) → a ≡ behind 0 a
-unfolding behind
+behind-none : (a : Answer ℕ) → a ≡ countedOn 0 a
+unfolding countedOn
 behind-none (refused n p c e) = refl
 behind-none (value k) = ap value (omega arith)
 
-behind-more : (n : ℕ) (a : Answer ℕ) → behind n (oneMore a) ≡ behind (n + 1) a
-unfolding behind
+behind-more : (n : ℕ) (a : Answer ℕ) → countedOn n (oneMore a) ≡ countedOn (n + 1) a
+unfolding countedOn
 behind-more n (refused m p c e) = refl
 behind-more n (value k) = ap value (omega arith)
 
 -- the walk over the flags of the bytes s, the first at bit f: n of them are 1, and the next is at bit f + 9 * n
 pub record Walk (s : List ℕ) (f n : ℕ) : Type 0 where
-  pub so-far : extraAt s f ≡ behind n (extraAt s (f + 9 * n))
+  pub so-far : extraAt s f ≡ countedOn n (extraAt s (f + 9 * n))
 
 pub walk-none : (s : List ℕ) (f : ℕ) → Walk s f 0
 walk-none s f = record { so-far = rw (add-zero f) (behind-none _) }
 
 module _ {s : List ℕ} {f n : ℕ} (w : Walk s f n) where
   pub walk-cut : 8 * length s ≤ f + 9 * n → refused 1 0 0 0 ≡ extraAt s f
-  unfolding behind
+  unfolding countedOn
   walk-cut h = sym (rw (w .so-far, flag-cut (bitList s) (f + 9 * n) (omega (arith, bit-list-length s))))
 
   pub walk-end : f + 9 * n < 8 * length s → bitAt s (f + 9 * n) ≡ 0 → value n ≡ extraAt s f
-  unfolding behind
+  unfolding countedOn
   walk-end h z =
       sym (rw (w .so-far, flag-last (bitList s) (f + 9 * n) (omega (arith, bit-list-length s)) (bit-list-at s (f + 9 * n) ∙ z), add-zero n))
 
@@ -92,8 +93,8 @@ module _ {s : List ℕ} {f n : ℕ} (w : Walk s f n) where
       record {
         so-far =
             w .so-far
-            ∙ ap (behind n) (flag-more (bitList s) (f + 9 * n) (omega (arith, bit-list-length s)) (λ y. z (sym (bit-list-at s (f + 9 * n)) ∙ y)))
-            ∙ behind-more n _ ∙ ap (λ (p : ℕ). behind (n + 1) (extraAt s p)) e;
+            ∙ ap (countedOn n) (flag-more (bitList s) (f + 9 * n) (omega (arith, bit-list-length s)) (λ y. z (sym (bit-list-at s (f + 9 * n)) ∙ y)))
+            ∙ behind-more n _ ∙ ap (λ (p : ℕ). countedOn (n + 1) (extraAt s p)) e;
       }
 
 -- flag n as it is read, from byte n on
@@ -107,7 +108,7 @@ module _ (s : List ℕ) (f n : ℕ) (h : n < length s) where
   pub flag-read : (v : ℕ) → value v ≡ readBits (take (length s - n) (drop n s)) (f + n) 1
       → (f + 9 * n < 8 * length s) × (v ≡ bitAt s (f + 9 * n))
   flag-read v e =
-      let r = found (drop n s) (f + n) 1 v (rw rest-is at (e)) in
+      let r = bits-found (drop n s) (f + n) 1 v (rw rest-is at (e)) in
       let b : bitsAt s (f + 9 * n) 1 ≡ bitAt s (f + 9 * n) = bits-more s (f + 9 * n) 0 ∙ rw (bits-none s (f + 9 * n), add-zero (f + 9 * n)) (omega arith) in (
         omega (arith, there-true s (f + 9 * n) 1 (sym there-place ∙ r .0) .1),
         r .1 ∙ bits-drop n s (f + n) 1 ∙ ap (λ (i : ℕ). bitsAt s i 1) place ∙ b,
@@ -123,36 +124,36 @@ module _ (s : List ℕ) (f n : ℕ) (h : n < length s) where
       case true q = leb-true _ _ q
       case false q =
           let t = there-is s (f + 9 * n) 1 (lit≤ tt) (omega (arith, leb-false (8 * length s) (f + 9 * n) q)) in
-          let z : _≡_ {A = ℕ} 0 1 = cc gone in omega arith
+          absurd (clash (cc gone))
 
 -- what it finds
-extra-found : (k : ℕ) (bs : List ℕ) → Seen (extra k bs)
+extra-found : (k : ℕ) (bs : List ℕ) → ParseOutcome (extra k bs)
 unfolding extra
 extra-found k [] = cut
 extra-found (suc k) (b ∷ bs) = extra-found k bs
 extra-found zero (zero ∷ bs) = whole 0
 extra-found zero (suc b ∷ bs) = then-seen (extra-found 8 bs) (λ n. whole (suc n))
 
-pub extra-seen : (s : List ℕ) (f : ℕ) → Seen (extraAt s f)
+pub extra-seen : (s : List ℕ) (f : ℕ) → ParseOutcome (extraAt s f)
 extra-seen s f = extra-found 0 (drop f (bitList s))
 
 -- an extra information that ends, ends within the bits
 extra-within : (k : ℕ) (bs : List ℕ) (n : ℕ) → extra k bs ≡ value n → k + 9 * n + 1 ≤ length bs
 unfolding extra
-extra-within k [] n e = let z : _≡_ {A = ℕ} 0 1 = cc in omega arith
+extra-within k [] n e = absurd (clash cc)
 extra-within (suc k) (b ∷ bs) n e = omega (arith, extra-within k bs n e)
 extra-within zero (zero ∷ bs) n e = let z : 0 ≡ n = cc in omega arith
 extra-within zero (suc b ∷ bs) n e = case (extra 8 bs) refl e (λ m. extra-within 8 bs m)
   where
     case : (x : Answer ℕ) → extra 8 bs ≡ x → oneMore x ≡ value n → ((m : ℕ) → extra 8 bs ≡ value m → 8 + 9 * m + 1 ≤ length bs)
         → 0 + 9 * n + 1 ≤ suc (length bs)
-    case (refused a b c d) q y rec = let z : _≡_ {A = ℕ} 0 1 = cc in omega arith
+    case (refused a b c d) q y rec = absurd (clash cc)
     case (value m) q y rec = let z : suc m ≡ n = cc in omega (arith, rec m q)
 
 pub extra-inside : (s : List ℕ) (f n : ℕ) → extraAt s f ≡ value n → f + 9 * n + 1 ≤ 8 * length s
 extra-inside s f n e = omega (arith, extra-within 0 (drop f (bitList s)) n e, length-drop f (bitList s), bit-list-length s)
 
--- and bits behind do not matter, unless the bits end first
+-- and bits after do not matter, unless the bits end first
 extra-longer : (k : ℕ) (bs cs : List ℕ) → Stays (extra k bs) (extra k (bs ++ cs))
 unfolding extra
 extra-longer k [] cs = λ h. absurd (h refl)

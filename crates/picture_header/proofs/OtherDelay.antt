@@ -1,4 +1,4 @@
--- A picture header whose delay alone is another is read the same but for that; and what a parsed one says of the bits behind the delay.
+-- A picture header whose delay alone is another is read the same but for that; and what a parsed one says of the bits after the delay.
 -- Assumes nothing.
 use mathlib.Core.Path.{_≡_, refl, sym, ap, _∙_}
 use mathlib.Core.List.{List, [], _∷_}
@@ -12,12 +12,13 @@ use lib.ListN.{length, getD, take, drop}
 use lib.Seq.{getD-drop, drop-drop}
 use Rattle.bits.specs.Bits.{pick, bitAt, bitsAt, bitList}
 use Rattle.bits.specs.Refusals.{value}
-use Rattle.bits.specs.Fields.{Field, field, any, readFields, readHeader}
+use Rattle.bits.specs.Fields.{Field, field, anyValue, readFields, readHeader}
 use Rattle.bits.specs.StartCodes.{startCode, pictureStartCode}
 use Rattle.bits.proofs.Laws.{bits-bound, bit-list-at}
-use Rattle.bits.proofs.Reading.{step, there-is, obeys-is, read-none, read-more, header-got, header-of}
+use Rattle.bits.proofs.Reading.{read-field, there-is, obeys-is, read-none, read-more, header-got, header-of}
 use Rattle.bits.proofs.Same.{bits-one, read-same, bit-list-same}
-use Rattle.headers.specs.StartCode.{zeros}
+use Rattle.bits.proofs.Flags.{clash}
+use Rattle.headers.specs.StartCode.{leadingZeros}
 use Rattle.picture_header.specs.PictureHeader.{pictureFields, forward, backward, vectorFields, motionFields, codingType, codeIf, extra, extraAt, extraBit, pictureOf, behindDelay, pictureHeader, pictureHeaderBits, pictureHeaderBytes}
 use Rattle.picture_header.specs.Picture.{picture}
 use Rattle.picture_header.specs.Steps.{behindHeader}
@@ -39,8 +40,8 @@ pub record OtherDelay (s t : List ℕ) : Type 0 where
   pub same-rest : drop 8 t ≡ drop 8 s
 
 -- the header with the delay d
-unfoldable pub delayed : Mpeg2PictureHeader → ℕ → Mpeg2PictureHeader
-delayed h d = record {
+unfoldable pub withDelay : Mpeg2PictureHeader → ℕ → Mpeg2PictureHeader
+withDelay h d = record {
   «temporal_reference» = h .«temporal_reference»;
   «picture_coding_type» = h .«picture_coding_type»;
   «vbv_delay» = d;
@@ -52,16 +53,16 @@ delayed h d = record {
   «extra_information_bit» = h .«extra_information_bit»;
 }
 
-pub delayed-bytes : (h : Mpeg2PictureHeader) (d : ℕ) → pictureHeaderBytes (delayed h d) ≡ pictureHeaderBytes h
-unfolding pictureHeaderBytes pictureHeaderBits delayed
+pub delayed-bytes : (h : Mpeg2PictureHeader) (d : ℕ) → pictureHeaderBytes (withDelay h d) ≡ pictureHeaderBytes h
+unfolding pictureHeaderBytes pictureHeaderBits withDelay
 delayed-bytes h d = refl
 
-pub delayed-delay : (h : Mpeg2PictureHeader) (d : ℕ) → delayed h d .«vbv_delay» ≡ d
-unfolding delayed
+pub delayed-delay : (h : Mpeg2PictureHeader) (d : ℕ) → withDelay h d .«vbv_delay» ≡ d
+unfolding withDelay
 delayed-delay h d = refl
 
-pub delayed-type : (h : Mpeg2PictureHeader) (d : ℕ) → delayed h d .«picture_coding_type» ≡ h .«picture_coding_type»
-unfolding delayed
+pub delayed-type : (h : Mpeg2PictureHeader) (d : ℕ) → withDelay h d .«picture_coding_type» ≡ h .«picture_coding_type»
+unfolding withDelay
 delayed-type h d = refl
 
 -- a field that is read
@@ -75,13 +76,13 @@ field-read f fs t i vs w r l h e =
 three-read : (t : List ℕ) → 8 ≤ length t → 1 ≤ bitsAt t 42 3 → bitsAt t 42 3 ≤ 4
     → readFields pictureFields t 32 ≡ value (bitsAt t 32 10 ∷ bitsAt t 42 3 ∷ bitsAt t 45 16 ∷ [])
 three-read t l a b =
-    field-read (any 10) (field 3 1 4 ∷ any 16 ∷ []) t 32 _ (lit≤ tt) (omega arith) (omega arith) (omega (arith, bits-bound t 32 10))
-    (field-read (field 3 1 4) (any 16 ∷ []) t 42 _ (lit≤ tt) (omega arith) a b
-    (field-read (any 16) [] t 45 [] (lit≤ tt) (omega arith) (omega arith) (omega (arith, bits-bound t 45 16)) (read-none t 61)))
+    field-read (anyValue 10) (field 3 1 4 ∷ anyValue 16 ∷ []) t 32 _ (lit≤ tt) (omega arith) (omega arith) (omega (arith, bits-bound t 32 10))
+    (field-read (field 3 1 4) (anyValue 16 ∷ []) t 42 _ (lit≤ tt) (omega arith) a b
+    (field-read (anyValue 16) [] t 45 [] (lit≤ tt) (omega arith) (omega arith) (omega (arith, bits-bound t 45 16)) (read-none t 61)))
 
 module _ (s t : List ℕ) (o : OtherDelay s t) (h : Mpeg2PictureHeader) where
-  pub header-delayed : pictureHeader s ≡ value h → pictureHeader t ≡ value (delayed h (bitsAt t 45 16))
-  unfolding pictureHeader behindDelay pictureOf delayed
+  pub header-delayed : pictureHeader s ≡ value h → pictureHeader t ≡ value (withDelay h (bitsAt t 45 16))
+  unfolding pictureHeader behindDelay pictureOf withDelay
   header-delayed e =
       let w = from s h e in
       let p = picture-header-parsed s h e in
@@ -101,7 +102,7 @@ module _ (s t : List ℕ) (o : OtherDelay s t) (h : Mpeg2PictureHeader) where
       let m : readFields (motionFields (getD (w .vs) 1 0)) t 61 ≡ value (w .m) = read-same s t (o .same-length) _ 61 (o .same-behind) ∙ w .motion-is in
       let x : extraAt t k ≡ value (w .n) =
       ap (extra 0) (bit-list-same s t (o .same-length) k (λ i n q. o .same-behind i n (omega arith))) ∙ w .extra-is in
-      rw (r, b, m, x, a) (ap (λ (g : Mpeg2PictureHeader). value (delayed g (bitsAt t 45 16))) (sym (w .made)))
+      rw (r, b, m, x, a) (ap (λ (g : Mpeg2PictureHeader). value (withDelay g (bitsAt t 45 16))) (sym (w .made)))
 
   -- the bytes from byte 8 on are the same
   drop-same : (k : ℕ) → 8 ≤ k → drop k t ≡ drop k s
@@ -110,9 +111,9 @@ module _ (s t : List ℕ) (o : OtherDelay s t) (h : Mpeg2PictureHeader) where
       ap (λ (n : ℕ). drop n t) (sym e) ∙ sym (drop-drop (k - 8) 8 t) ∙ ap (drop (k - 8)) (o .same-rest) ∙ drop-drop (k - 8) 8 s
       ∙ ap (λ (n : ℕ). drop n s) e
 
-  -- with its extension, where that stands behind the eight bytes
-  pub picture-delayed : (x : PictureCodingExtension) → picture s ≡ value (h, x) → 2 ≤ zeros (drop (pictureHeaderBytes h) s)
-      → picture t ≡ value (delayed h (bitsAt t 45 16), x)
+  -- with its extension, where that stands after the eight bytes
+  pub picture-delayed : (x : PictureCodingExtension) → picture s ≡ value (h, x) → 2 ≤ leadingZeros (drop (pictureHeaderBytes h) s)
+      → picture t ≡ value (withDelay h (bitsAt t 45 16), x)
   unfolding behindHeader
   picture-delayed x e z =
       let r = picture-parsed s h x e in
@@ -120,20 +121,20 @@ module _ (s t : List ℕ) (o : OtherDelay s t) (h : Mpeg2PictureHeader) where
       let b : 8 ≤ pictureHeaderBytes h = header-least (picture-header-parsed s h (r .header)) in
       let f = next-found s (pictureHeaderBytes h) (r .place) (r .next) in
       let l : 8 ≤ r .place = omega (arith, f .ends) in
-      sym (picture-behind t (delayed h (bitsAt t 45 16)) g (rw delayed-type (r .not-dc)))
+      sym (picture-behind t (withDelay h (bitsAt t 45 16)) g (rw delayed-type (r .not-dc)))
       ∙ rw (delayed-bytes h (bitsAt t 45 16), next-same s t (pictureHeaderBytes h) (r .place) (drop-same (pictureHeaderBytes h) b) (drop-same (r .place) l) (r .next), drop-same (r .place) l, r .coded)
 
--- ---- the bits behind the delay
+-- ---- the bits after the delay
 
 -- a type with a forward vector has its code in bits 62 to 64
 vector-code : (t : ℕ) (s m : List ℕ) → forward t ≡ true → readFields (motionFields t) s 61 ≡ value m → getD m 1 0 ≡ bitsAt s 62 3
 unfolding motionFields vectorFields
 vector-code t s m f e = go (motionFields t) (rw f) e
   where
-    go : (fs : List Field) → fs ≡ any 1 ∷ any 3 ∷ vectorFields (backward t) → readFields fs s 61 ≡ value m → getD m 1 0 ≡ bitsAt s 62 3
+    go : (fs : List Field) → fs ≡ anyValue 1 ∷ anyValue 3 ∷ vectorFields (backward t) → readFields fs s 61 ≡ value m → getD m 1 0 ≡ bitsAt s 62 3
     go fs q e =
-        let a = step (any 1) (any 3 ∷ vectorFields (backward t)) s 61 m (rw q at (e)) in
-        let b = step (any 3) (vectorFields (backward t)) s 62 (a .rest) (a .then) in
+        let a = read-field (anyValue 1) (anyValue 3 ∷ vectorFields (backward t)) s 61 m (rw q at (e)) in
+        let b = read-field (anyValue 3) (vectorFields (backward t)) s 62 (a .rest) (a .then) in
         rw (a .all, b .all)
 
 forward-type : (t : ℕ) → (codingType t ≡ Predictive) ⊎ (codingType t ≡ Bidirectional) → forward t ≡ true
@@ -141,7 +142,7 @@ unfolding codingType forward pick
 forward-type t k = case (eqb t 1) (eqb t 2) (eqb t 3) refl refl refl k
   where
     never : {A : Type 0} → {k : PictureCodingType} → k ≡ Intra → (k ≡ Predictive) ⊎ (k ≡ Bidirectional) → A
-    never q u = absurd (⊎-elim (λ v. let z : _≡_ {A = ℕ} 0 1 = cc in omega arith) (λ v. let z : _≡_ {A = ℕ} 0 1 = cc in omega arith) u)
+    never q u = absurd (⊎-elim (λ v. clash cc) (λ v. clash cc) u)
 
     case : (a b d : Bool) → eqb t 1 ≡ a → eqb t 2 ≡ b → eqb t 3 ≡ d
         → (pick a Intra (pick b Predictive (pick d Bidirectional DcIntra)) ≡ Predictive) ⊎ (pick a Intra (pick b Predictive (pick d Bidirectional DcIntra)) ≡ Bidirectional)
@@ -149,12 +150,12 @@ forward-type t k = case (eqb t 1) (eqb t 2) (eqb t 3) refl refl refl k
     case true b d x y z u = never refl u
     case false true d x y z u = refl
     case false false true x y z u = refl
-    case false false false x y z u = absurd (⊎-elim (λ v. let z : _≡_ {A = ℕ} 0 1 = cc in omega arith) (λ v. let z : _≡_ {A = ℕ} 0 1 = cc in omega arith) u)
+    case false false false x y z u = absurd (⊎-elim (λ v. clash cc) (λ v. clash cc) u)
 
 -- a flag that extra information follows is set
 flag-set : (bs : List ℕ) (n : ℕ) → extra 0 bs ≡ value n → 1 ≤ n → 1 ≤ getD bs 0 0
 unfolding extra
-flag-set [] n e l = absurd (let z : _≡_ {A = ℕ} 0 1 = cc in omega arith)
+flag-set [] n e l = absurd (clash cc)
 flag-set (zero ∷ bs) n e l = absurd (let z : 0 ≡ n = cc in omega arith)
 flag-set (suc b ∷ bs) n e l = omega arith
 

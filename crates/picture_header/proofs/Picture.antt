@@ -1,4 +1,4 @@
--- The laws of a picture header with its extension: the ways that reading them goes, where the extension stands, and that bytes behind
+-- The laws of a picture header with its extension: the ways that reading them goes, where the extension stands, and that bytes after
 -- them do not matter.
 -- Assumes nothing.
 use mathlib.Core.Path.{_≡_, refl, sym, ap, _∙_}
@@ -11,8 +11,8 @@ use lib.Seq.{getD-drop, drop-append-le}
 use Rattle.bits.specs.Bits.{pick}
 use Rattle.bits.specs.Refusals.{Answer, value, refused, andThen}
 use Rattle.bits.specs.StartCodes.{startCode, extensionStartCode}
-use Rattle.bits.proofs.Flags.{pick-elim}
-use Rattle.bits.proofs.Reading.{Seen, broken, whole, then-seen, rest-is}
+use Rattle.bits.proofs.Flags.{pick-elim, clash}
+use Rattle.bits.proofs.Reading.{ParseOutcome, broken, whole, then-seen, rest-is}
 use Rattle.headers.specs.StartCode.{nextStartCode}
 use Rattle.picture_header.specs.Answers.{pictureAnswer}
 use Rattle.picture_header.specs.declared.PictureRead.{PictureRead}
@@ -45,9 +45,9 @@ no-dc DcIntra n = absurd (n refl)
 
 was-no-dc : (t : PictureCodingType) → isDc t ≡ false → t ≡ DcIntra → ⊥
 unfolding isDc
-was-no-dc t e d = let z : true ≡ false = rw d at (e) in let n : _≡_ {A = ℕ} 0 1 = cc in omega arith
+was-no-dc t e d = let z : true ≡ false = rw d at (e) in absurd (clash cc)
 
--- the ways behind a header, and of both
+-- the ways after a header, and of both
 module _ (s : List ℕ) (h : Mpeg2PictureHeader) where
   pub behind-missing : refused 2 0 0 0 ≡ nextStartCode s (pictureHeaderBytes h) → refused 2 0 0 0 ≡ behindHeader s h
   unfolding behindHeader
@@ -101,7 +101,7 @@ picture-parsed s h x e =
       coded = c .1 ∙ ap value j;
     }
 
--- the extension's start code stands behind the header, with nothing but zero bytes between; its own two zeros may be the header's last
+-- the extension's start code stands after the header, with nothing but zero bytes between; its own two zeros may be the header's last
 pub record ExtensionPlaced (s : List ℕ) (h : Mpeg2PictureHeader) (p : ℕ) : Type 0 where
   pub code : take 4 (drop p s) ≡ startCode extensionStartCode
   pub room : p + 4 ≤ length s
@@ -121,15 +121,15 @@ extension-placed {s} {h} {x} r =
     }
 
 -- what reading both finds
-pub picture-seen : (s : List ℕ) → Seen (picture s)
+pub picture-seen : (s : List ℕ) → ParseOutcome (picture s)
 unfolding picture
 picture-seen s =
     then-seen (picture-header-seen s) (λ h.
-    pick-elim Seen (isDc (h .«picture_coding_type»)) (λ d. broken) (λ d.
+    pick-elim ParseOutcome (isDc (h .«picture_coding_type»)) (λ d. broken) (λ d.
     then-seen (next-seen s (pictureHeaderBytes h)) (λ p.
     then-seen (coding-seen (drop p s)) (λ x. whole _))))
 
--- what stands behind does not matter
+-- what stands after does not matter
 pub picture-append : PictureStays
 picture-append s t h x e =
     let r = picture-parsed s h x e in
@@ -138,7 +138,7 @@ picture-append s t h x e =
     let a = r .header in
     let c = r .coded in
     let b : pictureHeader (s ++ t) ≡ value h =
-    picture-header-append s t (λ z. let n : _≡_ {A = ℕ} 0 1 = cc in omega arith) ∙ a in
+    picture-header-append s t (λ z. clash cc) ∙ a in
     sym (picture-behind (s ++ t) h b (r .not-dc))
     ∙ sym (behind-at (s ++ t) h p (next-append s t (pictureHeaderBytes h) p (r .next)))
-    ∙ rw (drop-append-le p s t (omega arith), coding-append (drop p s) t (λ z. let n : _≡_ {A = ℕ} 0 1 = cc in omega arith), c)
+    ∙ rw (drop-append-le p s t (omega arith), coding-append (drop p s) t (λ z. clash cc), c)

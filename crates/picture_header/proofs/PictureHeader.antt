@@ -1,4 +1,4 @@
--- The laws of the picture header: the ways that reading it goes, what a parsed one says of the bytes, and that bytes behind it change
+-- The laws of the picture header: the ways that reading it goes, what a parsed one says of the bytes, and that bytes after it change
 -- nothing.
 -- Assumes nothing.
 use mathlib.Core.Path.{_≡_, refl, ap}
@@ -11,16 +11,16 @@ use lib.ListN.{length, getD, take}
 use borrow.Author.Tests.{eqb-true, ne-eqb}
 use Rattle.bits.specs.Bits.{pick, bitsAt}
 use Rattle.bits.specs.Refusals.{Answer, value, refused}
-use Rattle.bits.specs.Fields.{field, any, readFields, readHeader}
-use Rattle.bits.specs.Answers.{placed, fieldsAnswer}
+use Rattle.bits.specs.Fields.{field, anyValue, readFields, readHeader}
+use Rattle.bits.specs.Answers.{inPlaces, fieldsAnswer}
 use Rattle.bits.specs.declared.Fields.{Fields}
 use Rattle.bits.specs.declared.Outcome.the-variants.{Done, Short, Bad}
 use Rattle.bits.specs.StartCodes.{startCode, pictureStartCode}
 use Rattle.bits.proofs.Laws.{bits-bound}
-use Rattle.bits.proofs.Reading.{Seen, whole, then-seen, Read, fields-seen, header-seen, step, obeys-true, read-append, answer-short, answer-bad, fields-done, header-done, header-got, header-append}
+use Rattle.bits.proofs.Reading.{ParseOutcome, whole, then-seen, Read, fields-seen, header-seen, read-field, obeys-true, read-append, answer-short, answer-bad, fields-done, header-done, header-got, header-append}
 use Rattle.picture_header.specs.PictureHeader.{pictureFields, forward, backward, vectorFields, motionFields, codingType, extraAt, extraBit, pictureOf, behindDelay, pictureHeader, pictureHeaderBytes, headerLength}
 use Rattle.picture_header.specs.Answers.{pictureHeaderAnswer}
-use Rattle.picture_header.specs.Stability.{HeaderStays, HeaderCut}
+use Rattle.picture_header.specs.Stability.{PictureHeaderStays, PictureHeaderCut}
 use Rattle.picture_header.proofs.ExtraInformation.{extra-inside, extra-seen, extra-append}
 use Rattle.bits.proofs.Following.{then-value, then-stays, short-cut}
 use Rattle.picture_header.specs.declared.PictureCodingType.{PictureCodingType}
@@ -73,16 +73,16 @@ flag-bit-range Bidirectional = (lit≤ tt, lit≤ tt)
 flag-bit-range DcIntra = (lit≤ tt, lit≤ tt)
 
 -- the same values make the same header
-behind-same : (s h k : List ℕ) → ((i : ℕ) → getD h i 0 ≡ getD k i 0) → behindDelay s h ≡ behindDelay s k
+behind-delay-same : (s h k : List ℕ) → ((i : ℕ) → getD h i 0 ≡ getD k i 0) → behindDelay s h ≡ behindDelay s k
 unfolding behindDelay pictureOf
-behind-same s h k e = rw (e 0, e 1, e 2)
+behind-delay-same s h k e = rw (e 0, e 1, e 2)
 
 motion-same : (h m k : List ℕ) (n : ℕ) → ((i : ℕ) → getD m i 0 ≡ getD k i 0) → pictureOf h m n ≡ pictureOf h k n
 unfolding pictureOf
 motion-same h m k n e = rw (e 0, e 1, e 2, e 3)
 
 -- the ways of the whole header, from what the code's reads answer
-module _ (r : Fields) (s : List ℕ) (e : fieldsAnswer r ≡ placed (readHeader (startCode pictureStartCode) pictureFields s)) where
+module _ (r : Fields) (s : List ℕ) (e : fieldsAnswer r ≡ inPlaces (readHeader (startCode pictureStartCode) pictureFields s)) where
   pub header-short : r .outcome ≡ Short → refused 1 0 0 0 ≡ pictureHeader s
   unfolding pictureHeader
   header-short o = rw (answer-short r (readHeader (startCode pictureStartCode) pictureFields s) e o)
@@ -95,10 +95,10 @@ module _ (r : Fields) (s : List ℕ) (e : fieldsAnswer r ≡ placed (readHeader 
   unfolding pictureHeader
   header-behind o =
       let d = header-done r (startCode pictureStartCode) pictureFields s e o in
-      rw (d .parsed) (behind-same s (r .values) (d .vs) (d .same))
+      rw (d .parsed) (behind-delay-same s (r .values) (d .vs) (d .same))
 
--- the ways behind the delay
-module _ (r : Fields) (s h : List ℕ) (e : fieldsAnswer r ≡ placed (readFields (motionFields (getD h 1 0)) s 61)) where
+-- the ways after the delay
+module _ (r : Fields) (s h : List ℕ) (e : fieldsAnswer r ≡ inPlaces (readFields (motionFields (getD h 1 0)) s 61)) where
   pub motion-short : r .outcome ≡ Short → refused 1 0 0 0 ≡ behindDelay s h
   unfolding behindDelay
   motion-short o = rw (answer-short r (readFields (motionFields (getD h 1 0)) s 61) e o)
@@ -123,13 +123,13 @@ module _ (r : Fields) (s h : List ℕ) (e : fieldsAnswer r ≡ placed (readField
     motion-done n q = rw (done .parsed, ← q) (ap value (motion-same h (r .values) (done .vs) n (done .same)))
 
 -- the case, by what is told of it
-pub header-case : {r x : PictureHeaderRead} {a : Answer Mpeg2PictureHeader} → r ≡ x → pictureHeaderAnswer r ≡ a → pictureHeaderAnswer x ≡ a
-header-case e f = rw (← e) f
+pub picture-header-case : {r x : PictureHeaderRead} {a : Answer Mpeg2PictureHeader} → r ≡ x → pictureHeaderAnswer r ≡ a → pictureHeaderAnswer x ≡ a
+picture-header-case e f = rw (← e) f
 
 -- the length by the header
-pub length-refused : (s : List ℕ) (n : ℕ) → refused n 0 0 0 ≡ pictureHeader s → refused n 0 0 0 ≡ headerLength s
+pub header-length-refused : (s : List ℕ) (n : ℕ) → refused n 0 0 0 ≡ pictureHeader s → refused n 0 0 0 ≡ headerLength s
 unfolding headerLength
-length-refused s n e = rw (← e)
+header-length-refused s n e = rw (← e)
 
 pub length-parsed : (s : List ℕ) (h : Mpeg2PictureHeader) → value h ≡ pictureHeader s → value (pictureHeaderBytes h) ≡ headerLength s
 unfolding headerLength
@@ -157,9 +157,9 @@ from s h e =
 pub fields-are : (s vs : List ℕ) → readFields pictureFields s 32 ≡ value vs
     → (getD vs 0 0 ≡ bitsAt s 32 10) × (getD vs 1 0 ≡ bitsAt s 42 3) × (getD vs 2 0 ≡ bitsAt s 45 16) × (1 ≤ bitsAt s 42 3) × (bitsAt s 42 3 ≤ 4)
 fields-are s vs e =
-    let a = step (any 10) (field 3 1 4 ∷ any 16 ∷ []) s 32 vs e in
-    let b = step (field 3 1 4) (any 16 ∷ []) s 42 (a .rest) (a .then) in
-    let d = step (any 16) [] s 45 (b .rest) (b .then) in
+    let a = read-field (anyValue 10) (field 3 1 4 ∷ anyValue 16 ∷ []) s 32 vs e in
+    let b = read-field (field 3 1 4) (anyValue 16 ∷ []) s 42 (a .rest) (a .then) in
+    let d = read-field (anyValue 16) [] s 45 (b .rest) (b .then) in
     let o = obeys-true (field 3 1 4) (bitsAt s 42 3) (b .obeyed) in
     (rw (a .all), rw (a .all, b .all), rw (a .all, b .all, d .all), o .0, o .1)
 
@@ -207,21 +207,21 @@ module _ {s : List ℕ} {h : Mpeg2PictureHeader} (p : PictureHeaderParsed s h) w
   unfolding pictureHeaderBytes
   header-inside = omega (arith, p .last-flag)
 
--- bytes behind a header do not matter, unless it is too short
-pub picture-header-append : HeaderStays
+-- bytes after a header do not matter, unless it is too short
+pub picture-header-append : PictureHeaderStays
 unfolding pictureHeader behindDelay
 picture-header-append s t =
     then-stays (readHeader (startCode pictureStartCode) pictureFields s) _ _ _ (header-append (startCode pictureStartCode) pictureFields s t) (λ h.
     then-stays (readFields (motionFields (getD h 1 0)) s 61) _ _ _ (read-append (motionFields (getD h 1 0)) s t 61) (λ m.
     then-stays (extraAt s (extraBit (getD h 1 0))) _ _ _ (extra-append s t (extraBit (getD h 1 0))) (λ n g. refl)))
 
-pub picture-header-seen : (s : List ℕ) → Seen (pictureHeader s)
+pub picture-header-seen : (s : List ℕ) → ParseOutcome (pictureHeader s)
 unfolding pictureHeader behindDelay
 picture-header-seen s =
     then-seen (header-seen (startCode pictureStartCode) pictureFields s) (λ h.
     then-seen (fields-seen (motionFields (getD h 1 0)) s 61) (λ m.
     then-seen (extra-seen s (extraBit (getD h 1 0))) (λ n. whole _)))
 
--- so what is too short with more behind it is too short
-pub picture-header-short : HeaderCut
+-- so what is too short with more after it is too short
+pub picture-header-short : PictureHeaderCut
 picture-header-short s t = short-cut (picture-header-seen s) (picture-header-append s t)

@@ -2,7 +2,7 @@
 -- Assumes nothing.
 use Prim.Native.Nat.{ℕ}
 use Rattle.bits.specs.Refusals.{Answer, value, refused}
-use Rattle.headers.specs.Answers.{refusal}
+use Rattle.headers.specs.Answers.{headerRefusal}
 use Rattle.picture_header.specs.declared.Mpeg2PictureHeader.{Mpeg2PictureHeader}
 use Rattle.picture_header.specs.declared.PictureCodingExtension.{PictureCodingExtension}
 use Rattle.picture_header.specs.declared.PictureHeaderRead.{PictureHeaderRead}
@@ -18,19 +18,19 @@ use Rattle.picture_header.specs.declared.ExtraRead.the-variants as ex
 
 abbrev pub pictureHeaderAnswer : PictureHeaderRead → Answer Mpeg2PictureHeader
 pictureHeaderAnswer (hd.Parsed h) = value h
-pictureHeaderAnswer (hd.Refused e) = refusal e
+pictureHeaderAnswer (hd.Refused e) = headerRefusal e
 
 abbrev pub codingAnswer : PictureCodingExtensionRead → Answer PictureCodingExtension
 codingAnswer (cx.Parsed x) = value x
-codingAnswer (cx.Refused e) = refusal e
+codingAnswer (cx.Refused e) = headerRefusal e
 
 abbrev pub pictureAnswer : PictureRead → Answer (Mpeg2PictureHeader × PictureCodingExtension)
 pictureAnswer (pc.Parsed h x) = value (h, x)
-pictureAnswer (pc.Refused e) = refusal e
+pictureAnswer (pc.Refused e) = headerRefusal e
 
 abbrev pub lengthAnswer : HeaderLength → Answer ℕ
 lengthAnswer (ln.Bytes n) = value n
-lengthAnswer (ln.Refused e) = refusal e
+lengthAnswer (ln.Refused e) = headerRefusal e
 
 -- extra information that the bits end in
 abbrev pub extraAnswer : ExtraRead → Answer ℕ

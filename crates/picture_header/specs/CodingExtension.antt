@@ -7,7 +7,7 @@ use lib.Dec.{eqb, leb}
 use lib.ListN.{getD}
 use Rattle.bits.specs.Bits.{pick}
 use Rattle.bits.specs.Refusals.{Answer, value, refuse, andThen}
-use Rattle.bits.specs.Fields.{Field, any, nonzero, exactly, readFields, readHeader}
+use Rattle.bits.specs.Fields.{Field, anyValue, nonzero, exactly, readFields, readHeader}
 use Rattle.bits.specs.StartCodes.{startCode, extensionStartCode}
 use Rattle.picture_header.specs.declared.PictureStructure.{PictureStructure}
 use Rattle.picture_header.specs.declared.PictureStructure.the-variants.{TopField, BottomField, Frame}
@@ -17,10 +17,10 @@ use Rattle.picture_header.specs.declared.PictureCodingExtension.{Picture
 abbrev pub motionCodeFields : List Field
 motionCodeFields =
     exactly 4 8 ∷  -- 0 extension_start_code_identifier (Table 6-2)
-    any 4 ∷  -- 1 f_code[0][0]
-    any 4 ∷  -- 2 f_code[0][1]
-    any 4 ∷  -- 3 f_code[1][0]
-    any 4 ∷ []  -- 4 f_code[1][1]
+    anyValue 4 ∷  -- 1 f_code[0][0]
+    anyValue 4 ∷  -- 2 f_code[0][1]
+    anyValue 4 ∷  -- 3 f_code[1][0]
+    anyValue 4 ∷ []  -- 4 f_code[1][1]
 
 -- an f_code is not 0; all four are read before they are looked at (docs/DECISIONS.md)
 unfoldable pub motionCodesFit : List ℕ → Bool
@@ -28,18 +28,18 @@ motionCodesFit vs = leb 1 (getD vs 1 0) && (leb 1 (getD vs 2 0) && (leb 1 (getD 
 
 abbrev pub codingFields : List Field
 codingFields =
-    any 2 ∷  -- 0 intra_dc_precision
+    anyValue 2 ∷  -- 0 intra_dc_precision
     nonzero 2 ∷  -- 1 picture_structure, 00 reserved
-    any 1 ∷  -- 2 top_field_first
-    any 1 ∷  -- 3 frame_pred_frame_dct
-    any 1 ∷  -- 4 concealment_motion_vectors
-    any 1 ∷  -- 5 q_scale_type
-    any 1 ∷  -- 6 intra_vlc_format
-    any 1 ∷  -- 7 alternate_scan
-    any 1 ∷  -- 8 repeat_first_field
-    any 1 ∷  -- 9 chroma_420_type
-    any 1 ∷  -- 10 progressive_frame
-    any 1 ∷ []  -- 11 composite_display_flag
+    anyValue 1 ∷  -- 2 top_field_first
+    anyValue 1 ∷  -- 3 frame_pred_frame_dct
+    anyValue 1 ∷  -- 4 concealment_motion_vectors
+    anyValue 1 ∷  -- 5 q_scale_type
+    anyValue 1 ∷  -- 6 intra_vlc_format
+    anyValue 1 ∷  -- 7 alternate_scan
+    anyValue 1 ∷  -- 8 repeat_first_field
+    anyValue 1 ∷  -- 9 chroma_420_type
+    anyValue 1 ∷  -- 10 progressive_frame
+    anyValue 1 ∷ []  -- 11 composite_display_flag
 
 -- Table 6-14
 unfoldable pub pictureStructure : ℕ → PictureStructure
@@ -65,7 +65,7 @@ codingExtensionOf h vs = record {
   «composite_display_flag» = eqb (getD vs 11 0) 1;
 }
 
--- behind the f_codes, at bit 52
+-- after the f_codes, at bit 52
 unfoldable pub behindCodes : List ℕ → List ℕ → Answer PictureCodingExtension
 behindCodes s h = andThen (readFields codingFields s 52) (λ vs. value (codingExtensionOf h vs))
 

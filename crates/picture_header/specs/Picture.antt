@@ -1,4 +1,4 @@
--- A picture header and the picture coding extension behind it (ISO/IEC 13818-2 6.2.2, 6.2.3): no D picture, and the next start code is the extension's.
+-- A picture header and the picture coding extension after it (ISO/IEC 13818-2 6.2.2, 6.2.3): no D picture, and the next start code is the extension's.
 -- Assumes nothing.
 use Prim.Native.Nat.{ℕ}
 use mathlib.Core.List.{List}
@@ -20,7 +20,7 @@ isDc Predictive = false
 isDc Bidirectional = false
 isDc DcIntra = true
 
--- the header, and the extension at the next start code behind it
+-- the header, and the extension at the next start code after it
 unfoldable pub picture : List ℕ → Answer (Mpeg2PictureHeader × PictureCodingExtension)
 picture s =
     andThen (pictureHeader s) (λ h.

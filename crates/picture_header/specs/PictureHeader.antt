@@ -7,7 +7,7 @@ use lib.Dec.{eqb}
 use lib.ListN.{getD, drop}
 use Rattle.bits.specs.Bits.{pick, bitList}
 use Rattle.bits.specs.Refusals.{Answer, value, refused, andThen}
-use Rattle.bits.specs.Fields.{Field, field, any, readFields, readHeader}
+use Rattle.bits.specs.Fields.{Field, field, anyValue, readFields, readHeader}
 use Rattle.bits.specs.StartCodes.{startCode, pictureStartCode}
 use Rattle.headers.specs.Answers.{flagOf}
 use Rattle.picture_header.specs.declared.PictureCodingType.{PictureCodingType}
@@ -20,9 +20,9 @@ use Rattle.picture_header.specs.declared.Mpeg2PictureHeader.{Mpeg2Pictur
 
 abbrev pub pictureFields : List Field
 pictureFields =
-    any 10 ∷  -- 0 temporal_reference
+    anyValue 10 ∷  -- 0 temporal_reference
     field 3 1 4 ∷  -- 1 picture_coding_type: I P B, and D of 11172-2
-    any 16 ∷ []  -- 2 vbv_delay
+    anyValue 16 ∷ []  -- 2 vbv_delay
 
 -- P and B pictures have a forward vector's fields, B pictures a backward one's too
 unfoldable pub forward : ℕ → Bool
@@ -34,8 +34,8 @@ backward t = eqb t 3
 -- a vector's fields, where the type has them
 unfoldable pub vectorFields : Bool → List Field
 vectorFields true =
-    any 1 ∷  -- full_pel_forward_vector, full_pel_backward_vector
-    any 3 ∷ []  -- forward_f_code, backward_f_code
+    anyValue 1 ∷  -- full_pel_forward_vector, full_pel_backward_vector
+    anyValue 3 ∷ []  -- forward_f_code, backward_f_code
 vectorFields false = []
 
 unfoldable pub motionFields : ℕ → List Field
@@ -80,7 +80,7 @@ pictureOf h m n = record {
   «extra_information_bit» = extraBit (getD h 1 0);
 }
 
--- behind vbv_delay: at bit 61 what the type has of motion vectors' fields, and behind it the extra information
+-- after vbv_delay: at bit 61 what the type has of motion vectors' fields, and after it the extra information
 unfoldable pub behindDelay : List ℕ → List ℕ → Answer Mpeg2PictureHeader
 behindDelay s h =
     andThen (readFields (motionFields (getD h 1 0)) s 61) (λ m.

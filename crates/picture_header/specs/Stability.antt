@@ -1,4 +1,4 @@
--- Bytes behind a header do not matter: what parses from a list parses the same from a longer one.
+-- Bytes after a header do not matter: what parses from a list parses the same from a longer one.
 -- Assumes nothing.
 use mathlib.Core.Path.{_≡_}
 use mathlib.Core.List.{List, _++_}
@@ -11,15 +11,15 @@ use Rattle.picture_header.specs.declared.Mpeg2PictureHeader.{Mpeg2Pictur
 use Rattle.picture_header.specs.declared.PictureCodingExtension.{PictureCodingExtension}
 
 -- the answer stays, refused or not, but where the bytes end in the header (1)
-abbrev pub HeaderStays : Type 0
-HeaderStays = (s t : List ℕ) → (pictureHeader s ≡ refused 1 0 0 0 → ⊥) → pictureHeader (s ++ t) ≡ pictureHeader s
+abbrev pub PictureHeaderStays : Type 0
+PictureHeaderStays = (s t : List ℕ) → (pictureHeader s ≡ refused 1 0 0 0 → ⊥) → pictureHeader (s ++ t) ≡ pictureHeader s
 
 abbrev pub CodingStays : Type 0
 CodingStays = (s t : List ℕ) → (pictureCodingExtension s ≡ refused 1 0 0 0 → ⊥) → pictureCodingExtension (s ++ t) ≡ pictureCodingExtension s
 
--- and what is too short with more bytes behind it (1) is too short without them
-abbrev pub HeaderCut : Type 0
-HeaderCut = (s t : List ℕ) → pictureHeader (s ++ t) ≡ refused 1 0 0 0 → pictureHeader s ≡ refused 1 0 0 0
+-- and what is too short with more bytes after it (1) is too short without them
+abbrev pub PictureHeaderCut : Type 0
+PictureHeaderCut = (s t : List ℕ) → pictureHeader (s ++ t) ≡ refused 1 0 0 0 → pictureHeader s ≡ refused 1 0 0 0
 
 abbrev pub CodingCut : Type 0
 CodingCut = (s t : List ℕ) → pictureCodingExtension (s ++ t) ≡ refused 1 0 0 0 → pictureCodingExtension s ≡ refused 1 0 0 0

@@ -10,7 +10,7 @@ use Rattle.picture_header.specs.CodingExtension.{pictureCodingExtension}
 use Rattle.picture_header.specs.declared.Mpeg2PictureHeader.{Mpeg2PictureHeader}
 use Rattle.picture_header.specs.declared.PictureCodingExtension.{PictureCodingExtension}
 
--- the rest of specs/Picture.antt behind a header that is no D picture's
+-- the rest of specs/Picture.antt after a header that is no D picture's
 unfoldable pub behindHeader : List ℕ → Mpeg2PictureHeader → Answer (Mpeg2PictureHeader × PictureCodingExtension)
 behindHeader s h =
     andThen (nextStartCode s (pictureHeaderBytes h)) (λ place.

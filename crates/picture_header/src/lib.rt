@@ -4,7 +4,7 @@ ghost use Prim.Native.Nat.{_^_, _≤_, _<_};
 ghost use lib.ListN.{getD};
 ghost use Rattle.bits.specs.Fields.{readFields};
 ghost use Rattle.bits.specs.Refusals.{value, andThen};
-ghost use Rattle.bits.specs.Answers.{placed, fieldsAnswer};
+ghost use Rattle.bits.specs.Answers.{inPlaces, fieldsAnswer};
 ghost use Rattle.picture_header.specs.PictureHeader.{codingType, motionFields, extraBit, extraAt, flagIf, codeIf, pictureOf, behindDelay, pictureHeader, pictureHeaderBytes, headerLength};
 ghost use Rattle.picture_header.specs.CodingExtension.{pictureStructure, behindCodes, pictureCodingExtension};
 ghost use Rattle.picture_header.specs.Picture.{picture};
@@ -135,7 +135,7 @@ fn coding_type_of(code: u32) -> PictureCodingType
 
 // The fields that a picture type has of its motion vectors, at bit 61.
 fn read_motion(buf: &[u8], code: u32) -> Fields
-    ensures { λ r. ⌜ fieldsAnswer r ≡ placed (readFields (motionFields code) (now (buf .entry)) 61) ⌝ }
+    ensures { λ r. ⌜ fieldsAnswer r ≡ inPlaces (readFields (motionFields code) (now (buf .entry)) 61) ⌝ }
 {
     if code == 2 {
         return bits::read_fields(buf, 61, &FORWARD_TABLE);
@@ -265,7 +265,7 @@ impl Mpeg2PictureHeader {
     }
 }
 
-// What stands behind vbv_delay, where the fields before are h.
+// What stands after vbv_delay, where the fields before are h.
 fn behind_delay(buf: &[u8], h: [u32; 24]) -> PictureHeaderRead
     requires { ⌜ (getD h 0 0 ≤ 1023) × (getD h 2 0 ≤ 65535) ⌝ }
     ensures { λ r. ⌜ pictureHeaderAnswer r ≡ behindDelay (now (buf .entry)) h ⌝ }
@@ -310,7 +310,7 @@ pub fn picture_header_byte_length(buf: &[u8]) -> HeaderLength
     }
 }
 
-// What stands behind a header: the next start code must be the extension's.
+// What stands after a header: the next start code must be the extension's.
 fn behind_header(buf: &[u8], header: Mpeg2PictureHeader) -> PictureRead
     requires { ⌜ pictureHeaderBytes header < 2 ^ 64 ⌝ }
     ensures { λ r. ⌜ pictureAnswer r ≡ behindHeader (now (buf .entry)) header ⌝ }
@@ -365,7 +365,7 @@ impl PictureCodingExtension {
     }
 }
 
-// What stands behind the f_codes h.
+// What stands after the f_codes h.
 fn behind_codes(buf: &[u8], h: [u32; 24]) -> PictureCodingExtensionRead
     requires { ⌜ (getD h 1 0 ≤ 15) × (getD h 2 0 ≤ 15) × (getD h 3 0 ≤ 15) × (getD h 4 0 ≤ 15) ⌝ }
     ensures { λ r. ⌜ codingAnswer r ≡ behindCodes (now (buf .entry)) h ⌝ }

@@ -16,9 +16,9 @@ use Rattle.picture_header.proofs.PictureHeader.{picture-header-parsed, delay-hi
 use Rattle.picture_header.proofs.Picture.{picture-parsed}
 use Rattle.scan.specs.declared.Next.{Next}
 use Rattle.scan.specs.declared.Next.the-variants.{Picture, Done}
-use Rattle.scan.specs.Pictures.{Pic, pictures}
-use Rattle.scan.specs.Walk as scanned
-use Rattle.scan.specs.Walk.{nextPicture, Steps, InOrder}
+use Rattle.scan.specs.Pictures.{Pic, pictures, nextPicture}
+use Rattle.scan.specs.Order as scanned
+use Rattle.scan.specs.Order.{WalkGives, InOrder}
 use Rattle.scan.proofs.Pictures.{walk-gives, in-order}
 use Rattle.pictures.specs.Seen.{shown, factsBy, factsOf, seenOf, seenAt, seenEach, seenPictures, sightAt, nextSeen, nothing, one}
 use Rattle.pictures.specs.Order.{Visits, ended, stopped, went-on, stopped-later, StepsGivePictures, Placed, Rising, last, next, SeenRising}
@@ -31,7 +31,7 @@ use Rattle.pictures.proofs.Seeing.{next-is}
 -- ---- the steps
 
 module _ (standard : VbvStandard) (s : List ℕ) (short : 8 * length s ≤ farthest) where
-  visits : {i : ℕ} {qs : List Pic} → Steps s i qs → Visits standard s i (seenEach standard s qs)
+  visits : {i : ℕ} {qs : List Pic} → WalkGives s i qs → Visits standard s i (seenEach standard s qs)
   unfolding seenEach sightAt
   visits (scanned.done {from = i} h) = ended (next-is standard s short i ∙ ap (sightAt standard s) h)
   visits (scanned.step {from = i} {start = a} {end = b} {next = k} {qs = qs} h t) = go (seenAt standard s (record { start = a; end = b })) (next-is standard s short i ∙ ap (sightAt standard s) h) (seenEach standard s qs) (visits t)

@@ -11,9 +11,8 @@ use Rattle.bits.specs.Bits.{pick}
 use Rattle.bits.specs.Refusals.{Answer, value, refused, andThen}
 use Rattle.scan.specs.declared.Next.{Next}
 use Rattle.scan.specs.declared.Next.the-variants.{Picture, Done}
-use Rattle.scan.specs.Pictures.{Pic, pictures}
-use Rattle.scan.specs.Walk.{nextPicture}
-use Rattle.scan.proofs.Pictures.{picturesAt, Walked, walked, pictures-done, pictures-walk}
+use Rattle.scan.specs.Pictures.{Pic, pictures, nextPicture}
+use Rattle.scan.proofs.Pictures.{picturesAt, PictureStep, picture-step, pictures-done, pictures-walk}
 use Rattle.pictures.specs.Seen.{shown, seenOf, seenAt, seenEach, seenPictures, Sight, nothing, one, sightAt, nextSeen}
 use Rattle.pictures.specs.declared.VbvStandard.{VbvStandard}
 use Rattle.pictures.specs.declared.PictureFacts.{PictureFacts}
@@ -98,8 +97,8 @@ module _ (standard : VbvStandard) (s : List ℕ) (short : 8 * length s ≤ farth
   by-place i Done e = no-more (rw (pictures-done s i e))
   by-place i (Picture a b k) e = go (seenAt standard s (record { start = a; end = b })) refl
     where
-      w : Walked s i a b k
-      w = walked s i a b k e
+      w : PictureStep s i a b k
+      w = picture-step s i a b k e
 
       go : (o : Answer SeenPicture) → seenAt standard s (record { start = a; end = b }) ≡ o → Onward standard s i (andThen o (λ x. value (one x k)))
       go (value x) h = one-more {x = x} {next = k} (omega (arith, w .from, w .low)) (omega (arith, w .on, w .high)) (rw (w .list, h))

@@ -3,7 +3,7 @@
 use Prim.Native.Nat.{ℕ}
 use Rattle.bits.specs.Refusals.{Answer, value, refused}
 use Rattle.headers.specs.Answers.{errorNumber}
-use Rattle.vbv.specs.Answers.{errorNumber as modelNumber}
+use Rattle.vbv.specs.Answers.{modelNumber}
 use Rattle.vbv.specs.declared.VbvParams.{VbvParams}
 use Rattle.pictures.specs.Seen.{Sight, nothing, one}
 use Rattle.pictures.specs.declared.Unread.{Unread}

@@ -17,8 +17,7 @@ use Rattle.picture_header.specs.declared.Mpeg2PictureHeader.{Mpeg2PictureHeader
 use Rattle.picture_header.specs.declared.PictureCodingExtension.{PictureCodingExtension}
 use Rattle.vbv.specs.declared.RemovalInterval.{RemovalInterval}
 use Rattle.vbv.specs.declared.RemovalInterval.the-variants.{Frame, Field}
-use Rattle.scan.specs.Pictures.{Pic, pictures}
-use Rattle.scan.specs.Walk.{nextPicture}
+use Rattle.scan.specs.Pictures.{Pic, pictures, nextPicture}
 use Rattle.scan.specs.declared.Next.{Next}
 use Rattle.scan.specs.declared.Next.the-variants.{Picture, Done}
 use Rattle.pictures.specs.declared.VbvStandard.{VbvStandard}

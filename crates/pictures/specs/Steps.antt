@@ -2,11 +2,11 @@
 -- Assumes nothing.
 use Prim.Native.Nat.{ℕ}
 use Rattle.bits.specs.Refusals.{Answer, value}
-use Rattle.headers.specs.Answers.{refusal}
+use Rattle.headers.specs.Answers.{headerRefusal}
 use Rattle.pictures.specs.declared.PictureFacts.{PictureFacts}
 use Rattle.pictures.specs.declared.Shown.{Shown}
 use Rattle.pictures.specs.declared.Shown.the-variants.{Picture, Refused}
 
 abbrev pub shownAnswer : Shown → Answer (ℕ × PictureFacts)
 shownAnswer (Picture d f) = value (d, f)
-shownAnswer (Refused e) = refusal e
+shownAnswer (Refused e) = headerRefusal e

@@ -9,7 +9,7 @@ use lib.Dec.{ltb}
 use borrow.Author.Tests.{ltb-false, ltb-true, eqb-true, eqb-false, not-true, not-false}
 use Rattle.bits.specs.Bits.{pick}
 use Rattle.bits.specs.Refusals.{Answer, refused}
-use Rattle.bits.proofs.Flags.{or-left, or-right, pick-elim}
+use Rattle.bits.proofs.Flags.{or-left, or-right, or-other, pick-elim}
 use Rattle.bits.proofs.Over.{over-take, over-drop}
 use Rattle.vbv.specs.Model.{farthest}
 use Rattle.vbv.specs.Annex.{unit, overflows, beyond}
@@ -33,10 +33,6 @@ use Rattle.rate_control.proofs.Retries.{below-31}
 use Rattle.rate_control.proofs.Invariant.{Inv, asked-quant}
 use Rattle.rate_control.proofs.Removing.{position-same, content-same}
 use Rattle.rate_control.proofs.Knowing.{any-placed, delivered-known}
-
-or-other : (a b : Bool) → (a || b) ≡ true → a ≡ false → b ≡ true
-or-other true b h e = absurd (true≢false e)
-or-other false b h e = h
 
 index-same : (j k : PictureKind) → index j ≡ index k → j ≡ k
 index-same I I e = refl

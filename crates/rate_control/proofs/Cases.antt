@@ -3,8 +3,8 @@
 use mathlib.Core.Path.{_≡_, refl, sym, ap, _∙_}
 use lib.Dec.{eqb}
 use Rattle.bits.specs.Bits.{pick}
-use Rattle.vbv.specs.Steps.{errorOf}
-use Rattle.vbv.proofs.Numbers.{error-back}
+use Rattle.vbv.specs.Steps.{modelErrorOf}
+use Rattle.vbv.proofs.Numbers.{model-error-back}
 use Rattle.vbv.specs.declared.VbvError.{VbvError}
 use Rattle.vbv.specs.declared.VbvError.the-variants.{FrameRateCode, Early, DelayTooLong, Params, Order, Range}
 use Rattle.vbv.specs.declared.VbvViolation.{VbvViolation}
@@ -26,27 +26,27 @@ offerErrorOf r =
     (pick (eqb (r .number) 20) Layer
     (pick (eqb (r .number) 21) TooLarge
     (pick (eqb (r .number) 22) Stuffing
-    (Model (errorOf (r .number)))))))))))
+    (Model (modelErrorOf (r .number)))))))))))
 
-model-error-back : (e : VbvError) → offerErrorOf (offerRefusal (Model e)) ≡ Model e
+offer-model-back : (e : VbvError) → offerErrorOf (offerRefusal (Model e)) ≡ Model e
 unfolding offerErrorOf pick
-model-error-back FrameRateCode = ap Model (error-back FrameRateCode)
-model-error-back Early = ap Model (error-back Early)
-model-error-back DelayTooLong = ap Model (error-back DelayTooLong)
-model-error-back Params = ap Model (error-back Params)
-model-error-back Order = ap Model (error-back Order)
-model-error-back Range = ap Model (error-back Range)
+offer-model-back FrameRateCode = ap Model (model-error-back FrameRateCode)
+offer-model-back Early = ap Model (model-error-back Early)
+offer-model-back DelayTooLong = ap Model (model-error-back DelayTooLong)
+offer-model-back Params = ap Model (model-error-back Params)
+offer-model-back Order = ap Model (model-error-back Order)
+offer-model-back Range = ap Model (model-error-back Range)
 
-violation-error-back : (v : VbvViolation) → offerErrorOf (offerRefusal (Violation v)) ≡ Violation v
+offer-violation-back : (v : VbvViolation) → offerErrorOf (offerRefusal (Violation v)) ≡ Violation v
 unfolding offerErrorOf pick
-violation-error-back (Overflow k c x) = refl
-violation-error-back (Underflow k c x) = refl
-violation-error-back (DelayMismatch k c x) = refl
+offer-violation-back (Overflow k c x) = refl
+offer-violation-back (Underflow k c x) = refl
+offer-violation-back (DelayMismatch k c x) = refl
 
 offer-error-back : (e : CbrError) → offerErrorOf (offerRefusal e) ≡ e
 unfolding offerErrorOf pick
-offer-error-back (Model e) = model-error-back e
-offer-error-back (Violation v) = violation-error-back v
+offer-error-back (Model e) = offer-model-back e
+offer-error-back (Violation v) = offer-violation-back v
 offer-error-back Kind = refl
 offer-error-back Headers = refl
 offer-error-back Layer = refl

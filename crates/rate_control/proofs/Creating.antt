@@ -7,11 +7,10 @@ use native.Mathlib.Omega.{arith}
 use native.Mathlib.Decide.{decLt}
 use borrow.Author.Tests.{not-true, not-false}
 use Rattle.bits.specs.Refusals.{Answer, value, refused, andThen}
-use Rattle.bits.proofs.Flags.{is-false, pick-elim}
+use Rattle.bits.proofs.Flags.{is-false, pick-elim, held, failed}
 use Rattle.vbv.specs.Answers.{frameRate}
 use Rattle.vbv.specs.Model.{paramsFit, newModel}
 use Rattle.vbv.specs.declared.VbvCbrModel.{VbvCbrModel}
-use Rattle.vbv.proofs.Picks.{held, failed}
 use Rattle.vbv.proofs.Units.{params-rate, params-buffer, params-frn, params-frd}
 use Rattle.vbv.proofs.Fitting.{params-fit, fitting-params}
 use Rattle.rate_control.specs.Create.{configFits, writerParams, freshWriter, create}

@@ -9,11 +9,10 @@ use native.Mathlib.Nat.{mul-le-mul, div-le-self, div-lt-iff-lt-mul}
 use lib.Dec.{leb}
 use borrow.Author.Tests.{le-leb}
 use Rattle.bits.specs.Bits.{pick}
-use Rattle.bits.proofs.Reading.{both-true}
-use Rattle.bits.proofs.Following.{then-value}
+use Rattle.bits.proofs.Following.{then-value, refused-value}
 use Rattle.bits.specs.Refusals.{value, orElse}
 use Rattle.vbv.specs.Answers.{frameRate, modelAnswer, rateAnswer}
-use Rattle.vbv.proofs.Picks.{was-held}
+use Rattle.bits.proofs.Flags.{was-held, both-true}
 use Rattle.vbv.specs.Params.{rateUnit}
 use Rattle.vbv.specs.Model.{farthest, paramsFit, newModel}
 use Rattle.vbv.specs.declared.FrameRate.{FrameRate}
@@ -26,7 +25,7 @@ use Rattle.vbv.specs.declared.VbvModel.{VbvModel}
 use Rattle.vbv.specs.declared.VbvModel.the-variants.{Model, Refused as NoModel}
 use Rattle.vbv.proofs.Units.{params-rate}
 use Rattle.vbv.proofs.Fitting.{params-fit}
-use Rattle.vbv.proofs.Laws.{refused-value, made}
+use Rattle.vbv.proofs.Laws.{model-made}
 use Rattle.rate_control.specs.Targets.{groupPictures, groupBits, groupWeight, target, targets}
 use Rattle.rate_control.specs.Answers.{createdAnswer}
 use Rattle.rate_control.specs.Create.{within, configFits, writerParams, freshWriter, noWriter, create}
@@ -117,7 +116,7 @@ module _ (p : VbvParams) (between anchors : ℕ) (h : TargetsFit p between ancho
 pub targets-fit : (c : CbrConfig) (n d : ℕ) (p : VbvParams) (x : VbvModel) (m : VbvCbrModel) → p ≡ writerParams c (n, d) → modelAnswer x ≡ newModel p
     → x ≡ Model m → Ranges c → TargetsFit (m .params) (c .«b_between») (c .«anchors_per_gop»)
 targets-fit c n d p x m i e h r =
-    let k = made p m (sym e ∙ ap modelAnswer h) in
+    let k = model-made p m (sym e ∙ ap modelAnswer h) in
     let q = params-fit (k .params-fit) in
     let rate : p .«bit_rate» ≡ rateUnit * c .«bit_rate_value» = ap (λ (y : VbvParams). y .«bit_rate») i ∙ params-rate _ _ (n, d) in
     rw (k .params-kept)
@@ -228,7 +227,7 @@ pub record Fresh (w : CbrWriter) : Type 0 where
 fresh-writer : {c : CbrConfig} {w : CbrWriter} (x : Creation c w) → Fresh (freshWriter c (x .model))
 unfolding freshWriter allFit
 fresh-writer {c} x =
-    let a = made _ (x .model) (x .model-is) in
+    let a = model-made _ (x .model) (x .model-is) in
     let f = config-ranges c (x .ranges) in
     let t = targets-fit c (x .frames .0) (x .frames .1) _ (Model (x .model)) (x .model) refl (sym (x .model-is)) refl f in
     record {

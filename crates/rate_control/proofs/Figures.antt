@@ -5,7 +5,7 @@ use native.Mathlib.Omega.{arith}
 use native.Mathlib.Nat.{div-add-mod', mod-lt}
 use Rattle.bits.specs.Bits.{pick}
 use Rattle.vbv.specs.declared.VbvParams.{VbvParams}
-use Rattle.vbv.proofs.Figures.{figures as model-figures}
+use Rattle.vbv.proofs.Figures.{model-figures}
 use Rattle.rate_control.specs.Targets.{groupPictures, groupBits, groupWeight, target, targets}
 use Rattle.rate_control.specs.Writer.{of, coarser, steered}
 use Rattle.rate_control.specs.Offer.{firstDelay}

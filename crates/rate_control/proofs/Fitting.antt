@@ -8,7 +8,7 @@ use native.Mathlib.Omega.{arith}
 use lib.Dec.{leb, eqb}
 use lib.ListN.{length, getD, set}
 use borrow.Author.Tests.{leb-true, eqb-true, le-leb, eq-eqb}
-use Rattle.bits.proofs.Reading.{both-true}
+use Rattle.bits.proofs.Flags.{both-true}
 use Rattle.vbv.specs.Model.{farthest, modelFits}
 use Rattle.rate_control.specs.Create.{within}
 use Rattle.rate_control.specs.Writer.{quantiserFits, allFit, pendingFits, writerFits}

@@ -10,7 +10,7 @@ use Rattle.bits.specs.Refusals.{Answer, orElse}
 use Rattle.vbv.specs.Annex.{overflows}
 use Rattle.vbv.specs.Model.{farthest, delivered}
 use Rattle.vbv.proofs.Fitting.{model-fits}
-use Rattle.vbv.proofs.After.{after as model-after, after-fits}
+use Rattle.vbv.proofs.After.{model-after, after-fits}
 use Rattle.layers.specs.declared.PictureKind.{PictureKind}
 use Rattle.layers.specs.declared.PictureKind.the-variants.{I, P, B}
 use Rattle.layers.proofs.Laws.{layer-long}

@@ -8,7 +8,7 @@ use native.Mathlib.Omega.{arith}
 use lib.Dec.{leb, ltb, eqb}
 use lib.ListN.{length, replicate}
 use borrow.Author.Tests.{leb-true, lt-ltb, le-ltb, ltb-false, not-false}
-use Rattle.bits.proofs.Flags.{or-right, pick-elim}
+use Rattle.bits.proofs.Flags.{or-right, pick-elim, yes, no, was-no}
 use Rattle.bits.specs.Bits.{pick}
 use Rattle.bits.specs.Answers.{over}
 use Rattle.bits.specs.Refusals.{Answer}
@@ -18,7 +18,6 @@ use Rattle.vbv.specs.Patch.{patched}
 use Rattle.vbv.specs.declared.RemovalInterval.{RemovalInterval}
 use Rattle.vbv.specs.declared.VbvError.the-variants.{Params}
 use Rattle.vbv.proofs.Fitting.{model-fits}
-use Rattle.vbv.proofs.Picks.{yes, no, was-no}
 use Rattle.layers.specs.declared.PictureKind.{PictureKind}
 use Rattle.layers.specs.Headers.{headersFit}
 use Rattle.layers.specs.Layer.{layerFits}

@@ -10,12 +10,11 @@ use lib.ListN.{length}
 use borrow.Author.Tests.{ltb-false, lt-ltb, le-ltb, eq-eqb, ne-eqb}
 use Rattle.bits.specs.Bits.{pick}
 use Rattle.bits.specs.Refusals.{Answer, refuse, violate}
-use Rattle.bits.proofs.Flags.{or-left, or-right, is-true, is-false}
+use Rattle.bits.proofs.Flags.{or-left, or-right, or-no, is-true, is-false, yes, no, held, failed}
 use Rattle.vbv.specs.Model.{farthest}
 use Rattle.vbv.specs.Annex.{unit, overflows, beyond}
 use Rattle.vbv.specs.declared.VbvParams.{VbvParams}
 use Rattle.vbv.proofs.Laws.{over-units, units-over, beyond-units, units-beyond}
-use Rattle.vbv.proofs.Picks.{yes, no, held, failed}
 use Rattle.layers.specs.Headers.{headersFit}
 use Rattle.layers.specs.Layer.{layerFits}
 use Rattle.rate_control.specs.Answers.{Given}
@@ -89,9 +88,6 @@ module _ (p : VbvParams) (t : List ℕ) (x : Known) (o : Offer) {n : ℕ} (i : I
       (no _ _ _ (turn-no (g .in-turn))
       (held (headersFit p (anyPlaced x) (o .headers)) _ _ (g .headers-fit)
       (held (layerFits (o .kind) (o .interval) (o .layer)) _ _ (g .layer-fits) e)))
-
-  or-no : (a b : Bool) → a ≡ false → b ≡ false → (a || b) ≡ false
-  or-no a b f h = rw (f, h)
 
   past-14 : {k : ℕ} {z r : Answer Given} → Near p x o k → z ≡ r → z ≡ upTo14 r
   past-14 g e =

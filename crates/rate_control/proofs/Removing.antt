@@ -12,7 +12,7 @@ use Rattle.vbv.specs.Annex.{firstDelivered, beyond}
 use Rattle.vbv.specs.Model.{delivered}
 use Rattle.vbv.specs.declared.VbvParams.{VbvParams}
 use Rattle.vbv.proofs.Laws.{over-units, beyond-units}
-use Rattle.vbv.proofs.After.{after as model-after}
+use Rattle.vbv.proofs.After.{model-after}
 use Rattle.rate_control.specs.Answers.{Given, placed, again}
 use Rattle.rate_control.specs.Offer.{Offer, position, content, end, deliveredAt, deliveredNext, stuffing, delay, placedBytes, withPending, withPlaced, leftBy, outOf}
 use Rattle.rate_control.specs.Calls.{Call, offering, withdrawing, stepOf, leftByCall, stepsOf}

@@ -8,8 +8,7 @@ use native.Mathlib.Decide.{decLt}
 use native.Mathlib.Nat.{not-suc-le-zero}
 use lib.Dec.{leb, eqb}
 use borrow.Author.Tests.{leb-true, eqb-true}
-use Rattle.bits.proofs.Flags.{pick-elim}
-use Rattle.bits.proofs.Reading.{both-true}
+use Rattle.bits.proofs.Flags.{pick-elim, both-true}
 use Rattle.rate_control.specs.Writer.{coarser, steered}
 
 pub record Quant (q : ℕ) : Type 0 where

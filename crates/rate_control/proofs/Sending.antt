@@ -11,7 +11,7 @@ use Rattle.bits.specs.Refusals.{Answer}
 use Rattle.bits.proofs.Over.{over-take}
 use Rattle.headers.specs.RoundTrips.{Bytes}
 use Rattle.vbv.specs.declared.VbvParams.{VbvParams}
-use Rattle.vbv.proofs.After.{after as model-after}
+use Rattle.vbv.proofs.After.{model-after}
 use Rattle.scan.specs.Codes.{sequenceEnd}
 use Rattle.scan.proofs.Laid.{Tail, tail-none, tail-end}
 use Rattle.verify.specs.declared.CodedPicture.{CodedPicture}

@@ -7,7 +7,7 @@ use native.Mathlib.Omega.{arith}
 use lib.Dec.{ltb}
 use lib.ListN.{length}
 use borrow.Author.Tests.{ltb-true, ltb-false, lt-ltb, le-ltb}
-use Rattle.bits.proofs.Flags.{pick-elim}
+use Rattle.bits.proofs.Flags.{pick-elim, yes, no}
 use Rattle.bits.specs.Bits.{pick}
 use Rattle.vbv.specs.Annex.{firstDelivered, overflows, beyond, expectedDelay, greatestEnd, leastEnd}
 use Rattle.vbv.specs.Steps.{EndFits, delayOf, bitsOf, removalOf}
@@ -23,10 +23,9 @@ use Rattle.vbv.specs.declared.VbvRemoval.{VbvRemoval}
 use Rattle.vbv.specs.declared.VbvRemoval.the-variants as rm
 use Rattle.vbv.specs.declared.VbvDelay.the-variants as dl
 use Rattle.vbv.specs.declared.VbvBits.the-variants as bt
-use Rattle.vbv.proofs.Picks.{yes, no}
 use Rattle.vbv.proofs.Fitting.{params-fit, model-fits}
-use Rattle.vbv.proofs.Laws.{beyond-is, delay-most, fits-params, started, starts}
-use Rattle.vbv.proofs.Told.{next-told}
+use Rattle.vbv.proofs.Laws.{beyond-greatest, delay-most, fits-params, started, model-starts}
+use Rattle.vbv.proofs.Told.{next-delivered-is}
 use Rattle.vbv.proofs.Named.{starts-named, removal-named, delays-named, max-named, min-named}
 use Rattle.vbv.proofs.After.{after-same}
 use Rattle.rate_control.specs.Writer.{writerFits}
@@ -111,7 +110,7 @@ start-model w o f h = go (w .model .started) refl
         }
     go false e =
         let d = firstDelay (w .model .params) in
-        let s = starts (w .model) d (position w o) fitted e h in
+        let s = model-starts (w .model) d (position w o) fitted e h in
         let r = started (w .model) d (position w o) _ s in
         record {
           model = atDelivered (w .model) (firstDelivered (w .model .params) (position w o) d);
@@ -184,7 +183,7 @@ module _ (w : CbrWriter) (o : Offer) (f : writerFits w ≡ true) (n : VbvCbrMode
 
   next-same : nextDelivered n (o .interval) ≡ deliveredNext w o
   unfolding deliveredNext
-  next-same = next-told n (o .interval) ∙ rw (b .delivered-is, b .same-params)
+  next-same = next-delivered-is n (o .interval) ∙ rw (b .delivered-is, b .same-params)
 
   pub least-told : bitsOf (minEndBits n (o .interval)) ≡ bt.Bits (leastEnd p (deliveredNext w o))
   least-told = min-named n (b .fits) (b .is-started) (o .interval) ∙ rw (next-same, b .same-params)
@@ -258,7 +257,7 @@ module _ (w : CbrWriter) (o : Offer) (f : writerFits w ≡ true) (n : VbvCbrMode
     position-told =
         rw most-told
         (most-case n x (stuffing w o) (o .interval) _
-        ∙ rw (← beyond-is p params-fits (position w o) (deliveredAt w o))
+        ∙ rw (← beyond-greatest p params-fits (position w o) (deliveredAt w o))
         (alike (λ (a b : Tested). a ≡ b) _ refl (λ h7. size-told h7) ∙ no _ _ _ (neither (position w o) (end w o) near far) refl))
 
 -- ---- 14

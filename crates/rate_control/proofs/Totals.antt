@@ -10,7 +10,7 @@ use Rattle.bits.specs.Bits.{pick}
 use Rattle.bits.specs.Refusals.{Answer}
 use Rattle.bits.proofs.Over.{over-take}
 use Rattle.vbv.specs.Model.{farthest}
-use Rattle.vbv.proofs.After.{after as model-after}
+use Rattle.vbv.proofs.After.{model-after}
 use Rattle.vbv.proofs.Fitting.{model-fits}
 use Rattle.rate_control.specs.Answers.{Given}
 use Rattle.rate_control.specs.Writer.{writerFits}

@@ -9,8 +9,8 @@ use lib.ListN.{length}
 use borrow.Author.Tests.{lt-ltb, le-ltb}
 use Rattle.bits.specs.Bits.{pick}
 use Rattle.bits.specs.Refusals.{Answer}
-use Rattle.vbv.specs.Answers.{modelAnswer, removalAnswer, delayAnswer, bitsAnswer}
-use Rattle.vbv.proofs.Numbers.{model-case, delay-case, bits-case, removal-case}
+use Rattle.vbv.specs.Answers.{modelAnswer, removalAnswer, delayAnswer, modelBitsAnswer}
+use Rattle.vbv.proofs.Numbers.{model-case, delay-case, model-bits-case, removal-case}
 use Rattle.vbv.specs.Steps.{ParamsFit, delayOf, bitsOf, removalOf}
 use Rattle.vbv.specs.Model.{farthest, startModel, delayForPicture, removePicture, maxEndBits, minEndBits}
 use Rattle.vbv.specs.declared.RemovalInterval.{RemovalInterval}
@@ -104,50 +104,50 @@ pub violated-delay : (v : VbvViolation) (n c d : ℕ) → v ≡ DelayMismatch n 
 unfolding violated
 violated-delay v n c d e = rw e
 
-module _ (m : VbvCbrModel) (x : Extent) (z : ℕ) (i : RemovalInterval) (r : VbvBits) (v : Answer ℕ) (e : bitsAnswer r ≡ v) where
+module _ (m : VbvCbrModel) (x : Extent) (z : ℕ) (i : RemovalInterval) (r : VbvBits) (v : Answer ℕ) (e : modelBitsAnswer r ≡ v) where
   pub most-no : (error : VbvError) → r ≡ bt.Refused error → Refused (Model error) ≡ byMost m x z i (bitsOf v)
   unfolding byMost
-  most-no error h = rw (bits-case h e)
+  most-no error h = rw (model-bits-case h e)
 
   module _ (most : ℕ) (h : r ≡ bt.Bits most) where
     pub most-early : most < x .position → Refused (Model Early) ≡ byMost m x z i (bitsOf v)
     unfolding byMost pick
-    most-early g = rw (bits-case h e, lt-ltb _ _ g)
+    most-early g = rw (model-bits-case h e, lt-ltb _ _ g)
 
     module _ (g : x .position ≤ most) (s : VbvRemoval) (k : removalAnswer s ≡ removePicture m (x .content) i) where
       pub size-no : (error : VbvError) → s ≡ rm.Refused error → Refused (Model error) ≡ byMost m x z i (bitsOf v)
       unfolding byMost bySize pick
-      size-no error l = rw (bits-case h e, le-ltb _ _ g, removal-case l k)
+      size-no error l = rw (model-bits-case h e, le-ltb _ _ g, removal-case l k)
 
       pub size-violated : (w : VbvViolation) (j : Tested) → s ≡ rm.Violation w → j ≡ violated w → j ≡ byMost m x z i (bitsOf v)
       unfolding byMost bySize pick
-      size-violated w j l q = q ∙ rw (bits-case h e, le-ltb _ _ g, removal-case l k)
+      size-violated w j l q = q ∙ rw (model-bits-case h e, le-ltb _ _ g, removal-case l k)
 
       pub size-yes : (next : VbvCbrModel) (j : Tested) → s ≡ rm.Model next → j ≡ byEnd m x z (removalOf (removePicture m (x .content + 8 * z) i))
           → j ≡ byMost m x z i (bitsOf v)
       unfolding byMost bySize pick
-      size-yes next j l q = q ∙ rw (bits-case h e, le-ltb _ _ g, removal-case l k)
+      size-yes next j l q = q ∙ rw (model-bits-case h e, le-ltb _ _ g, removal-case l k)
 
 -- ---- the end
 
-module _ (m : VbvCbrModel) (x : Extent) (i : RemovalInterval) (last : Bool) (r : VbvBits) (v : Answer ℕ) (e : bitsAnswer r ≡ v) where
+module _ (m : VbvCbrModel) (x : Extent) (i : RemovalInterval) (last : Bool) (r : VbvBits) (v : Answer ℕ) (e : modelBitsAnswer r ≡ v) where
   pub least-no : (error : VbvError) → r ≡ bt.Refused error → Refused (Model error) ≡ byLeast m x i last (bitsOf v)
   unfolding byLeast
-  least-no error h = rw (bits-case h e)
+  least-no error h = rw (model-bits-case h e)
 
   module _ (least z : ℕ) (h : r ≡ bt.Bits least) (k : z ≡ stuffingUpTo least (x .content) last) where
     pub far-stuffing : farthest / 8 < z → Refused (Model Range) ≡ byLeast m x i last (bitsOf v)
     unfolding byLeast withStuffing pick
-    far-stuffing g = rw (bits-case h e, ← k, lt-ltb (farthest / 8) z g)
+    far-stuffing g = rw (model-bits-case h e, ← k, lt-ltb (farthest / 8) z g)
 
     module _ (g : z ≤ farthest / 8) where
       pub far-end : farthest < x .content + 8 * z → Refused (Model Range) ≡ byLeast m x i last (bitsOf v)
       unfolding byLeast withStuffing pick
-      far-end l = rw (bits-case h e, ← k, le-ltb (farthest / 8) z g, lt-ltb farthest (x .content + 8 * z) l)
+      far-end l = rw (model-bits-case h e, ← k, le-ltb (farthest / 8) z g, lt-ltb farthest (x .content + 8 * z) l)
 
       pub near-end : (j : Tested) → x .content + 8 * z ≤ farthest → j ≡ byMost m x z i (bitsOf (maxEndBits m)) → j ≡ byLeast m x i last (bitsOf v)
       unfolding byLeast withStuffing pick
-      near-end j l q = q ∙ rw (bits-case h e, ← k, le-ltb (farthest / 8) z g, le-ltb farthest (x .content + 8 * z) l)
+      near-end j l q = q ∙ rw (model-bits-case h e, ← k, le-ltb (farthest / 8) z g, le-ltb farthest (x .content + 8 * z) l)
 
 -- ---- all
 

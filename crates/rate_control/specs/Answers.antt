@@ -2,7 +2,7 @@
 -- since nothing was coded. Assumes nothing.
 use Prim.Native.Nat.{ℕ}
 use Rattle.bits.specs.Refusals.{Answer, value, refused}
-use Rattle.vbv.specs.Answers.{errorNumber as modelNumber, violationNumber, violationPicture, violationCoded, violationExpected, refusal}
+use Rattle.vbv.specs.Answers.{modelNumber, violationNumber, violationPicture, violationCoded, violationExpected, modelRefusal}
 use Rattle.bits.specs.Refusals.{plain}
 use Rattle.bits.specs.declared.VbvRefusal.{VbvRefusal}
 use Rattle.rate_control.specs.declared.CbrWriter.{CbrWriter}
@@ -42,14 +42,14 @@ offerAnswer (Refused e) = refused (offerRefusal e .number) (offerRefusal e .pict
 -- a creation's and a withdrawal's writer stands beside the answer
 abbrev pub creationAnswer : CbrCreation → CbrWriter → Answer CbrWriter
 creationAnswer Created w = value w
-creationAnswer (NotCreated e) w = refusal e
+creationAnswer (NotCreated e) w = modelRefusal e
 
 abbrev pub createdAnswer : CbrCreated → Answer CbrWriter
 createdAnswer r = creationAnswer (r .answer) (r .writer)
 
 abbrev pub withdrawalAnswer : CbrWithdrawal → CbrWriter → Answer CbrWriter
 withdrawalAnswer Withdrawn w = value w
-withdrawalAnswer (NotWithdrawn e) w = refusal e
+withdrawalAnswer (NotWithdrawn e) w = modelRefusal e
 
 abbrev pub withdrawnAnswer : CbrWithdrawn → Answer CbrWriter
 withdrawnAnswer r = withdrawalAnswer (r .answer) (r .writer)

@@ -5,7 +5,7 @@ use mathlib.Core.List.{List, [], _∷_}
 use Prim.Native.Nat.{ℕ, zero, suc, _+_, _*_, _≤_, _<_}
 use Rattle.layers.specs.declared.PictureKind.the-variants.{I, P, B}
 use Rattle.vbv.specs.declared.VbvParams.{VbvParams}
-use Rattle.vbv.specs.Figures.{Figures as ModelFigures, at25}
+use Rattle.vbv.specs.Figures.{ModelFigures, at25}
 use Rattle.rate_control.specs.Targets.{targets}
 use Rattle.rate_control.specs.Writer.{of, coarser, steered}
 use Rattle.rate_control.specs.Offer.{firstDelay}

@@ -13,13 +13,13 @@ use crate::take::number16;
 use crate::take::number32;
 use crate::take::number64;
 use headers::Written;
+use headers::gop_header::Mpeg2Gop;
+use headers::gop_header::NominalRate;
+use headers::gop_header::TimeCode;
+use headers::gop_header::TimeCodeAnswer;
 use headers::quant_matrix_extension::QuantiserMatrix;
 use headers::sequence_extension::ChromaFormat;
 use headers::stream_writer::SequenceHeaderParams;
-use writers::gop_header::Mpeg2Gop;
-use writers::gop_header::NominalRate;
-use writers::gop_header::TimeCode;
-use writers::gop_header::TimeCodeAnswer;
 
 enum OptionChroma {
     Some(ChromaFormat),
@@ -124,7 +124,7 @@ pub(crate) fn nominal_rate(s: &[u8], out: &mut [u8]) -> usize {
     if s.len() != 1 {
         return 0;
     }
-    let rate = writers::gop_header::nominal_pictures_per_second(byte(s, 0));
+    let rate = headers::gop_header::nominal_pictures_per_second(byte(s, 0));
     match rate {
         NominalRate::Refused => put(out, 0, 6),
         NominalRate::PicturesPerSecond(n) => {

@@ -18,7 +18,7 @@ use Rattle.scan.specs.declared.Found.the-variants.{At, Nothing}
 use Rattle.scan.specs.Codes.{starts, nextCode}
 use Rattle.scan.specs.Steps.{zeroOne, before}
 use Rattle.scan.proofs.NextCode.{firstFrom, next-first, no-pair}
-use Rattle.scan.proofs.Walk.{seen}
+use Rattle.scan.proofs.Walk.{code-seen}
 
 -- ---- the block test, place by place
 
@@ -61,9 +61,9 @@ pub none-before : (s : List ℕ) (e i : ℕ) → e ≤ i → Nothing ≡ before 
 none-before s e i h = rw (next-first s i) (sym (late e i (drop i s) h))
 
 -- a code before the bound is told
-pub told : (e o d : ℕ) (f : Found) → o < e → At o d ≡ f → At o d ≡ before e f
+pub told-before : (e o d : ℕ) (f : Found) → o < e → At o d ≡ f → At o d ≡ before e f
 unfolding before pick
-told e o d f h q = rw (← q, lt-ltb o e h)
+told-before e o d f h q = rw (← q, lt-ltb o e h)
 
 -- a code that is told is the next one
 pub tells : (e o d : ℕ) (f : Found) → before e f ≡ At o d → At o d ≡ f
@@ -97,11 +97,11 @@ nothing (suc k) o (b ∷ l) q = go (λ r. nothing k (suc o) l r) (starts (b ∷ 
 pub goes-on : (s : List ℕ) (i k : ℕ) → before (i + k) (nextCode s i) ≡ Nothing → nextCode s (i + k) ≡ nextCode s i
 goes-on s i k q = rw (next-first s (i + k), next-first s i, ← drop-drop k i s) (nothing k i (drop i s) (rw (next-first s i) at (q)))
 
--- a bound that leaves room for no code behind it cuts nothing off
+-- a bound that leaves room for no code after it cuts nothing off
 pub all-told : (s : List ℕ) (e i : ℕ) → length s < e + 4 → before e (nextCode s i) ≡ nextCode s i
 unfolding before pick
 all-told s e i h = go (nextCode s i) refl
   where
     go : (f : Found) → nextCode s i ≡ f → before e f ≡ f
     go Nothing q = refl
-    go (At o d) q = rw (lt-ltb o e (omega (arith, seen s i o d q .room)))
+    go (At o d) q = rw (lt-ltb o e (omega (arith, code-seen s i o d q .room)))

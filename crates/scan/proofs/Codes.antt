@@ -12,7 +12,7 @@ use borrow.Author.Tests.{not-true}
 use Rattle.bits.specs.Bits.{pick}
 use Rattle.bits.specs.Fields.{sameBytes}
 use Rattle.bits.specs.StartCodes.{startCodePrefix}
-use Rattle.bits.proofs.Flags.{and-left, and-right}
+use Rattle.bits.proofs.Flags.{and-left, and-right, clash}
 use Rattle.bits.proofs.Reading.{same-self, same-more, same-not}
 use Rattle.scan.specs.Codes.{Code, starts, codesFrom, codes, endsPrefix}
 use Rattle.scan.proofs.Prefix.{starts-four, starts-is, starts-long, starts-before, ends-few, ends-here, ends-tail, ends-neither}
@@ -122,7 +122,7 @@ prefix-append b x y p f = same-not (b ∷ (x ++ y)) startCodePrefix (go x p)
     go [] p e = let q : y ≡ 0 ∷ 1 ∷ [] = cc in false≢true (rw q at (f))
     go (c ∷ []) p e = let q : y ≡ 1 ∷ [] = cc in false≢true (rw q at (f))
     go (c ∷ d ∷ []) p e = let q : b ∷ c ∷ d ∷ [] ≡ startCodePrefix = cc in false≢true (sym p ∙ rw q (same-self startCodePrefix))
-    go (c ∷ d ∷ a ∷ x) p e = let z : _≡_ {A = ℕ} 0 1 = cc in absurd (omega arith)
+    go (c ∷ d ∷ a ∷ x) p e = absurd (clash cc)
 
 pub ends-append : (x y : List ℕ) → endsPrefix x ≡ false → fresh y ≡ true → endsPrefix y ≡ false → endsPrefix (x ++ y) ≡ false
 ends-append [] y p f q = q
@@ -147,6 +147,6 @@ ends-zeros zero = sym (ends-few [] (omega arith))
 ends-zeros (suc n) = ends-neither 0 (replicate n 0) (no-prefix n) (ends-zeros n)
   where
     no-prefix : (n : ℕ) → sameBytes (0 ∷ replicate n 0) startCodePrefix ≡ false
-    no-prefix zero = same-not _ _ (λ e. let z : _≡_ {A = ℕ} 0 1 = cc in absurd (omega arith))
-    no-prefix (suc zero) = same-not _ _ (λ e. let z : _≡_ {A = ℕ} 0 1 = cc in absurd (omega arith))
+    no-prefix zero = same-not _ _ (λ e. absurd (clash cc))
+    no-prefix (suc zero) = same-not _ _ (λ e. absurd (clash cc))
     no-prefix (suc (suc n)) = rw (same-more, same-more, same-more)

@@ -8,7 +8,7 @@ use lib.ListN.{length, replicate}
 use Rattle.scan.specs.Codes.{codes, every, endsPrefix, sequenceEnd}
 use Rattle.scan.specs.Pictures.{pictures, isSlice, notSlice, notPicture}
 use Rattle.bits.proofs.Reading.{same-more, same-none}
-use Rattle.scan.proofs.Laying.{Opened, Piece, none, more, laid, laidPics}
+use Rattle.scan.proofs.Laying.{Opened, Piece, none, more, laidPieces, laidPics}
 use Rattle.scan.proofs.Laid.{laid-pictures, tail-end}
 use Rattle.scan.proofs.Pieces.{piece-behind, piece-zeros}
 
@@ -18,14 +18,14 @@ unfolding codes
 overlap = simp (same-more, same-none)
 
 -- zeros before a code
-zeros : codes (7 ∷ 0 ∷ 0 ∷ 0 ∷ 1 ∷ 0xB3 ∷ []) ≡ record { offset = 2; code = 0xB3 } ∷ []
+zeros-before : codes (7 ∷ 0 ∷ 0 ∷ 0 ∷ 1 ∷ 0xB3 ∷ []) ≡ record { offset = 2; code = 0xB3 } ∷ []
 unfolding codes
-zeros = simp (same-more, same-none)
+zeros-before = simp (same-more, same-none)
 
 -- a picture, a slice, the end
-one : pictures (0 ∷ 0 ∷ 1 ∷ 0 ∷ 9 ∷ 0 ∷ 0 ∷ 1 ∷ 1 ∷ 8 ∷ 0 ∷ 0 ∷ 1 ∷ 0xB7 ∷ []) ≡ record { start = 0; end = 14 } ∷ []
+one-picture-ended : pictures (0 ∷ 0 ∷ 1 ∷ 0 ∷ 9 ∷ 0 ∷ 0 ∷ 1 ∷ 1 ∷ 8 ∷ 0 ∷ 0 ∷ 1 ∷ 0xB7 ∷ []) ≡ record { start = 0; end = 14 } ∷ []
 unfolding pictures
-one = simp (same-more, same-none)
+one-picture-ended = simp (same-more, same-none)
 
 -- a picture without slices swallows what follows
 swallowed : length (pictures (0 ∷ 0 ∷ 1 ∷ 0 ∷ 0 ∷ 0 ∷ 1 ∷ 0xB3 ∷ 0 ∷ 0 ∷ 1 ∷ 0 ∷ [])) ≡ 1
@@ -33,22 +33,22 @@ unfolding pictures
 swallowed = simp (same-more, same-none)
 
 -- the theorem on pieces speaks of something: a sequence header's code; and a picture's, an extension's and two slices'
-header : List ℕ
-header = 0 ∷ 0 ∷ 1 ∷ 0xB3 ∷ 4 ∷ []
+headerBytes : List ℕ
+headerBytes = 0 ∷ 0 ∷ 1 ∷ 0xB3 ∷ 4 ∷ []
 
-layer : List ℕ
-layer = 0 ∷ 0 ∷ 1 ∷ 0 ∷ 9 ∷ 0 ∷ 0 ∷ 1 ∷ 0xB5 ∷ 7 ∷ 0 ∷ 0 ∷ 1 ∷ 1 ∷ 8 ∷ 0 ∷ 0 ∷ 1 ∷ 2 ∷ 6 ∷ []
+layerBytes : List ℕ
+layerBytes = 0 ∷ 0 ∷ 1 ∷ 0 ∷ 9 ∷ 0 ∷ 0 ∷ 1 ∷ 0xB5 ∷ 7 ∷ 0 ∷ 0 ∷ 1 ∷ 1 ∷ 8 ∷ 0 ∷ 0 ∷ 1 ∷ 2 ∷ 6 ∷ []
 
-header-opened : Opened header
-unfolding header endsPrefix isSlice
+header-opened : Opened headerBytes
+unfolding headerBytes endsPrefix isSlice
 header-opened = record { first = 0xB3; rest = 4 ∷ []; opens = refl; opens-slice = refl; opens-end = refl; closed = simp same-more }
 
-no-picture : every notPicture (codes header) ≡ true
-unfolding header codes every notPicture
+no-picture : every notPicture (codes headerBytes) ≡ true
+unfolding headerBytes codes every notPicture
 no-picture = simp (same-more, same-none)
 
-layer-piece : Piece layer 0
-unfolding layer codes endsPrefix isSlice notSlice notPicture every
+layer-piece : Piece layerBytes 0
+unfolding layerBytes codes endsPrefix isSlice notSlice notPicture every
 layer-piece =
     record {
       opened = record { first = 0; rest = _; opens = refl; opens-slice = refl; opens-end = refl; closed = simp same-more };
@@ -67,9 +67,9 @@ layer-piece =
     }
 
 -- a header, a picture and three zeros; a picture; the sequence's end
-two : pictures (((header ++ layer) ++ replicate 3 0) ++ (layer ++ sequenceEnd)) ≡ record { start = 5; end = 28 } ∷ record { start = 28; end = 52 } ∷ []
-unfolding laid laidPics header layer
+two : pictures (((headerBytes ++ layerBytes) ++ replicate 3 0) ++ (layerBytes ++ sequenceEnd)) ≡ record { start = 5; end = 28 } ∷ record { start = 28; end = 52 } ∷ []
+unfolding laidPieces laidPics headerBytes layerBytes
 two =
     laid-pictures
-    (more _ 5 (piece-zeros (header ++ layer) 5 3 (piece-behind header layer 0 header-opened no-picture layer-piece)) (more layer 0 layer-piece none))
+    (more _ 5 (piece-zeros (headerBytes ++ layerBytes) 5 3 (piece-behind headerBytes layerBytes 0 header-opened no-picture layer-piece)) (more layerBytes 0 layer-piece none))
     sequenceEnd tail-end

@@ -9,14 +9,14 @@ use native.Mathlib.Nat.{add-assoc, add-zero, zero-add}
 use lib.ListN.{length, length-append, length-map}
 use lib.Dec.{eqb}
 use Rattle.bits.specs.Bits.{pick}
-use Rattle.bits.specs.StartCodes.{sequenceEndCode}
-use Rattle.bits.proofs.Reading.{both-true}
+use Rattle.bits.specs.StartCodes.{pictureStartCode, sequenceEndCode}
+use Rattle.bits.proofs.Flags.{both-true, pick-in}
 use Rattle.scan.specs.Codes.{Code, codes, codesFrom, every, sequenceEnd}
 use Rattle.scan.specs.Pictures.{Pic, skip, isSlice, notSlice, notPicture, afterSlices, endAt, picturesF, picturesOf, pictures}
 use Rattle.scan.proofs.Codes.{fresh, fresh-code, moved, codes-append}
 use Rattle.scan.proofs.PictureCodes.{codes-opened}
 use Rattle.scan.proofs.Sorts.{skip-stops}
-use Rattle.scan.proofs.Laying.{OnePicture, Opened, Piece, Pieces, none, more, laid, laidPics}
+use Rattle.scan.proofs.Laying.{OnePicture, Opened, Piece, Pieces, none, more, laidPieces, laidPics}
 use Rattle.scan.proofs.Pictures.{pictures-other, pictures-picture}
 
 -- ---- lists of codes
@@ -95,18 +95,13 @@ endAt-moved d e (c ∷ cs) = go (eqb (c .code) sequenceEndCode)
     go true = omega arith
     go false = refl
 
-map-pick : {A B : Type 0} (f : A → B) (t : Bool) (a b : List A) → map f (pick t a b) ≡ pick t (map f a) (map f b)
-unfolding pick
-map-pick f true a b = refl
-map-pick f false a b = refl
-
 picturesF-moved : (d e n : ℕ) (cs : List Code) → picturesF (d + e) n (map (moved d) cs) ≡ map (movedPic d) (picturesF e n cs)
 unfolding picturesF pick moved movedPic
 picturesF-moved d e zero cs = refl
 picturesF-moved d e (suc n) [] = refl
 picturesF-moved d e (suc n) (c ∷ cs) =
     rw (after-moved d cs, endAt-moved d e (afterSlices cs), picturesF-moved d e n (afterSlices cs), picturesF-moved d e n cs)
-    (sym (map-pick (movedPic d) (eqb (c .code) 0) _ _))
+    (sym (pick-in (map (movedPic d)) (eqb (c .code) pictureStartCode) _ _))
 
 picturesOf-moved : (d e : ℕ) (cs : List Code) → picturesOf (d + e) (map (moved d) cs) ≡ map (movedPic d) (picturesOf e cs)
 unfolding picturesOf
@@ -147,15 +142,15 @@ laid-moved d o (more x at p none) t = simp add-assoc
 laid-moved d o (more x at p (more y at₂ q ps)) t = rw (laid-moved d (o + length x) (more y at₂ q ps) t) (simp add-assoc)
 
 -- the pictures of pieces laid end to end are one for each piece, from where the piece says to where the next piece begins
-pub laid-pictures : (ps : Pieces) (t : List ℕ) → Tail t → pictures (laid ps t) ≡ laidPics 0 ps (length t)
-unfolding laid laidPics
+pub laid-pictures : (ps : Pieces) (t : List ℕ) → Tail t → pictures (laidPieces ps t) ≡ laidPics 0 ps (length t)
+unfolding laidPieces laidPics
 laid-pictures none t w = w .none-left
 laid-pictures (more x at p none) t w =
     piece-then x at p t (w .follows .fresh-y) (w .follows .no-slice-first)
     ∙ rw (w .follows .ends, w .none-left) (simp zero-add)
 laid-pictures (more x at p (more y at₂ q ps)) t w =
-    let g : Follows (y ++ laid ps t) 0 = opened-follows y (q .opened) (laid ps t) in
-    piece-then x at p (y ++ laid ps t) (g .fresh-y) (g .no-slice-first)
+    let g : Follows (y ++ laidPieces ps t) 0 = opened-follows y (q .opened) (laidPieces ps t) in
+    piece-then x at p (y ++ laidPieces ps t) (g .fresh-y) (g .no-slice-first)
     ∙ rw (g .ends, laid-pictures (more y at₂ q ps) t w, laid-moved (length x) 0 (more y at₂ q ps) (length t)) (simp (add-zero, zero-add))
 
 pub tail-none : Tail []

@@ -42,9 +42,9 @@ pub data Pieces : Type 0 where
   more : (x : List ℕ) (at : ℕ) → Piece x at → Pieces → Pieces
 
 -- pieces end to end, and what follows the last
-unfoldable pub laid : Pieces → List ℕ → List ℕ
-laid none t = t
-laid (more x at p ps) t = x ++ laid ps t
+unfoldable pub laidPieces : Pieces → List ℕ → List ℕ
+laidPieces none t = t
+laidPieces (more x at p ps) t = x ++ laidPieces ps t
 
 -- their pictures, in a stream in which they begin at o: each begins where its piece says, and ends where the next piece begins
 unfoldable pub laidPics : ℕ → Pieces → ℕ → List Pic
@@ -52,8 +52,8 @@ laidPics o none t = []
 laidPics o (more x at p none) t = record { start = o + at; end = o + (length x + t) } ∷ []
 laidPics o (more x at p (more y at₂ q ps)) t = record { start = o + at; end = o + length x } ∷ laidPics (o + length x) (more y at₂ q ps) t
 
-pub laid-none : (t : List ℕ) → laid none t ≡ t
-unfolding laid
+pub laid-none : (t : List ℕ) → laidPieces none t ≡ t
+unfolding laidPieces
 laid-none t = refl
 
 pub pics-none : (o t : ℕ) → laidPics o none t ≡ []
@@ -61,8 +61,8 @@ unfolding laidPics
 pics-none o t = refl
 
 module _ (x : List ℕ) (at : ℕ) (p : Piece x at) where
-  pub laid-more : (ps : Pieces) (t : List ℕ) → laid (more x at p ps) t ≡ x ++ laid ps t
-  unfolding laid
+  pub laid-more : (ps : Pieces) (t : List ℕ) → laidPieces (more x at p ps) t ≡ x ++ laidPieces ps t
+  unfolding laidPieces
   laid-more ps t = refl
 
   -- the last picture ends with what follows the pieces

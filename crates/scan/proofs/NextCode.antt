@@ -25,10 +25,10 @@ unfolding pick starts
 firstFrom o [] = Nothing
 firstFrom o (b ∷ l) = pick (starts (b ∷ l)) (At o (getD (b ∷ l) 3 0)) (firstFrom (suc o) l)
 
-first-is : (o : ℕ) (l : List ℕ) → firstFrom o l ≡ found (codesFrom o 0 l)
+first-from-is : (o : ℕ) (l : List ℕ) → firstFrom o l ≡ found (codesFrom o 0 l)
 unfolding firstFrom codesFrom found pick
-first-is o [] = refl
-first-is o (b ∷ l) = go (first-is (suc o) l) (starts (b ∷ l))
+first-from-is o [] = refl
+first-from-is o (b ∷ l) = go (first-from-is (suc o) l) (starts (b ∷ l))
   where
     go : firstFrom (suc o) l ≡ found (codesFrom (suc o) 0 l) → (t : Bool)
         → pick t (At o (getD (b ∷ l) 3 0)) (firstFrom (suc o) l)
@@ -36,13 +36,13 @@ first-is o (b ∷ l) = go (first-is (suc o) l) (starts (b ∷ l))
     go ih true = refl
     go ih false = ih
 
-short : (l : List ℕ) (o : ℕ) → length l < 4 → firstFrom o l ≡ Nothing
+short-none : (l : List ℕ) (o : ℕ) → length l < 4 → firstFrom o l ≡ Nothing
 unfolding firstFrom starts pick
-short [] o h = refl
-short (a ∷ []) o h = refl
-short (a ∷ b ∷ []) o h = refl
-short (a ∷ b ∷ c ∷ []) o h = refl
-short (a ∷ b ∷ c ∷ d ∷ l) o h = absurd (omega arith)
+short-none [] o h = refl
+short-none (a ∷ []) o h = refl
+short-none (a ∷ b ∷ []) o h = refl
+short-none (a ∷ b ∷ c ∷ []) o h = refl
+short-none (a ∷ b ∷ c ∷ d ∷ l) o h = absurd (omega arith)
 
 first-on : (o : ℕ) (l : List ℕ) → starts l ≡ false → firstFrom (o + 1) (drop 1 l) ≡ firstFrom o l
 unfolding firstFrom pick
@@ -58,10 +58,10 @@ first-here o (b ∷ l) e = rw e
 
 pub next-first : (s : List ℕ) (i : ℕ) → nextCode s i ≡ firstFrom i (drop i s)
 unfolding nextCode codesAt
-next-first s i = sym (first-is i (drop i s))
+next-first s i = sym (first-from-is i (drop i s))
 
 pub next-short : (s : List ℕ) (i : ℕ) → length s < i + 4 → Nothing ≡ nextCode s i
-next-short s i h = rw (next-first s i) (sym (short (drop i s) i (simp length-drop (omega arith))))
+next-short s i h = rw (next-first s i) (sym (short-none (drop i s) i (simp length-drop (omega arith))))
 
 starts-at : (s : List ℕ) (i : ℕ)
     → starts (drop i s) ≡ (leb 4 (length s - i) && (eqb (getD s i 0) 0 && (eqb (getD s (i + 1) 0) 0 && eqb (getD s (i + 2) 0) 1)))

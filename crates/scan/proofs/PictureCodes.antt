@@ -31,14 +31,14 @@ starts-eighth d s k = ⊎-elim (starts-first d s) (go s) k
     go (x ∷ []) z = absurd (omega arith)
     go (x ∷ y ∷ s) z = rw (z .1) (starts-before d x s)
 
--- behind the picture's code the scan finds nothing before byte 8
+-- after the picture's code the scan finds nothing before byte 8
 pub codes-eight : (a b c d : ℕ) (s : List ℕ) → (b ≡ 0 → ⊥) → Clear d s
     → codes (0 ∷ 0 ∷ 1 ∷ 0 ∷ a ∷ b ∷ c ∷ d ∷ s) ≡ record { offset = 0; code = 0 } ∷ codesFrom 8 0 s
 unfolding codes codesFrom pick
 codes-eight a b c d s n k =
     rw (starts-four 0 0 1 0 (a ∷ b ∷ c ∷ d ∷ s), starts-second a b (c ∷ d ∷ s) n, starts-first b (c ∷ d ∷ s) n, starts-seventh c d s k, starts-eighth d s k)
 
--- a picture's code at byte 0, no zero in byte 5, and byte 7 not zero or two zeros behind it
+-- a picture's code at byte 0, no zero in byte 5, and byte 7 not zero or two zeros after it
 pub record PictureHead (s : List ℕ) : Type 0 where
   pub long : 10 ≤ length s
   pub code : take 4 s ≡ startCode pictureStartCode

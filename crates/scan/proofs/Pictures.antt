@@ -11,15 +11,16 @@ use lib.Dec.{eqb}
 use borrow.Author.Tests.{not-true, not-false, eqb-true, ne-eqb}
 use Rattle.bits.specs.Bits.{pick}
 use Rattle.bits.specs.StartCodes.{sequenceEndCode}
+use Rattle.bits.proofs.Flags.{clash}
 use Rattle.scan.specs.declared.Found.{Found}
 use Rattle.scan.specs.declared.Found.the-variants.{At, Nothing}
 use Rattle.scan.specs.declared.Next.{Next}
 use Rattle.scan.specs.declared.Next.the-variants.{Picture, Done}
 use Rattle.scan.specs.declared.Stop.the-variants.{AtPicture, AtSlice, AfterSlices}
 use Rattle.scan.specs.Codes.{Code, codesFrom, codes, codesAt, found}
-use Rattle.scan.specs.Pictures.{Pic, skip, isSlice, notSlice, notPicture, notSequence, afterSlices, endAt, picturesF, picturesOf, pictures}
-use Rattle.scan.specs.Walk as walk
-use Rattle.scan.specs.Walk.{goOn, nextIn, nextPicture, Steps, WalkGivesPictures, InOrder, PicturesInOrder}
+use Rattle.scan.specs.Pictures.{Pic, skip, isSlice, notSlice, notPicture, notSequence, afterSlices, endAt, picturesF, picturesOf, pictures, goOn, nextIn, nextPicture}
+use Rattle.scan.specs.Order as walk
+use Rattle.scan.specs.Order.{WalkGives, WalkGivesPictures, InOrder, PicturesInOrder}
 use Rattle.scan.specs.Steps.{passed}
 use Rattle.scan.proofs.Walk.{Sought, sought, unsought}
 
@@ -75,11 +76,11 @@ pictures-skip e (c ∷ cs) = go (pictures-skip e cs) (notPicture (c .code)) refl
     go ih true q = pictures-other e c cs q ∙ ih
     go ih false q = refl
 
--- ---- behind the slices
+-- ---- after the slices
 
-pub after-none : (s : List ℕ) (k : ℕ) → found (skip (passed AtSlice) (codesAt s k)) ≡ Nothing → Nothing ≡ found (afterSlices (codesAt s k))
+pub no-slices-end : (s : List ℕ) (k : ℕ) → found (skip (passed AtSlice) (codesAt s k)) ≡ Nothing → Nothing ≡ found (afterSlices (codesAt s k))
 unfolding afterSlices passed skip found
-after-none s k e = rw (unsought (skip notSlice (codesAt s k)) e)
+no-slices-end s k e = rw (unsought (skip notSlice (codesAt s k)) e)
 
 pub after-some : (s : List ℕ) (k g c : ℕ) → found (skip (passed AtSlice) (codesAt s k)) ≡ At g c
     → skip (passed AfterSlices) (codesAt s g) ≡ afterSlices (codesAt s k)
@@ -88,19 +89,19 @@ after-some s k g c e =
     let m : Sought notSlice s k g c = sought notSlice s k g c e in
     ap (skip isSlice) (m .again ∙ sym (m .list))
 
--- the code behind the slices that come next from k on: c, which stands at g
-pub record Behind (s : List ℕ) (k g c : ℕ) : Type 0 where
+-- the code after the slices that come next from k on: c, which stands at g
+pub record SlicesPassed (s : List ℕ) (k g c : ℕ) : Type 0 where
   pub from : k ≤ g
   pub room : g + 4 ≤ length s
   pub list : afterSlices (codesAt s k) ≡ record { offset = g; code = c } ∷ codesAt s (g + 4)
   pub again : codesAt s g ≡ record { offset = g; code = c } ∷ codesAt s (g + 4)
 
-pub behind : (s : List ℕ) (k g c : ℕ) → found (afterSlices (codesAt s k)) ≡ At g c → Behind s k g c
+pub slices-passed : (s : List ℕ) (k g c : ℕ) → found (afterSlices (codesAt s k)) ≡ At g c → SlicesPassed s k g c
 unfolding passed
-behind s k g c h = go (found (skip (passed AtSlice) (codesAt s k))) refl
+slices-passed s k g c h = go (found (skip (passed AtSlice) (codesAt s k))) refl
   where
-    go : (f : Found) → found (skip (passed AtSlice) (codesAt s k)) ≡ f → Behind s k g c
-    go Nothing e = let z : Nothing ≡ At g c = after-none s k e ∙ h in let w : _≡_ {A = ℕ} 0 1 = cc in absurd (omega arith)
+    go : (f : Found) → found (skip (passed AtSlice) (codesAt s k)) ≡ f → SlicesPassed s k g c
+    go Nothing e = let z : Nothing ≡ At g c = no-slices-end s k e ∙ h in absurd (clash cc)
     go (At b d) e =
         let m : Sought notSlice s k b d = sought notSlice s k b d e in
         let n : Sought isSlice s b g c = sought isSlice s b g c (ap found (after-some s k b d e) ∙ h) in
@@ -130,11 +131,11 @@ module _ (s : List ℕ) (i a d : ℕ) (f : found (skip (passed AtPicture) (codes
   module _ (g c : ℕ) (h : found (afterSlices (codesAt s (a + 4))) ≡ At g c) where
     pub next-ended : c ≡ sequenceEndCode → Picture a (g + 4) g ≡ nextPicture s i
     unfolding endAt goOn pick
-    next-ended e = rw (behind s (a + 4) g c h .list, e) at next-some
+    next-ended e = rw (slices-passed s (a + 4) g c h .list, e) at next-some
 
     pub next-followed : (c ≡ sequenceEndCode → ⊥) → Picture a g g ≡ nextPicture s i
     unfolding endAt goOn pick
-    next-followed n = rw (behind s (a + 4) g c h .list, ne-eqb c sequenceEndCode n) at next-some
+    next-followed n = rw (slices-passed s (a + 4) g c h .list, ne-eqb c sequenceEndCode n) at next-some
 
 -- ---- what a step of the walk says
 
@@ -150,7 +151,7 @@ unfolding passed
 taken s i a b n h = go (found (skip (passed AtPicture) (codesAt s i))) refl
   where
     go : (f : Found) → found (skip (passed AtPicture) (codesAt s i)) ≡ f → Taken s i a b n
-    go Nothing e = let z : Done ≡ Picture a b n = next-none s i e ∙ h in let w : _≡_ {A = ℕ} 0 1 = cc in absurd (omega arith)
+    go Nothing e = let z : Done ≡ Picture a b n = next-none s i e ∙ h in absurd (clash cc)
     go (At o c) e =
         let x : Picture o (endAt (length s) (afterSlices (codesAt s (o + 4)))) (goOn (length s) (afterSlices (codesAt s (o + 4)))) ≡ Picture a b n
         = next-some s i o c e ∙ h in
@@ -163,7 +164,7 @@ pub next-low : (s : List ℕ) (i a b n : ℕ) → nextPicture s i ≡ Picture a 
 next-low s i a b n h = taken s i a b n h .hit .from
 
 -- what follows a picture's code, from k on: the picture ends at b, the walk goes on at n, and the next picture begins at b or later
-record After (s : List ℕ) (k b n : ℕ) : Type 0 where
+record SlicesEnd (s : List ℕ) (k b n : ℕ) : Type 0 where
   same : afterSlices (codesAt s k) ≡ codesAt s n
   low : k ≤ n
   on : n ≤ b
@@ -180,19 +181,19 @@ end-passed : (s : List ℕ) (g c : ℕ) → codesAt s g ≡ record { offset = g;
 unfolding nextPicture skip pick notPicture
 end-passed s g c e q = rw (e, eqb-true c sequenceEndCode q)
 
-after : (s : List ℕ) (k : ℕ) → k ≤ length s
-    → After s k (endAt (length s) (afterSlices (codesAt s k))) (goOn (length s) (afterSlices (codesAt s k)))
+slices-end : (s : List ℕ) (k : ℕ) → k ≤ length s
+    → SlicesEnd s k (endAt (length s) (afterSlices (codesAt s k))) (goOn (length s) (afterSlices (codesAt s k)))
 unfolding endAt goOn pick
-after s k h = go (found (afterSlices (codesAt s k))) refl
+slices-end s k h = go (found (afterSlices (codesAt s k))) refl
   where
     go : (f : Found) → found (afterSlices (codesAt s k)) ≡ f
-        → After s k (endAt (length s) (afterSlices (codesAt s k))) (goOn (length s) (afterSlices (codesAt s k)))
+        → SlicesEnd s k (endAt (length s) (afterSlices (codesAt s k))) (goOn (length s) (afterSlices (codesAt s k)))
     go Nothing e =
         let u : afterSlices (codesAt s k) ≡ [] = unsought (afterSlices (codesAt s k)) e in
         rw u (record { same = u ∙ sym (at-end s); low = h; on = omega arith; high = omega arith; clear = next-low s (length s) })
-    go (At g c) e = let m : Behind s k g c = behind s k g c e in rw (m .list) (turn m (eqb c sequenceEndCode) refl)
+    go (At g c) e = let m : SlicesPassed s k g c = slices-passed s k g c e in rw (m .list) (turn m (eqb c sequenceEndCode) refl)
       where
-        turn : Behind s k g c → (t : Bool) → eqb c sequenceEndCode ≡ t → After s k (pick t (g + 4) g) g
+        turn : SlicesPassed s k g c → (t : Bool) → eqb c sequenceEndCode ≡ t → SlicesEnd s k (pick t (g + 4) g) g
         turn m true q = record {
           same = m .list ∙ sym (m .again);
           low = m .from;
@@ -208,7 +209,7 @@ unfoldable pub picturesAt : List ℕ → ℕ → List Pic
 picturesAt s i = picturesOf (length s) (codesAt s i)
 
 -- a walk from i finds a picture from a to b, and goes on at n
-pub record Walked (s : List ℕ) (i a b n : ℕ) : Type 0 where
+pub record PictureStep (s : List ℕ) (i a b n : ℕ) : Type 0 where
   pub from : i ≤ a
   pub low : a + 4 ≤ n
   pub on : n ≤ b
@@ -217,11 +218,11 @@ pub record Walked (s : List ℕ) (i a b n : ℕ) : Type 0 where
   pub clear : (a₂ b₂ n₂ : ℕ) → nextPicture s n ≡ Picture a₂ b₂ n₂ → b ≤ a₂
   pub list : picturesAt s i ≡ record { start = a; end = b } ∷ picturesAt s n
 
-pub walked : (s : List ℕ) (i a b n : ℕ) → nextPicture s i ≡ Picture a b n → Walked s i a b n
+pub picture-step : (s : List ℕ) (i a b n : ℕ) → nextPicture s i ≡ Picture a b n → PictureStep s i a b n
 unfolding picturesAt
-walked s i a b n h =
+picture-step s i a b n h =
     let t : Taken s i a b n = taken s i a b n h in
-    let r : After s (a + 4) b n = rw (t .end-is, t .next-is) at (after s (a + 4) (t .hit .room)) in
+    let r : SlicesEnd s (a + 4) b n = rw (t .end-is, t .next-is) at (slices-end s (a + 4) (t .hit .room)) in
     record {
       from = t .hit .from;
       low = r .low;
@@ -249,30 +250,30 @@ pub pictures-walk : (s : List ℕ) → picturesAt s 0 ≡ pictures s
 unfolding picturesAt pictures codes codesAt
 pictures-walk s = refl
 
-steps-from : (s : List ℕ) (i : ℕ) (qs : List Pic) → picturesAt s i ≡ qs → Steps s i qs
-steps-from s i [] l = go (nextPicture s i) refl
+walk-from : (s : List ℕ) (i : ℕ) (qs : List Pic) → picturesAt s i ≡ qs → WalkGives s i qs
+walk-from s i [] l = go (nextPicture s i) refl
   where
-    go : (o : Next) → nextPicture s i ≡ o → Steps s i []
+    go : (o : Next) → nextPicture s i ≡ o → WalkGives s i []
     go Done h = walk.done h
-    go (Picture a b k) h = let z = sym (walked s i a b k h .list) ∙ l in let w : _≡_ {A = ℕ} 0 1 = cc in absurd (omega arith)
-steps-from s i (q ∷ qs) l = go (λ k x. steps-from s k qs x) (nextPicture s i) refl
+    go (Picture a b k) h = let z = sym (picture-step s i a b k h .list) ∙ l in absurd (clash cc)
+walk-from s i (q ∷ qs) l = go (λ k x. walk-from s k qs x) (nextPicture s i) refl
   where
-    go : ((k : ℕ) → picturesAt s k ≡ qs → Steps s k qs) → (o : Next) → nextPicture s i ≡ o → Steps s i (q ∷ qs)
-    go ih Done h = let z = sym (pictures-done s i h) ∙ l in let w : _≡_ {A = ℕ} 0 1 = cc in absurd (omega arith)
+    go : ((k : ℕ) → picturesAt s k ≡ qs → WalkGives s k qs) → (o : Next) → nextPicture s i ≡ o → WalkGives s i (q ∷ qs)
+    go ih Done h = let z = sym (pictures-done s i h) ∙ l in absurd (clash cc)
     go ih (Picture a b k) h =
-        let x = sym (walked s i a b k h .list) ∙ l in
+        let x = sym (picture-step s i a b k h .list) ∙ l in
         let y : _≡_ {A = Pic} (record { start = a; end = b }) q = cc in
         let z : picturesAt s k ≡ qs = cc in
         rw (← y) (walk.step h (ih k z))
 
 pub walk-gives : WalkGivesPictures
-walk-gives s = steps-from s 0 (pictures s) (pictures-walk s)
+walk-gives s = walk-from s 0 (pictures s) (pictures-walk s)
 
--- from place i on, behind what ends at e
-ordered : {s : List ℕ} {i : ℕ} {qs : List Pic} (e : ℕ) → ((a b k : ℕ) → nextPicture s i ≡ Picture a b k → e ≤ a) → Steps s i qs → InOrder (length s) e qs
+-- from place i on, after what ends at e
+ordered : {s : List ℕ} {i : ℕ} {qs : List Pic} (e : ℕ) → ((a b k : ℕ) → nextPicture s i ≡ Picture a b k → e ≤ a) → WalkGives s i qs → InOrder (length s) e qs
 ordered e clear (walk.done h) = walk.none
 ordered {s} {i} e clear (walk.step {start = a} {end = b} {next = k} h t) =
-    let w = walked s i a b k h in
+    let w = picture-step s i a b k h in
     walk.more {q = record { start = a; end = b }} (clear a b k h) (omega (arith, w .low, w .on)) (w .high) (ordered b (w .clear) t)
 
 pub in-order : PicturesInOrder

@@ -1,11 +1,11 @@
--- A piece put together: headers before its picture, zeros behind it.
+-- A piece put together: headers before its picture, zeros after it.
 -- Assumes nothing.
 use mathlib.Core.Path.{_≡_, refl, sym, ap, _∙_}
 use Prim.Native.Nat.{ℕ, _+_}
 use mathlib.Core.List.{List, [], _∷_, _++_, map, map-append, append-assoc, append-nil}
 use mathlib.Core.Bool.{Bool, true, false}
 use lib.ListN.{length, replicate}
-use Rattle.bits.proofs.Reading.{both-true}
+use Rattle.bits.proofs.Flags.{both-true}
 use Rattle.scan.specs.Codes.{Code, codes, every, endsPrefix}
 use Rattle.scan.specs.Pictures.{isSlice, notSlice, notPicture}
 use Rattle.scan.proofs.Codes.{fresh, fresh-code, fresh-zeros, moved, codes-append, codesFrom-zeros, ends-append, ends-zeros}

@@ -70,7 +70,7 @@ pub ends-prefix : endsPrefix startCodePrefix ≡ true
 unfolding endsPrefix
 ends-prefix = same-self startCodePrefix
 
--- they are 00 00 01, or those behind the first end so
+-- they are 00 00 01, or those after the first end so
 ends-more : (b : ℕ) (s : List ℕ) → endsPrefix (b ∷ s) ≡ (sameBytes (b ∷ s) startCodePrefix || endsPrefix s)
 unfolding endsPrefix
 ends-more b [] = rw (no-prefix [] (λ e. omega arith), or-false)

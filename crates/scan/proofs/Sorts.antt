@@ -7,7 +7,7 @@ use mathlib.Core.Bool.{Bool, true, false, and-false}
 use borrow.Author.Tests.{lt-leb, ne-eqb}
 use Rattle.bits.specs.Bits.{pick}
 use Rattle.bits.specs.StartCodes.{lastSliceCode, sequenceHeaderCode}
-use Rattle.bits.proofs.Reading.{both-true}
+use Rattle.bits.proofs.Flags.{both-true}
 use Rattle.scan.specs.Codes.{Code, every, found}
 use Rattle.scan.specs.Pictures.{isSlice, notSlice, notPicture, notSequence, skip}
 use Rattle.scan.specs.declared.Found.the-variants.{At}
@@ -51,17 +51,17 @@ unfolding skip pick
 skip-stops p c cs h = rw h
 
 -- what a search passes over, and where it stops
-pub record Passed (p : ℕ → Bool) (cs : List Code) : Type 0 where
+pub record PassedOver (p : ℕ → Bool) (cs : List Code) : Type 0 where
   pub front : List Code
   pub all : every p front ≡ true
   pub split : cs ≡ front ++ skip p cs
 
-pub skip-split : (p : ℕ → Bool) (cs : List Code) → Passed p cs
+pub skip-split : (p : ℕ → Bool) (cs : List Code) → PassedOver p cs
 unfolding skip pick every
 skip-split p [] = record { front = []; all = refl; split = refl }
 skip-split p (c ∷ cs) = go (skip-split p cs) (p (c .code)) refl
   where
-    go : Passed p cs → (t : Bool) → p (c .code) ≡ t → Passed p (c ∷ cs)
+    go : PassedOver p cs → (t : Bool) → p (c .code) ≡ t → PassedOver p (c ∷ cs)
     go r true e = record { front = c ∷ r .front; all = rw (e, r .all); split = rw e (ap (λ (l : List Code). c ∷ l) (r .split)) }
     go r false e = record { front = []; all = refl; split = rw e }
 

@@ -9,6 +9,7 @@ use native.Mathlib.Nat.{add-suc, add-zero, suc-add}
 use lib.ListN.{length, getD, drop, length-drop}
 use lib.Seq.{drop-drop}
 use Rattle.bits.specs.Bits.{pick}
+use Rattle.bits.proofs.Flags.{clash}
 use Rattle.scan.specs.declared.Found.the-variants.{At, Nothing}
 use Rattle.scan.specs.Codes.{Code, starts, codesFrom, codesAt, found, nextCode}
 use Rattle.scan.specs.Pictures.{skip}
@@ -57,7 +58,7 @@ hit-later h b m e = record {
 
 hit : (p : ℕ → Bool) (l : List ℕ) (o k q c : ℕ) → found (skip p (codesFrom o k l)) ≡ At q c → Hit p l o k q c
 unfolding codesFrom skip found pick
-hit p [] o k q c e = let z : _≡_ {A = ℕ} 0 1 = cc in absurd (omega arith)
+hit p [] o k q c e = absurd (clash cc)
 hit p (b ∷ l) o (suc k) q c e = hit-later (hit p l (suc o) k q c e) b (suc k) refl
 hit p (b ∷ l) o zero q c e = go (λ k. hit p l (suc o) k q c) (starts (b ∷ l)) refl e
   where
@@ -120,34 +121,34 @@ unfolding skip pick never
 skip-never [] = refl
 skip-never (c ∷ cs) = refl
 
-next-is : (s : List ℕ) (i : ℕ) → nextCode s i ≡ found (codesAt s i)
+next-code-is : (s : List ℕ) (i : ℕ) → nextCode s i ≡ found (codesAt s i)
 unfolding nextCode
-next-is s i = refl
+next-code-is s i = refl
 
-pub record Seen (s : List ℕ) (i o c : ℕ) : Type 0 where
+pub record CodeSeen (s : List ℕ) (i o c : ℕ) : Type 0 where
   pub from : i ≤ o
   pub room : o + 4 ≤ length s
   pub list : codesAt s i ≡ record { offset = o; code = c } ∷ codesAt s (o + 4)
   pub again : codesAt s o ≡ record { offset = o; code = c } ∷ codesAt s (o + 4)
 
-pub seen : (s : List ℕ) (i o c : ℕ) → nextCode s i ≡ At o c → Seen s i o c
-seen s i o c e =
-    let m : Sought never s i o c = sought never s i o c (ap found (skip-never (codesAt s i)) ∙ sym (next-is s i) ∙ e) in
+pub code-seen : (s : List ℕ) (i o c : ℕ) → nextCode s i ≡ At o c → CodeSeen s i o c
+code-seen s i o c e =
+    let m : Sought never s i o c = sought never s i o c (ap found (skip-never (codesAt s i)) ∙ sym (next-code-is s i) ∙ e) in
     record { from = m .from; room = m .room; list = sym (skip-never (codesAt s i)) ∙ m .list; again = m .again }
 
 pub unseen : (s : List ℕ) (i : ℕ) → nextCode s i ≡ Nothing → codesAt s i ≡ []
-unseen s i e = unsought (codesAt s i) (sym (next-is s i) ∙ e)
+unseen s i e = unsought (codesAt s i) (sym (next-code-is s i) ∙ e)
 
 -- ---- one turn of a search
 
 pub pass-on : (p : ℕ → Bool) (s : List ℕ) (i o c : ℕ) → nextCode s i ≡ At o c → p c ≡ true
     → found (skip p (codesAt s (o + 4))) ≡ found (skip p (codesAt s i))
 unfolding skip pick
-pass-on p s i o c e t = rw (seen s i o c e .list, t)
+pass-on p s i o c e t = rw (code-seen s i o c e .list, t)
 
 pub stop-here : (p : ℕ → Bool) (s : List ℕ) (i o c : ℕ) → nextCode s i ≡ At o c → p c ≡ false → At o c ≡ found (skip p (codesAt s i))
 unfolding skip pick found
-stop-here p s i o c e t = rw (seen s i o c e .list, t)
+stop-here p s i o c e t = rw (code-seen s i o c e .list, t)
 
 pub none-here : (p : ℕ → Bool) (s : List ℕ) (i : ℕ) → nextCode s i ≡ Nothing → Nothing ≡ found (skip p (codesAt s i))
 unfolding skip found

@@ -1,4 +1,4 @@
 pub mod Codes
 pub mod Pictures
-pub mod Walk
+pub mod Order
 pub mod Steps

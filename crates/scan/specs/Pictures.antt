@@ -7,7 +7,9 @@ use lib.ListN.{length}
 use lib.Dec.{eqb, leb}
 use Rattle.bits.specs.Bits.{pick}
 use Rattle.bits.specs.StartCodes.{pictureStartCode, firstSliceCode, lastSliceCode, sequenceHeaderCode, sequenceEndCode}
-use Rattle.scan.specs.Codes.{Code, codes}
+use Rattle.scan.specs.declared.Next.{Next}
+use Rattle.scan.specs.declared.Next.the-variants.{Picture, Done}
+use Rattle.scan.specs.Codes.{Code, codes, codesAt}
 
 unfoldable pub isSlice : ℕ → Bool
 isSlice b = leb firstSliceCode b && leb b lastSliceCode
@@ -60,3 +62,19 @@ picturesOf e cs = picturesF e (length cs) cs
 unfoldable pub pictures : List ℕ → List Pic
 unfolding picturesOf codes
 pictures s = picturesOf (length s) (codes s)
+
+-- where the walk goes on
+unfoldable pub goOn : ℕ → List Code → ℕ
+goOn e [] = e
+goOn e (c ∷ cs) = c .offset
+
+-- the picture at the first of the codes
+unfoldable pub nextIn : ℕ → List Code → Next
+unfolding afterSlices endAt goOn
+nextIn e [] = Done
+nextIn e (c ∷ cs) = Picture (c .offset) (endAt e (afterSlices cs)) (goOn e (afterSlices cs))
+
+-- the first picture that begins at a code which a scan from `from` finds, with its end and where the walk goes on
+unfoldable pub nextPicture : List ℕ → ℕ → Next
+unfolding nextIn skip notPicture codesAt
+nextPicture s from = nextIn (length s) (skip notPicture (codesAt s from))

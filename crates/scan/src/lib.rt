@@ -3,8 +3,7 @@ ghost use mathlib.Core.Path.{_≡_};
 ghost use lib.ListN.{length};
 ghost use Prim.Native.Nat.{_+_, _≤_};
 ghost use Rattle.scan.specs.Codes.{found, nextCode, codes, codesAt};
-ghost use Rattle.scan.specs.Pictures.{skip, notSequence, afterSlices};
-ghost use Rattle.scan.specs.Walk.{nextPicture};
+ghost use Rattle.scan.specs.Pictures.{skip, notSequence, afterSlices, nextPicture};
 ghost use Rattle.scan.specs.Steps.{zeroOne, before, passed};
 use bits::start_codes::FIRST_SLICE_CODE;
 use bits::start_codes::LAST_SLICE_CODE;
@@ -141,7 +140,7 @@ pub fn first_sequence(s: &[u8]) -> Found
     seek(s, 0, Stop::AtSequence)
 }
 
-// The first code behind the slices that come next.
+// The first code after the slices that come next.
 fn after_slices(s: &[u8], from: usize) -> Found
     ensures { λ r. ⌜ r ≡ found (afterSlices (codesAt (now (s .entry)) from)) ⌝ }
 {

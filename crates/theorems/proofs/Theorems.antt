@@ -9,7 +9,7 @@ use Rattle.picture_header.proofs.PictureHeader.{picture-header-append, picture-
 use Rattle.picture_header.proofs.CodingExtension.{coding-append, coding-short-cut}
 use Rattle.picture_header.proofs.Picture.{picture-append}
 use Rattle.picture_header.proofs.Numbering.{picture-numbers}
-use Rattle.writers.proofs.GopHeader.{group-read-back, time-code-fits}
+use Rattle.writers.proofs.GopHeader.{group-read-back, time-code-written}
 use Rattle.vbv.proofs.Fractions.{fractions}
 use Rattle.vbv.proofs.Numbering.{model-numbers, model-stays}
 use Rattle.scan.proofs.Pictures.{walk-gives, in-order}
@@ -36,7 +36,7 @@ theorems = record {
   plain-written-reads = plain-read-back;
   extension-read-writes = extension-write-back;
   group-written-reads = group-read-back;
-  time-code-writes = time-code-fits;
+  time-code-writes = time-code-written;
   sequence-header-stays = sequence-header-append;
   extension-stays = extension-append;
   picture-header-stays = picture-header-append;

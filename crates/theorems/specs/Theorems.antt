@@ -1,13 +1,13 @@
 -- Every theorem that is owed, in one record. The promises of the public functions stand beside their code in src/; these say what the definitions in them come to.
 -- Assumes nothing.
-use Rattle.headers.specs.RoundTrips.{WrittenReads, ReadWrites, ExtensionWrittenReads, ExtensionReadWrites, PlainWrittenReads, HeaderStays, ExtensionStays, HeaderCut, ExtensionCut, SequenceStays}
+use Rattle.headers.specs.RoundTrips.{WrittenReads, ReadWrites, ExtensionWrittenReads, ExtensionReadWrites, PlainWrittenReads, SequenceHeaderStays, ExtensionStays, SequenceHeaderCut, ExtensionCut, SequenceStays}
 use Rattle.headers.specs.Numbers.{HeaderNumbers}
-use Rattle.picture_header.specs.Stability.{HeaderStays as PictureHeaderStays, CodingStays, HeaderCut as PictureHeaderCut, CodingCut, PictureStays}
+use Rattle.picture_header.specs.Stability.{PictureHeaderStays, CodingStays, PictureHeaderCut, CodingCut, PictureStays}
 use Rattle.picture_header.specs.Numbers.{PictureNumbers}
 use Rattle.writers.specs.RoundTrips.{GroupWrittenReads, TimeCodeWrites}
-use Rattle.vbv.specs.Fractions.{Owed as InFractions}
+use Rattle.vbv.specs.Fractions.{FractionsOwed as InFractions}
 use Rattle.vbv.specs.Numbers.{ModelNumbers, ModelStays}
-use Rattle.scan.specs.Walk.{WalkGivesPictures, PicturesInOrder}
+use Rattle.scan.specs.Order.{WalkGivesPictures, PicturesInOrder}
 use Rattle.verify.specs.Accepted.{AcceptedExactly, NothingCut}
 use Rattle.verify.specs.Due.{CheckDue}
 use Rattle.verify.specs.Numbers.{CheckNumbers}
@@ -37,11 +37,11 @@ pub record Theorems : Type 0 where
   pub group-written-reads : GroupWrittenReads
   pub time-code-writes : TimeCodeWrites
   -- What is answered to a header stays the same when bytes follow, but where they ended in it (1); and what is too short with more after it is too short without.
-  pub sequence-header-stays : HeaderStays
+  pub sequence-header-stays : SequenceHeaderStays
   pub extension-stays : ExtensionStays
   pub picture-header-stays : PictureHeaderStays
   pub coding-stays : CodingStays
-  pub sequence-header-cut : HeaderCut
+  pub sequence-header-cut : SequenceHeaderCut
   pub extension-cut : ExtensionCut
   pub picture-header-cut : PictureHeaderCut
   pub coding-cut : CodingCut

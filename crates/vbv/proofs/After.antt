@@ -14,20 +14,20 @@ use Rattle.vbv.specs.Model.{delivered, modelFits, atDelivered, afterRemo
 use Rattle.vbv.specs.Steps.{EndFits}
 use Rattle.vbv.specs.Patch.{startsPicture, patched}
 use Rattle.vbv.proofs.Fitting.{model-fits, fitting-model, fitting-end, unit-pos}
-use Rattle.vbv.proofs.Laws.{over-units, fits-params, delivered-at, delivered-after, removed, removes}
-use Rattle.vbv.proofs.Told.{next-told}
+use Rattle.vbv.proofs.Laws.{over-units, fits-params, delivered-at, delivered-after, picture-removed, removes}
+use Rattle.vbv.proofs.Told.{next-delivered-is}
 use Rattle.vbv.proofs.Patching.{patched-length, patch-none}
 
-pub record After (m : VbvCbrModel) (end d : ℕ) (next : VbvCbrModel) : Type 0 where
+pub record ModelAfter (m : VbvCbrModel) (end d : ℕ) (next : VbvCbrModel) : Type 0 where
   pub params-kept : next .params ≡ m .params
   pub end-is : next .«prev_end_bits» ≡ end
   pub count-is : next .removed ≡ m .removed + 1
   pub is-started : next .started ≡ true
   pub delivered-is : delivered next ≡ d
 
-pub after : (m : VbvCbrModel) (end d : ℕ) → After m end d (afterRemoval m end d)
+pub model-after : (m : VbvCbrModel) (end d : ℕ) → ModelAfter m end d (afterRemoval m end d)
 unfolding afterRemoval
-after m end d = record { params-kept = refl; end-is = refl; count-is = refl; is-started = refl; delivered-is = delivered-after m end d }
+model-after m end d = record { params-kept = refl; end-is = refl; count-is = refl; is-started = refl; delivered-is = delivered-after m end d }
 
 -- it hangs on the parameters and the count alone
 pub after-same : (m n : VbvCbrModel) (end d : ℕ) → n .params ≡ m .params → n .removed ≡ m .removed → afterRemoval n end d ≡ afterRemoval m end d
@@ -53,8 +53,8 @@ module _ (m : VbvCbrModel) (f : modelFits m ≡ true) (d : ℕ) (o : overflows (
   after-fits end i g u =
       let n : VbvCbrModel = atDelivered m d in
       let e = delivered-at m d in
-      let r = removed n end i _ (removes n end i at-fits refl (fitting-end n end (record { end-far = g .end-far; end-low = g .end-low; count = g .count })) (rw e o) (rw e u)) in
-      rw (next-told n i, e) at (r .fits)
+      let r = picture-removed n end i _ (removes n end i at-fits refl (fitting-end n end (record { end-far = g .end-far; end-low = g .end-low; count = g .count })) (rw e o) (rw e u)) in
+      rw (next-delivered-is n i, e) at (r .fits)
 
 -- patching keeps the length
 pub patched-size : (s : List ℕ) (d : ℕ) → length (patched s d) ≡ length s

@@ -8,14 +8,13 @@ use native.Mathlib.Nat.{div-add-mod', zero-div, zero-mod}
 use lib.Dec.{eqb}
 use borrow.Author.Tests.{eqb-true, eqb-false, not-true, not-false}
 use Rattle.bits.specs.Refusals.{Answer, value, refused}
-use Rattle.bits.proofs.Flags.{pick-elim}
+use Rattle.bits.proofs.Flags.{pick-elim, was-held}
 use Rattle.vbv.specs.Annex.{unit}
 use Rattle.vbv.specs.Answers.{frameRate}
 use Rattle.vbv.specs.Model.{paramsFit, newModel, delivered, afterRemoval}
 use Rattle.vbv.specs.declared.VbvParams.{VbvParams}
 use Rattle.vbv.specs.declared.VbvCbrModel.{VbvCbrModel}
-use Rattle.vbv.proofs.Picks.{was-held}
-use Rattle.vbv.proofs.Laws.{refused-value}
+use Rattle.bits.proofs.Following.{refused-value}
 
 -- a model in its fields
 abbrev pub modelAt : VbvParams → ℕ → ℕ → ℕ → Bool → VbvCbrModel

@@ -11,30 +11,30 @@ use Rattle.bits.proofs.Reading.{same-self}
 use Rattle.vbv.specs.Annex.{unit, firstDelivered, gain, overflows, beyond, expectedDelay}
 use Rattle.vbv.specs.Model.{paramsInRange, ratioFits, paramsFit, delivered, modelFits, atDelivered, afterRemoval, nextDelivered, newModel, startModel, delayForPicture, endFits, removePicture}
 use Rattle.vbv.specs.Patch.{startsPicture}
-use Rattle.vbv.specs.Figures.{Figures}
-use Rattle.vbv.proofs.Patching.{starts-is, patched-bytes}
+use Rattle.vbv.specs.Figures.{ModelFigures}
+use Rattle.vbv.proofs.Patching.{starts-picture-is, patched-bytes}
 
 -- the header whose delay is patched
-abbrev header : List ℕ
-header = 0x00 ∷ 0x00 ∷ 0x01 ∷ 0x00 ∷ 0x00 ∷ 0x0F ∷ 0xFF ∷ 0xF8 ∷ []
+abbrev patchedHeader : List ℕ
+patchedHeader = 0x00 ∷ 0x00 ∷ 0x01 ∷ 0x00 ∷ 0x00 ∷ 0x0F ∷ 0xFF ∷ 0xF8 ∷ []
 
-header-bytes : (k : ℕ) → getD header k 0 < 256
-header-bytes zero = lit< tt
-header-bytes (suc zero) = lit< tt
-header-bytes (suc (suc zero)) = lit< tt
-header-bytes (suc (suc (suc zero))) = lit< tt
-header-bytes (suc (suc (suc (suc zero)))) = lit< tt
-header-bytes (suc (suc (suc (suc (suc zero))))) = lit< tt
-header-bytes (suc (suc (suc (suc (suc (suc zero)))))) = lit< tt
-header-bytes (suc (suc (suc (suc (suc (suc (suc zero))))))) = lit< tt
-header-bytes (suc (suc (suc (suc (suc (suc (suc (suc k)))))))) = lit< tt
+patched-header-bytes : (k : ℕ) → getD patchedHeader k 0 < 256
+patched-header-bytes zero = lit< tt
+patched-header-bytes (suc zero) = lit< tt
+patched-header-bytes (suc (suc zero)) = lit< tt
+patched-header-bytes (suc (suc (suc zero))) = lit< tt
+patched-header-bytes (suc (suc (suc (suc zero)))) = lit< tt
+patched-header-bytes (suc (suc (suc (suc (suc zero))))) = lit< tt
+patched-header-bytes (suc (suc (suc (suc (suc (suc zero)))))) = lit< tt
+patched-header-bytes (suc (suc (suc (suc (suc (suc (suc zero))))))) = lit< tt
+patched-header-bytes (suc (suc (suc (suc (suc (suc (suc (suc k)))))))) = lit< tt
 
-header-starts : startsPicture header ≡ true
-header-starts = sym (starts-is header (lit≤ tt)) ∙ same-self (startCode pictureStartCode)
+header-starts : startsPicture patchedHeader ≡ true
+header-starts = sym (starts-picture-is patchedHeader (lit≤ tt)) ∙ same-self (startCode pictureStartCode)
 
-pub figures : Figures
+pub model-figures : ModelFigures
 unfolding pick unit firstDelivered gain overflows beyond expectedDelay paramsInRange ratioFits paramsFit delivered modelFits atDelivered afterRemoval nextDelivered newModel startModel delayForPicture endFits removePicture
-figures = record {
+model-figures = record {
   end-246755 = refl;
   end-246756 = refl;
   delay-at-100032 = refl;
@@ -44,5 +44,5 @@ figures = record {
   rate-22800 = refl;
   half-up = refl;
   three-frames = refl;
-  delay-patched = patched-bytes header 22118 header-starts header-bytes (lit< tt);
+  delay-patched = patched-bytes patchedHeader 22118 header-starts patched-header-bytes (lit< tt);
 }

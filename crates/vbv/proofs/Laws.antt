@@ -3,13 +3,14 @@
 use mathlib.Core.Path.{_≡_, refl, ap, sym, _∙_}
 use mathlib.Core.Bool.{true, false}
 use mathlib.Core.Logic.{⊎-elim}
-use Prim.Native.Nat.{ℕ, _+_, _-_, _*_, _/_, _^_, _≤_, _<_}
+use Prim.Native.Nat.{ℕ, _+_, _-_, _*_, _/_, _≤_, _<_}
 use native.Mathlib.Omega.{arith}
 use native.Mathlib.Nat.{mod-lt, div-add-mod', mul-le-mul, le-of-mul-le-mul-right, div-lt-iff-lt-mul, le-div-iff-mul-le}
 use lib.Arith.{digits-div}
 use lib.Dec.{ltb}
 use borrow.Author.Tests.{ltb-true, ltb-false, le-ltb}
-use Rattle.bits.specs.Refusals.{value, refused}
+use Rattle.bits.specs.Refusals.{value}
+use Rattle.bits.proofs.Following.{refused-value}
 use Rattle.bits.proofs.Appending.{lt-or-le}
 use Rattle.vbv.specs.declared.RemovalInterval.{RemovalInterval}
 use Rattle.vbv.specs.declared.VbvParams.{VbvParams}
@@ -18,7 +19,7 @@ use Rattle.vbv.specs.Annex.{unit, firstDelivered, gain, overflows, beyon
 use Rattle.vbv.specs.Model.{farthest, mostDelivered, paramsFit, delivered, modelFits, atDelivered, afterRemoval, periods, nextDelivered, newModel, startModel, delayForPicture, endFits, removePicture, ofStarted, maxEndBits, minEndBits, occupancyBeforeRemoval}
 use Rattle.vbv.specs.Steps.{ModelFits, EndFits}
 use Rattle.vbv.proofs.Arith.{same-lt, below-floor, above-ceiling, ceiling-beyond, start-div, next-div, ticks-most, next-most}
-use Rattle.vbv.proofs.Picks.{no, held, was-no, was-held}
+use Rattle.bits.proofs.Flags.{no, held, was-no, was-held}
 use Rattle.vbv.proofs.Fitting.{params-fit, model-fits, end-fits, fitting-params, fitting-model, unit-pos, periods-most}
 
 -- the tests as orders of units, both ways
@@ -52,48 +53,26 @@ module _ (p : VbvParams) where
   unfolding firstDelivered
   first-in-time position delay = units-beyond position (firstDelivered p position delay) (omega arith)
 
-  -- what was all there stays so
-  pub later-under : (end d later : ℕ) → d ≤ later → beyond p end d ≡ false → beyond p end later ≡ false
-  later-under end d later h g = units-beyond end later (omega (arith, beyond-units end d g))
-
 -- the ends: a test of either kind is a comparison with the greatest or the least end
 module _ (p : VbvParams) (f : paramsFit p ≡ true) where
-  pub beyond-is : (end d : ℕ) → beyond p end d ≡ ltb (greatestEnd p d) end
+  pub beyond-greatest : (end d : ℕ) → beyond p end d ≡ ltb (greatestEnd p d) end
   unfolding beyond greatestEnd
-  beyond-is end d = below-floor d end (unit p) (unit-pos p f)
+  beyond-greatest end d = below-floor d end (unit p) (unit-pos p f)
 
-  pub overflow-is : (previous d : ℕ) → overflows p previous d ≡ ltb (previous + p .«buffer_size_bits») ((d + (unit p - 1)) / unit p)
+  pub overflow-ceiling : (previous d : ℕ) → overflows p previous d ≡ ltb (previous + p .«buffer_size_bits») ((d + (unit p - 1)) / unit p)
   unfolding overflows
-  overflow-is previous d = above-ceiling (previous + p .«buffer_size_bits») d (unit p) (unit-pos p f)
+  overflow-ceiling previous d = above-ceiling (previous + p .«buffer_size_bits») d (unit p) (unit-pos p f)
 
-  pub least-is : (d : ℕ) → leastEnd p d ≡ (d + (unit p - 1)) / unit p - p .«buffer_size_bits»
+  pub least-ceiling : (d : ℕ) → leastEnd p d ≡ (d + (unit p - 1)) / unit p - p .«buffer_size_bits»
   unfolding leastEnd
-  least-is d = ceiling-beyond d (p .«buffer_size_bits») (unit p) (unit-pos p f)
+  least-ceiling d = ceiling-beyond d (p .«buffer_size_bits») (unit p) (unit-pos p f)
 
   pub least-end : (end d : ℕ) → overflows p end d ≡ ltb end (leastEnd p d)
   least-end end d =
-      overflow-is end d
+      overflow-ceiling end d
       ∙ same-lt _ _ _ _
-      (λ (h : end + p .«buffer_size_bits» < (d + (unit p - 1)) / unit p). rw (least-is d) (omega arith))
-      (λ (h : end < leastEnd p d). let g = rw (least-is d) at (h) in omega arith)
-
-  -- the same for ends on a byte edge, counted in bytes
-  pub least-byte : (k d : ℕ) → overflows p (8 * k) d ≡ ltb k ((leastEnd p d + 7) / 8)
-  least-byte k d =
-      least-end (8 * k) d
-      ∙ same-lt _ _ _ _ (λ (h : 8 * k < leastEnd p d). omega arith) (λ (h : k < (leastEnd p d + 7) / 8). omega arith)
-
-  pub not-beyond : (end d : ℕ) → end ≤ greatestEnd p d → beyond p end d ≡ false
-  not-beyond end d h = beyond-is end d ∙ le-ltb _ _ h
-
-  pub not-over : (end d : ℕ) → leastEnd p d ≤ end → overflows p end d ≡ false
-  not-over end d h = least-end end d ∙ le-ltb _ _ h
-
-  -- a position is in time where a later end is
-  pub before-end : (position end d : ℕ) → position ≤ end → beyond p end d ≡ false → beyond p position d ≡ false
-  before-end position end d h g =
-      let l : end ≤ greatestEnd p d = ltb-false _ _ (sym (beyond-is end d) ∙ g) in
-      not-beyond position d (omega arith)
+      (λ (h : end + p .«buffer_size_bits» < (d + (unit p - 1)) / unit p). rw (least-ceiling d) (omega arith))
+      (λ (h : end < leastEnd p d). let g = rw (least-ceiling d) at (h) in omega arith)
 
   -- the buffer: at most full before a removal, and all of the picture is in it
   pub occupancy-most : (previous d : ℕ) → overflows p previous d ≡ false → occupancy p previous d ≤ p .«buffer_size_bits»
@@ -151,10 +130,6 @@ pub delivered-after : (m : VbvCbrModel) (end d : ℕ) → delivered (afterRemova
 unfolding delivered afterRemoval
 delivered-after m end d = div-add-mod' d (unit (m .params))
 
-pub next-is : (m : VbvCbrModel) (i : RemovalInterval) → nextDelivered m i ≡ delivered m + gain (m .params) (periods i)
-unfolding nextDelivered
-next-is m i = refl
-
 -- whole bits after a start and after an advance
 start-whole : (m : VbvCbrModel) (delay position : ℕ) → ModelFits m → delay < 65536 → position ≤ farthest
     → firstDelivered (m .params) position delay / unit (m .params) ≤ mostDelivered
@@ -199,10 +174,6 @@ removal-stays m end i v g o =
       removed-high = omega arith;
     }
 
--- no refusal is a value
-pub refused-value : {X : Type 0} {n p c e : ℕ} {x : X} → refused n p c e ≡ value x → ⊥
-refused-value h = let z : _≡_ {A = ℕ} 0 1 = cc in omega arith
-
 -- a model made of parameters
 pub record Made (p : VbvParams) (m : VbvCbrModel) : Type 0 where
   pub params-fit : paramsFit p ≡ true
@@ -212,9 +183,9 @@ pub record Made (p : VbvParams) (m : VbvCbrModel) : Type 0 where
   pub unstarted : m .started ≡ false
   pub fits : modelFits m ≡ true
 
-pub made : (p : VbvParams) (m : VbvCbrModel) → newModel p ≡ value m → Made p m
+pub model-made : (p : VbvParams) (m : VbvCbrModel) → newModel p ≡ value m → Made p m
 unfolding newModel
-made p m h =
+model-made p m h =
     let a = was-held (paramsFit p) _ _ refused-value h in
     let e : m ≡ record { params = p; whole = 0; rest = 0; «prev_end_bits» = 0; removed = 0; started = false } = cc (a .1) in
     rw e
@@ -265,38 +236,12 @@ started m delay position next h =
       fits = λ l. fitting-model _ (start-stays m delay position (model-fits (a .0)) l far);
     })
 
-pub starts : (m : VbvCbrModel) (delay position : ℕ) → modelFits m ≡ true → m .started ≡ false → position ≤ farthest
+pub model-starts : (m : VbvCbrModel) (delay position : ℕ) → modelFits m ≡ true → m .started ≡ false → position ≤ farthest
     → startModel m delay position ≡ value (atDelivered m (firstDelivered (m .params) position delay))
 unfolding startModel
-starts m delay position f s h = sym (held _ _ _ f (no _ _ _ s (no _ _ _ (le-ltb _ _ h) refl)))
+model-starts m delay position f s h = sym (held _ _ _ f (no _ _ _ s (no _ _ _ (le-ltb _ _ h) refl)))
 
 -- a delay told
-pub record Delayed (m : VbvCbrModel) (position r : ℕ) : Type 0 where
-  pub fitted : modelFits m ≡ true
-  pub was-started : m .started ≡ true
-  pub position-far : position ≤ farthest
-  pub in-time : beyond (m .params) position (delivered m) ≡ false
-  pub delay-is : r ≡ expectedDelay (m .params) position (delivered m)
-  pub delay-low : r ≤ 65534
-
-pub delayed : (m : VbvCbrModel) (position r : ℕ) → delayForPicture m position ≡ value r → Delayed m position r
-unfolding delayForPicture
-delayed m position r h =
-    let a = was-held (modelFits m) _ _ refused-value h in
-    let b = was-held (m .started) _ _ refused-value (a .1) in
-    let c = was-no _ _ _ refused-value (b .1) in
-    let d = was-no _ _ _ refused-value (c .1) in
-    let e = was-no _ _ _ refused-value (d .1) in
-    let same : r ≡ expectedDelay (m .params) position (delivered m) = cc (e .1) in
-    record {
-      fitted = a .0;
-      was-started = b .0;
-      position-far = ltb-false _ _ (c .0);
-      in-time = d .0;
-      delay-is = same;
-      delay-low = rw same (ltb-false _ _ (e .0));
-    }
-
 pub delays : (m : VbvCbrModel) (position : ℕ) → modelFits m ≡ true → m .started ≡ true → position ≤ farthest
     → beyond (m .params) position (delivered m) ≡ false → expectedDelay (m .params) position (delivered m) ≤ 65534
     → delayForPicture m position ≡ value (expectedDelay (m .params) position (delivered m))
@@ -319,10 +264,10 @@ pub record Removed (m : VbvCbrModel) (end : ℕ) (i : RemovalInterval) (next : V
   pub is-started : next .started ≡ true
   pub fits : modelFits next ≡ true
 
-pub removed : (m : VbvCbrModel) (end : ℕ) (i : RemovalInterval) (next : VbvCbrModel) → removePicture m end i ≡ value next
+pub picture-removed : (m : VbvCbrModel) (end : ℕ) (i : RemovalInterval) (next : VbvCbrModel) → removePicture m end i ≡ value next
     → Removed m end i next
 unfolding removePicture afterRemoval
-removed m end i next h =
+picture-removed m end i next h =
     let a = was-held (modelFits m) _ _ refused-value h in
     let b = was-held (m .started) _ _ refused-value (a .1) in
     let c = was-held (endFits m end) _ _ refused-value (b .1) in

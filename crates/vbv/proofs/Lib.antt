@@ -4,7 +4,6 @@ pub mod Figures
 pub mod Arith
 pub mod Numbers
 pub mod Numbering
-pub mod Picks
 pub mod Fitting
 pub mod Laws
 pub mod Patching

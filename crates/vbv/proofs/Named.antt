@@ -1,11 +1,12 @@
 -- What a model that fits and was started answers, by the names of the cases: for callers that match on them.
 -- Assumes nothing.
 use mathlib.Core.Path.{_≡_, refl}
-use mathlib.Core.Bool.{Bool, true, false}
-use Prim.Native.Nat.{ℕ, _^_, _≤_}
+use mathlib.Core.Bool.{true, false}
+use Prim.Native.Nat.{ℕ, _≤_}
 use lib.Dec.{ltb}
 use Rattle.bits.specs.Bits.{pick}
 use Rattle.bits.specs.Refusals.{value, refused}
+use Rattle.bits.proofs.Flags.{pick-in}
 use Rattle.vbv.specs.declared.RemovalInterval.{RemovalInterval}
 use Rattle.vbv.specs.declared.VbvParams.{VbvParams}
 use Rattle.vbv.specs.declared.VbvCbrModel.{VbvCbrModel}
@@ -17,18 +18,12 @@ use Rattle.vbv.specs.declared.VbvDelay.the-variants as dl
 use Rattle.vbv.specs.declared.VbvBits.the-variants as bt
 use Rattle.vbv.specs.Annex.{firstDelivered, overflows, beyond, expectedDelay, occupancy, greatestEnd, leastEnd}
 use Rattle.vbv.specs.Model.{farthest, paramsFit, delivered, modelFits, atDelivered, afterRemoval, nextDelivered, newModel, startModel, delayForPicture, removePicture, maxEndBits, minEndBits, occupancyBeforeRemoval}
-use Rattle.vbv.specs.Steps.{EndFits, errorOf, modelOf, delayOf, bitsOf, removalOf}
-use Rattle.vbv.proofs.Laws.{starts, delays, occupancy-told, max-end, min-end}
+use Rattle.vbv.specs.Steps.{EndFits, modelErrorOf, modelOf, delayOf, bitsOf, removalOf}
+use Rattle.vbv.proofs.Laws.{model-starts, delays, occupancy-told, max-end, min-end}
 use Rattle.vbv.proofs.Told.{unmade, makes, delay-told, removal-told}
 
--- what is made of an answer that a test chooses
-pub pick-in : {A B : Type 0} (f : A → B) (t : Bool) (x y : A) → f (pick t x y) ≡ pick t (f x) (f y)
-unfolding pick
-pick-in f true x y = refl
-pick-in f false x y = refl
-
 pub unmade-named : (p : VbvParams) → paramsFit p ≡ false → modelOf (newModel p) ≡ Refused Params
-unfolding modelOf errorOf pick
+unfolding modelOf modelErrorOf pick
 unmade-named p h = rw (unmade p h)
 
 pub makes-named : (p : VbvParams) → paramsFit p ≡ true
@@ -39,14 +34,14 @@ makes-named p h = rw (makes p h)
 pub starts-named : (m : VbvCbrModel) (delay position : ℕ) → modelFits m ≡ true → m .started ≡ false → position ≤ farthest
     → modelOf (startModel m delay position) ≡ Model (atDelivered m (firstDelivered (m .params) position delay))
 unfolding modelOf
-starts-named m delay position f s h = rw (starts m delay position f s h)
+starts-named m delay position f s h = rw (model-starts m delay position f s h)
 
 delay-7 : delayOf (refused 7 0 0 0) ≡ dl.Refused Early
-unfolding delayOf errorOf pick
+unfolding delayOf modelErrorOf pick
 delay-7 = refl
 
 delay-8 : delayOf (refused 8 0 0 0) ≡ dl.Refused DelayTooLong
-unfolding delayOf errorOf pick
+unfolding delayOf modelErrorOf pick
 delay-8 = refl
 
 delay-value : (t : ℕ) → delayOf (value t) ≡ dl.Delay t

@@ -12,7 +12,7 @@ use Rattle.vbv.specs.Model.{newModel, startModel, delayForPicture, remov
 use Rattle.bits.specs.Numbers.{Numbered, a-value, by-number, by-picture}
 use Rattle.vbv.specs.Patch.{patchPicture}
 use Rattle.vbv.specs.Numbers.{ModelNumbers, ModelStays}
-use Rattle.vbv.proofs.Laws.{made, started, removed}
+use Rattle.vbv.proofs.Laws.{model-made, started, picture-removed}
 
 rate-numbered : (c : ℕ) → Numbered (6 ∷ []) [] [] (frameRate c)
 unfolding frameRate
@@ -86,7 +86,7 @@ model-numbers = record {
 
 pub model-stays : ModelStays
 model-stays = record {
-  made = λ p m h. made p m h .fits;
+  made = λ p m h. model-made p m h .fits;
   begun = λ m next delay position l h. started m delay position next h .fits l;
-  went-on = λ m next end i h. removed m end i next h .fits;
+  went-on = λ m next end i h. picture-removed m end i next h .fits;
 }

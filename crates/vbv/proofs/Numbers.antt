@@ -4,8 +4,8 @@ use mathlib.Core.Path.{_≡_, refl, sym, ap, _∙_}
 use Prim.Native.Nat.{ℕ}
 use Rattle.bits.specs.Bits.{pick}
 use Rattle.bits.specs.Refusals.{Answer}
-use Rattle.vbv.specs.Answers.{errorNumber, modelAnswer, removalAnswer, delayAnswer, bitsAnswer, rateAnswer}
-use Rattle.vbv.specs.Steps.{errorOf, modelOf, delayOf, bitsOf, removalOf, rateOf}
+use Rattle.vbv.specs.Answers.{modelNumber, modelAnswer, removalAnswer, delayAnswer, modelBitsAnswer, rateAnswer}
+use Rattle.vbv.specs.Steps.{modelErrorOf, modelOf, delayOf, bitsOf, removalOf, frameRateOf}
 use Rattle.vbv.specs.declared.VbvCbrModel.{VbvCbrModel}
 use Rattle.vbv.specs.declared.VbvError.{VbvError}
 use Rattle.vbv.specs.declared.VbvError.the-variants.{FrameRateCode, Early, DelayTooLong, Params, Order, Range}
@@ -22,29 +22,29 @@ use Rattle.vbv.specs.declared.VbvDelay.the-variants as dl
 use Rattle.vbv.specs.declared.VbvBits.{VbvBits}
 use Rattle.vbv.specs.declared.VbvBits.the-variants as bt
 
-pub error-back : (e : VbvError) → errorOf (errorNumber e) ≡ e
-unfolding errorOf pick
-error-back FrameRateCode = refl
-error-back Early = refl
-error-back DelayTooLong = refl
-error-back Params = refl
-error-back Order = refl
-error-back Range = refl
+pub model-error-back : (e : VbvError) → modelErrorOf (modelNumber e) ≡ e
+unfolding modelErrorOf pick
+model-error-back FrameRateCode = refl
+model-error-back Early = refl
+model-error-back DelayTooLong = refl
+model-error-back Params = refl
+model-error-back Order = refl
+model-error-back Range = refl
 
 model-back : (r : VbvModel) → modelOf (modelAnswer r) ≡ r
 unfolding modelOf
 model-back (md.Model m) = refl
-model-back (md.Refused e) = ap md.Refused (error-back e)
+model-back (md.Refused e) = ap md.Refused (model-error-back e)
 
 delay-back : (r : VbvDelay) → delayOf (delayAnswer r) ≡ r
 unfolding delayOf
 delay-back (dl.Delay t) = refl
-delay-back (dl.Refused e) = ap dl.Refused (error-back e)
+delay-back (dl.Refused e) = ap dl.Refused (model-error-back e)
 
-bits-back : (r : VbvBits) → bitsOf (bitsAnswer r) ≡ r
+bits-back : (r : VbvBits) → bitsOf (modelBitsAnswer r) ≡ r
 unfolding bitsOf
 bits-back (bt.Bits b) = refl
-bits-back (bt.Refused e) = ap bt.Refused (error-back e)
+bits-back (bt.Refused e) = ap bt.Refused (model-error-back e)
 
 violation-back : (v : VbvViolation) → removalOf (removalAnswer (rm.Violation v)) ≡ rm.Violation v
 unfolding removalOf pick
@@ -53,7 +53,7 @@ violation-back (Underflow k c x) = refl
 violation-back (DelayMismatch k c x) = refl
 
 refusal-back : (e : VbvError) → removalOf (removalAnswer (rm.Refused e)) ≡ rm.Refused e
-unfolding removalOf errorOf pick
+unfolding removalOf modelErrorOf pick
 refusal-back FrameRateCode = refl
 refusal-back Early = refl
 refusal-back DelayTooLong = refl
@@ -67,10 +67,10 @@ removal-back (rm.Model m) = refl
 removal-back (rm.Refused e) = refusal-back e
 removal-back (rm.Violation v) = violation-back v
 
-rate-back : (r : FrameRate) → rateOf (rateAnswer r) ≡ r
-unfolding rateOf
+rate-back : (r : FrameRate) → frameRateOf (rateAnswer r) ≡ r
+unfolding frameRateOf
 rate-back (fr.Rate n d) = refl
-rate-back (fr.Refused e) = ap fr.Refused (error-back e)
+rate-back (fr.Refused e) = ap fr.Refused (model-error-back e)
 
 -- the case, by what is told of it: for a caller that matched on it
 pub model-case : {r x : VbvModel} {a : Answer VbvCbrModel} → r ≡ x → modelAnswer r ≡ a → modelOf a ≡ x
@@ -79,11 +79,8 @@ model-case {r} e h = ap modelOf (sym h) ∙ model-back r ∙ e
 pub delay-case : {r x : VbvDelay} {a : Answer ℕ} → r ≡ x → delayAnswer r ≡ a → delayOf a ≡ x
 delay-case {r} e h = ap delayOf (sym h) ∙ delay-back r ∙ e
 
-pub bits-case : {r x : VbvBits} {a : Answer ℕ} → r ≡ x → bitsAnswer r ≡ a → bitsOf a ≡ x
-bits-case {r} e h = ap bitsOf (sym h) ∙ bits-back r ∙ e
+pub model-bits-case : {r x : VbvBits} {a : Answer ℕ} → r ≡ x → modelBitsAnswer r ≡ a → bitsOf a ≡ x
+model-bits-case {r} e h = ap bitsOf (sym h) ∙ bits-back r ∙ e
 
 pub removal-case : {r x : VbvRemoval} {a : Answer VbvCbrModel} → r ≡ x → removalAnswer r ≡ a → removalOf a ≡ x
 removal-case {r} e h = ap removalOf (sym h) ∙ removal-back r ∙ e
-
-pub rate-case : {r x : FrameRate} {a : Answer (ℕ × ℕ)} → r ≡ x → rateAnswer r ≡ a → rateOf a ≡ x
-rate-case {r} e h = ap rateOf (sym h) ∙ rate-back r ∙ e

@@ -1,4 +1,4 @@
--- The patch of a picture header: the three bytes that it changes, and the bits before, in and behind the delay.
+-- The patch of a picture header: the three bytes that it changes, and the bits before, in and after the delay.
 -- Assumes nothing.
 use mathlib.Core.Path.{_≡_, refl, sym, _∙_}
 use mathlib.Core.Bool.{true, false}
@@ -11,35 +11,34 @@ use lib.Seq.{getD-set-other, take-set-le, drop-set-lt}
 use borrow.Author.Tests.{leb-true, le-leb, lt-leb}
 use Rattle.bits.specs.Bits.{bitsAt, digits, setBits}
 use Rattle.bits.specs.Fields.{sameBytes}
-use Rattle.bits.proofs.Flags.{and-left}
+use Rattle.bits.proofs.Flags.{and-left, yes, no, held, failed}
 use Rattle.bits.proofs.Laws.{bits-bound, bits-split, length-digits}
 use Rattle.bits.proofs.Appending.{Below, below-take, below-drop, digit-bound}
 use Rattle.bits.proofs.Patching.{byte-bits, set-length, set-below, set-before, set-behind, set-digits, set-within}
 use Rattle.bits.specs.Refusals.{value, refused}
 use Rattle.bits.specs.StartCodes.{startCode, pictureStartCode}
 use Rattle.vbv.specs.Patch.{startsPicture, patchPicture, patched}
-use Rattle.vbv.proofs.Picks.{yes, no, held, failed}
 
 -- the test of a picture header
 pub starts-short : (s : List ℕ) → length s < 8 → false ≡ startsPicture s
 unfolding startsPicture
 starts-short s h = rw (lt-leb _ _ h)
 
-pub starts-is : (s : List ℕ) → 8 ≤ length s → sameBytes (take 4 s) (startCode pictureStartCode) ≡ startsPicture s
+pub starts-picture-is : (s : List ℕ) → 8 ≤ length s → sameBytes (take 4 s) (startCode pictureStartCode) ≡ startsPicture s
 unfolding startsPicture
-starts-is s h = rw (le-leb _ _ h)
+starts-picture-is s h = rw (le-leb _ _ h)
 
-pub starts-long : (s : List ℕ) → startsPicture s ≡ true → 8 ≤ length s
+pub starts-picture-long : (s : List ℕ) → startsPicture s ≡ true → 8 ≤ length s
 unfolding startsPicture
-starts-long s h = leb-true _ _ (and-left _ _ h)
+starts-picture-long s h = leb-true _ _ (and-left _ _ h)
 
 -- a list of three by its elements
-three : (s : List ℕ) {x y z : ℕ} → length s ≡ 3 → getD s 0 0 ≡ x → getD s 1 0 ≡ y → getD s 2 0 ≡ z → s ≡ x ∷ y ∷ z ∷ []
-three [] e p q r = absurd (omega arith)
-three (a ∷ []) e p q r = absurd (omega arith)
-three (a ∷ b ∷ []) e p q r = absurd (omega arith)
-three (a ∷ b ∷ c ∷ []) e p q r = rw (p, q, r)
-three (a ∷ b ∷ c ∷ w ∷ s) e p q r = absurd (omega arith)
+three-bytes : (s : List ℕ) {x y z : ℕ} → length s ≡ 3 → getD s 0 0 ≡ x → getD s 1 0 ≡ y → getD s 2 0 ≡ z → s ≡ x ∷ y ∷ z ∷ []
+three-bytes [] e p q r = absurd (omega arith)
+three-bytes (a ∷ []) e p q r = absurd (omega arith)
+three-bytes (a ∷ b ∷ []) e p q r = absurd (omega arith)
+three-bytes (a ∷ b ∷ c ∷ []) e p q r = rw (p, q, r)
+three-bytes (a ∷ b ∷ c ∷ w ∷ s) e p q r = absurd (omega arith)
 
 -- the three bytes with the delay in bits 5 to 20 of them
 middle : (x y z d : ℕ) → x < 256 → z < 256 → d < 65536
@@ -55,7 +54,7 @@ middle x y z d h g l =
     omega (arith, set-digits m 5 16 d (omega arith), bits-split s 5 3 13, bits-split s 8 8 5) in
     let front : x ≡ bitsAt m 0 5 * 8 + bitsAt m 5 3 = omega (arith, byte-bits m 0 h, bits-split m 0 5 3) in
     let back : z ≡ bitsAt m 16 5 * 8 + bitsAt m 21 3 = omega (arith, byte-bits m 2 g, bits-split m 16 5 3) in
-    three s (set-length m 5 (digits 16 d) f)
+    three-bytes s (set-length m 5 (digits 16 d) f)
     (omega (arith, byte-bits s 0 (low 0), bits-split s 0 5 3, set-before m 5 (digits 16 d) f b 0 5 (omega arith), bits-bound m 5 3, bits-bound s 8 8, bits-bound s 16 5))
     (omega (arith, byte-bits s 1 (low 1), bits-bound s 8 8, bits-bound s 16 5))
     (omega (arith, byte-bits s 2 (low 2), bits-split s 16 5 3, set-behind m 5 (digits 16 d) f b 21 3 (omega arith), bits-bound m 21 3, bits-bound s 16 5))
@@ -91,7 +90,7 @@ module _ (s : List ℕ) (d : ℕ) where
   module _ (h : startsPicture s ≡ true) (b : Below 256 s) (l : d < 65536) where
     pub patched-bytes :
         patched s d ≡ set (set (set s 5 (getD s 5 0 / 8 * 8 + d / 8192)) 6 (d / 32 % 256)) 7 (d % 32 * 8 + getD s 7 0 % 8)
-    patched-bytes = patched-is h ∙ patch-stored s d (starts-long s h) b l
+    patched-bytes = patched-is h ∙ patch-stored s d (starts-picture-long s h) b l
 
     pub patch-done :
         (value tt ≡ patchPicture s)
@@ -118,7 +117,7 @@ module _ (s : List ℕ) (d : ℕ) where
 -- the patched header bit by bit
 module _ (s : List ℕ) (d : ℕ) (h : startsPicture s ≡ true) where
   room : 45 + length (digits 16 d) ≤ 8 * length s
-  room = omega (arith, length-digits 16 d, starts-long s h)
+  room = omega (arith, length-digits 16 d, starts-picture-long s h)
 
   pub patched-length : length (patched s d) ≡ length s
   patched-length = rw (patched-is s d h) (set-length s 45 (digits 16 d) room)
@@ -128,7 +127,7 @@ module _ (s : List ℕ) (d : ℕ) (h : startsPicture s ≡ true) where
 
   pub patched-delay : d < 65536 → bitsAt (patched s d) 45 16 ≡ d
   patched-delay l =
-      rw (patched-is s d h) (set-digits s 45 16 d (omega (arith, starts-long s h)) ∙ mod-eq-of-lt l)
+      rw (patched-is s d h) (set-digits s 45 16 d (omega (arith, starts-picture-long s h)) ∙ mod-eq-of-lt l)
 
   pub patched-before : (k n : ℕ) → k + n ≤ 45 → bitsAt (patched s d) k n ≡ bitsAt s k n
   patched-before k n l = rw (patched-is s d h) (set-before s 45 (digits 16 d) room (digit-bound 16 d) k n l)
@@ -136,11 +135,3 @@ module _ (s : List ℕ) (d : ℕ) (h : startsPicture s ≡ true) where
   pub patched-behind : (k n : ℕ) → 61 ≤ k → bitsAt (patched s d) k n ≡ bitsAt s k n
   patched-behind k n l =
       rw (patched-is s d h) (set-behind s 45 (digits 16 d) room (digit-bound 16 d) k n (omega (arith, length-digits 16 d)))
-
-  -- it still starts a picture
-  pub patched-starts : Below 256 s → d < 65536 → startsPicture (patched s d) ≡ true
-  unfolding startsPicture
-  patched-starts b l =
-      let e : take 4 (patched s d) ≡ take 4 s =
-      rw (patched-bytes s d h b l, take-set-le 4 _ 7 _ (omega arith), take-set-le 4 _ 6 _ (omega arith), take-set-le 4 s 5 _ (omega arith)) in
-      rw (patched-length, e) h

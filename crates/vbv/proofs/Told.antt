@@ -2,7 +2,7 @@
 -- Assumes nothing.
 use mathlib.Core.Path.{_≡_, refl, sym}
 use mathlib.Core.Bool.{true, false}
-use Prim.Native.Nat.{ℕ, _+_, _^_, _≤_}
+use Prim.Native.Nat.{ℕ, _+_, _≤_}
 use lib.Dec.{ltb}
 use borrow.Author.Tests.{le-ltb}
 use Rattle.bits.specs.Refusals.{value, refused, refuse, violate}
@@ -12,7 +12,7 @@ use Rattle.vbv.specs.declared.VbvCbrModel.{VbvCbrModel}
 use Rattle.vbv.specs.Annex.{gain, overflows, beyond, expectedDelay}
 use Rattle.vbv.specs.Model.{farthest, paramsFit, delivered, modelFits, afterRemoval, periods, nextDelivered, newModel, delayForPicture, removePicture}
 use Rattle.vbv.specs.Steps.{EndFits}
-use Rattle.vbv.proofs.Picks.{no, held, failed}
+use Rattle.bits.proofs.Flags.{no, held, failed}
 use Rattle.vbv.proofs.Fitting.{fitting-end}
 
 pub unmade : (p : VbvParams) → paramsFit p ≡ false → newModel p ≡ refused 12 0 0 0
@@ -25,9 +25,9 @@ unfolding newModel
 makes p h = sym (held _ _ _ h refl)
 
 -- so much more is delivered at the next removal as the interval brings
-pub next-told : (m : VbvCbrModel) (i : RemovalInterval) → nextDelivered m i ≡ delivered m + gain (m .params) (periods i)
+pub next-delivered-is : (m : VbvCbrModel) (i : RemovalInterval) → nextDelivered m i ≡ delivered m + gain (m .params) (periods i)
 unfolding nextDelivered
-next-told m i = refl
+next-delivered-is m i = refl
 
 module _ (m : VbvCbrModel) (f : modelFits m ≡ true) (s : m .started ≡ true) where
   pub delay-told : (position : ℕ) → position ≤ farthest

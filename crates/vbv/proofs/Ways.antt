@@ -14,9 +14,9 @@ use Rattle.vbv.specs.Annex.{unit, firstDelivered, gain, overflows, beyon
 use Rattle.vbv.specs.Steps.{ModelFits, EndFits}
 use Rattle.vbv.specs.Model.{farthest, delivered, modelFits, atDelivered, afterRemoval, periods, nextDelivered, delayForPicture, endFits, removePicture, ofStarted}
 use Rattle.vbv.proofs.Arith.{ceiling-whole, ceiling-more, above, floor-beyond, start-div, start-mod, next-div, next-mod, delay-split, delay-large}
-use Rattle.vbv.proofs.Picks.{yes, no, held, failed}
+use Rattle.bits.proofs.Flags.{yes, no, held, failed}
 use Rattle.vbv.proofs.Fitting.{model-fits, fitting-params, fitting-model, fitting-end, unit-pos, delivered-div}
-use Rattle.vbv.proofs.Laws.{beyond-is, overflow-is, least-is, fits-params, delivered-at, next-whole}
+use Rattle.vbv.proofs.Laws.{beyond-greatest, overflow-ceiling, least-ceiling, fits-params, delivered-at, next-whole}
 
 -- delivered, as whole bits and a remainder: at the start, and one interval on
 pub begun-is : (m : VbvCbrModel) (delay position : ℕ) → 1 ≤ m .params .frn
@@ -79,11 +79,11 @@ module _ (m : VbvCbrModel) (v : ModelFits m) where
   greatest-whole = delivered-div m fits
 
   beyond-test : (end : ℕ) → beyond (m .params) end (delivered m) ≡ ltb (m .whole) end
-  beyond-test end = beyond-is (m .params) (fits-params m fits) end (delivered m) ∙ rw greatest-whole
+  beyond-test end = beyond-greatest (m .params) (fits-params m fits) end (delivered m) ∙ rw greatest-whole
 
   over-test : (u : ℕ) → u ≡ (delivered m + (unit (m .params) - 1)) / unit (m .params)
       → overflows (m .params) (m .«prev_end_bits») (delivered m) ≡ ltb (m .«prev_end_bits» + m .params .«buffer_size_bits») u
-  over-test u e = overflow-is (m .params) (fits-params m fits) (m .«prev_end_bits») (delivered m) ∙ rw e
+  over-test u e = overflow-ceiling (m .params) (fits-params m fits) (m .«prev_end_bits») (delivered m) ∙ rw e
 
   -- the delay
   module _ (s : m .started ≡ true) (position : ℕ) (h : position ≤ farthest) where
@@ -210,7 +210,7 @@ module _ (m : VbvCbrModel) (f : modelFits m ≡ true) where
   least-at i x a u e =
       let k : u ≡ (nextDelivered m i + (unit (m .params) - 1)) / unit (m .params) =
       e ∙ rw (a, delivered-at m (nextDelivered m i)) in
-      rw k (sym (least-is (m .params) (fits-params m f) (nextDelivered m i)))
+      rw k (sym (least-ceiling (m .params) (fits-params m f) (nextDelivered m i)))
 
 -- the state one interval on can be rounded up
 pub next-fits : (m : VbvCbrModel) (i : RemovalInterval) → ModelFits m → (x : VbvCbrModel) → x ≡ atDelivered m (nextDelivered m i)

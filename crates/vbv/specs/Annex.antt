@@ -21,7 +21,7 @@ gain p periods = p .«bit_rate» * 90000 * p .frd * periods
 unfoldable pub overflows : VbvParams → ℕ → ℕ → Bool
 overflows p previous d = ltb ((previous + p .«buffer_size_bits») * unit p) d
 
--- C.6; 11172-2 C.1.4: `end` lies beyond the bits delivered, so the picture, or the start code, that ends there is not all there
+-- C.6; 11172-2 C.1.4: `end` lies beyond the bits delivered, so the picture, or the start code, that ends there is not already delivered
 unfoldable pub beyond : VbvParams → ℕ → ℕ → Bool
 beyond p end d = ltb d (end * unit p)
 
@@ -33,7 +33,7 @@ expectedDelay p position d = (d - position * unit p + p .frn * p .«bit_rate») 
 unfoldable pub occupancy : VbvParams → ℕ → ℕ → ℕ
 occupancy p previous d = (d - previous * unit p) / unit p
 
--- the greatest end that is all there, and the least after which a removal at d does not overflow
+-- the greatest end that is already delivered, and the least after which a removal at d does not overflow
 unfoldable pub greatestEnd : VbvParams → ℕ → ℕ
 greatestEnd p d = d / unit p
 

@@ -22,13 +22,13 @@ use Rattle.vbv.specs.declared.VbvBits.the-variants as bt
 use Rattle.vbv.specs.declared.VbvPatch.{VbvPatch}
 use Rattle.vbv.specs.declared.VbvPatch.the-variants as pt
 
-abbrev pub errorNumber : VbvError → ℕ
-errorNumber FrameRateCode = 6
-errorNumber Early = 7
-errorNumber DelayTooLong = 8
-errorNumber Params = 12
-errorNumber Order = 13
-errorNumber Range = 14
+abbrev pub modelNumber : VbvError → ℕ
+modelNumber FrameRateCode = 6
+modelNumber Early = 7
+modelNumber DelayTooLong = 8
+modelNumber Params = 12
+modelNumber Order = 13
+modelNumber Range = 14
 
 -- a violation's number, and the picture, coded and expected delay that it carries
 abbrev pub violationNumber : VbvViolation → ℕ
@@ -52,28 +52,28 @@ violationExpected (Underflow n c e) = e
 violationExpected (DelayMismatch n c e) = e
 
 -- each answer by its number and values
-abbrev pub refusal : {X : Type 0} → VbvError → Answer X
-refusal e = refused (errorNumber e) 0 0 0
+abbrev pub modelRefusal : {X : Type 0} → VbvError → Answer X
+modelRefusal e = refused (modelNumber e) 0 0 0
 
 abbrev pub violation : {X : Type 0} → VbvViolation → Answer X
 violation v = refused (violationNumber v) (violationPicture v) (violationCoded v) (violationExpected v)
 
 abbrev pub modelAnswer : VbvModel → Answer VbvCbrModel
 modelAnswer (md.Model m) = value m
-modelAnswer (md.Refused e) = refusal e
+modelAnswer (md.Refused e) = modelRefusal e
 
 abbrev pub removalAnswer : VbvRemoval → Answer VbvCbrModel
 removalAnswer (rm.Model m) = value m
-removalAnswer (rm.Refused e) = refusal e
+removalAnswer (rm.Refused e) = modelRefusal e
 removalAnswer (rm.Violation v) = violation v
 
 abbrev pub delayAnswer : VbvDelay → Answer ℕ
 delayAnswer (dl.Delay t) = value t
-delayAnswer (dl.Refused e) = refusal e
+delayAnswer (dl.Refused e) = modelRefusal e
 
-abbrev pub bitsAnswer : VbvBits → Answer ℕ
-bitsAnswer (bt.Bits b) = value b
-bitsAnswer (bt.Refused e) = refusal e
+abbrev pub modelBitsAnswer : VbvBits → Answer ℕ
+modelBitsAnswer (bt.Bits b) = value b
+modelBitsAnswer (bt.Refused e) = modelRefusal e
 
 abbrev pub patchAnswer : VbvPatch → Answer (Unit {0})
 patchAnswer pt.Done = value tt
@@ -81,7 +81,7 @@ patchAnswer pt.NotAPicture = refused 20 0 0 0
 
 abbrev pub rateAnswer : FrameRate → Answer (ℕ × ℕ)
 rateAnswer (Rate n d) = value (n, d)
-rateAnswer (Refused e) = refusal e
+rateAnswer (Refused e) = modelRefusal e
 
 -- Table 6-4; 11172-2 2.4.3.2
 unfoldable pub frameRate : ℕ → Answer (ℕ × ℕ)

@@ -23,10 +23,10 @@ pub record Fractions (p : VbvParams) : Type 0 where
   -- more is in the buffer than it holds; `end` has not come
   pub overflow-is : (previous d : ℕ) → (overflows p previous d ≡ true) ↔ ((previous + p .«buffer_size_bits») * unit p < d)
   pub beyond-is : (end d : ℕ) → (beyond p end d ≡ true) ↔ (d < end * unit p)
-  -- behind `end` the buffer takes what d brings exactly from the least end on; what ends at `end` is all there exactly up to the greatest end
+  -- after `end` the buffer takes what d brings exactly from the least end on; what ends at `end` is already delivered exactly up to the greatest end
   pub least-is : (end d : ℕ) → (leastEnd p d ≤ end) ↔ (d ≤ (end + p .«buffer_size_bits») * unit p)
   pub greatest-is : (end d : ℕ) → (end ≤ greatestEnd p d) ↔ (end * unit p ≤ d)
 
 -- what is owed: for a rate and an frn of at least 1
-abbrev pub Owed : Type 0
-Owed = (p : VbvParams) → 1 ≤ p .«bit_rate» → 1 ≤ p .frn → Fractions p
+abbrev pub FractionsOwed : Type 0
+FractionsOwed = (p : VbvParams) → 1 ≤ p .«bit_rate» → 1 ≤ p .frn → Fractions p

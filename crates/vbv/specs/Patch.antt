@@ -1,4 +1,4 @@
--- The 16 bits of vbv_delay in a picture header (ISO/IEC 13818-2 6.2.3, 6.3.9): behind 32 bits of start code, 10 of temporal_reference and 3 of picture_coding_type.
+-- The 16 bits of vbv_delay in a picture header (ISO/IEC 13818-2 6.2.3, 6.3.9): after 32 bits of start code, 10 of temporal_reference and 3 of picture_coding_type.
 -- Assumes nothing.
 use Prim.Native.Nat.{ℕ}
 use mathlib.Core.List.{List}

@@ -1,6 +1,6 @@
 -- The promises of private functions: what fitting means, as bounds; and each answer enum by the numbers and values that it tells.
 -- Assumes nothing.
-use Prim.Native.Nat.{ℕ, _*_, _^_, _≤_, _<_}
+use Prim.Native.Nat.{ℕ, _*_, _≤_, _<_}
 use lib.Dec.{eqb}
 use Rattle.bits.specs.Bits.{pick}
 use Rattle.bits.specs.Refusals.{Answer, value, refused}
@@ -45,8 +45,8 @@ pub record EndFits (m : VbvCbrModel) (end : ℕ) : Type 0 where
   pub count : m .removed < farthest
 
 -- back from a number: proofs/Numbers.antt says that no two cases tell the same
-unfoldable pub errorOf : ℕ → VbvError
-errorOf n =
+unfoldable pub modelErrorOf : ℕ → VbvError
+modelErrorOf n =
     pick (eqb n 6) FrameRateCode
     (pick (eqb n 7) Early
     (pick (eqb n 8) DelayTooLong
@@ -56,15 +56,15 @@ errorOf n =
 
 unfoldable pub modelOf : Answer VbvCbrModel → VbvModel
 modelOf (value m) = md.Model m
-modelOf (refused n k c e) = md.Refused (errorOf n)
+modelOf (refused n k c e) = md.Refused (modelErrorOf n)
 
 unfoldable pub delayOf : Answer ℕ → VbvDelay
 delayOf (value t) = dl.Delay t
-delayOf (refused n k c e) = dl.Refused (errorOf n)
+delayOf (refused n k c e) = dl.Refused (modelErrorOf n)
 
 unfoldable pub bitsOf : Answer ℕ → VbvBits
 bitsOf (value b) = bt.Bits b
-bitsOf (refused n k c e) = bt.Refused (errorOf n)
+bitsOf (refused n k c e) = bt.Refused (modelErrorOf n)
 
 unfoldable pub removalOf : Answer VbvCbrModel → VbvRemoval
 removalOf (value m) = rm.Model m
@@ -72,8 +72,8 @@ removalOf (refused n k c e) =
     pick (eqb n 9) (rm.Violation (Overflow k c e))
     (pick (eqb n 10) (rm.Violation (Underflow k c e))
     (pick (eqb n 11) (rm.Violation (DelayMismatch k c e))
-    (rm.Refused (errorOf n))))
+    (rm.Refused (modelErrorOf n))))
 
-unfoldable pub rateOf : Answer (ℕ × ℕ) → FrameRate
-rateOf (value f) = fr.Rate (f .0) (f .1)
-rateOf (refused n k c e) = fr.Refused (errorOf n)
+unfoldable pub frameRateOf : Answer (ℕ × ℕ) → FrameRate
+frameRateOf (value f) = fr.Rate (f .0) (f .1)
+frameRateOf (refused n k c e) = fr.Refused (modelErrorOf n)

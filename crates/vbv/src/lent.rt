@@ -1,7 +1,8 @@
 // The model by reference: start and removal of a lent model, thin above the model by value.
 ghost use mathlib.Core.Path.{_≡_};
 ghost use Rattle.vbv.specs.Model.{startModel, removePicture};
-ghost use Rattle.vbv.specs.Lent.{stepAnswer, done, modelAfter};
+ghost use Rattle.bits.specs.Refusals.{orElse};
+ghost use Rattle.vbv.specs.Lent.{stepAnswer, doneAnswer};
 use crate::RemovalInterval;
 use crate::VbvCbrModel;
 use crate::VbvError;
@@ -16,7 +17,7 @@ pub enum VbvStep {
     Violation(VbvViolation),
 }
 
-// The model behind a call, and the call's answer.
+// The model after a call, and the call's answer.
 pub struct VbvStepped {
     pub model: VbvCbrModel,
     pub answer: VbvStep,
@@ -25,7 +26,7 @@ pub struct VbvStepped {
 impl VbvCbrModel {
     // A refused start leaves the model as it was.
     pub fn start_step(self, initial_vbv_delay: u16, pos0_bits: u64) -> VbvStepped
-        ensures { λ r. ⌜ (stepAnswer (r .answer) ≡ done (startModel self «initial_vbv_delay» «pos0_bits»)) × (r .model ≡ modelAfter self (startModel self «initial_vbv_delay» «pos0_bits»)) ⌝ }
+        ensures { λ r. ⌜ (stepAnswer (r .answer) ≡ doneAnswer (startModel self «initial_vbv_delay» «pos0_bits»)) × (r .model ≡ orElse self (startModel self «initial_vbv_delay» «pos0_bits»)) ⌝ }
     {
         match self.start(initial_vbv_delay, pos0_bits) {
             VbvModel::Model(started) => VbvStepped {
@@ -41,7 +42,7 @@ impl VbvCbrModel {
 
     // A refused removal leaves the model as it was.
     pub fn remove_step(self, end_bits: u64, interval: RemovalInterval) -> VbvStepped
-        ensures { λ r. ⌜ (stepAnswer (r .answer) ≡ done (removePicture self «end_bits» interval)) × (r .model ≡ modelAfter self (removePicture self «end_bits» interval)) ⌝ }
+        ensures { λ r. ⌜ (stepAnswer (r .answer) ≡ doneAnswer (removePicture self «end_bits» interval)) × (r .model ≡ orElse self (removePicture self «end_bits» interval)) ⌝ }
     {
         match self.remove_picture(end_bits, interval) {
             VbvRemoval::Model(next) => VbvStepped {
@@ -61,7 +62,7 @@ impl VbvCbrModel {
 
     // Starts the lent model.
     pub fn start_in_place(&mut self, initial_vbv_delay: u16, pos0_bits: u64) -> VbvStep
-        ensures { λ r. ⌜ (stepAnswer r ≡ done (startModel (now (self .entry)) «initial_vbv_delay» «pos0_bits»)) × (now (self .exit) ≡ modelAfter (now (self .entry)) (startModel (now (self .entry)) «initial_vbv_delay» «pos0_bits»)) ⌝ }
+        ensures { λ r. ⌜ (stepAnswer r ≡ doneAnswer (startModel (now (self .entry)) «initial_vbv_delay» «pos0_bits»)) × (now (self .exit) ≡ orElse (now (self .entry)) (startModel (now (self .entry)) «initial_vbv_delay» «pos0_bits»)) ⌝ }
     {
         let old = *self;
         let stepped = old.start_step(initial_vbv_delay, pos0_bits);
@@ -71,7 +72,7 @@ impl VbvCbrModel {
 
     // Removes the lent model's pending picture, whose data ends at end.
     pub fn remove_in_place(&mut self, end_bits: u64, interval: RemovalInterval) -> VbvStep
-        ensures { λ r. ⌜ (stepAnswer r ≡ done (removePicture (now (self .entry)) «end_bits» interval)) × (now (self .exit) ≡ modelAfter (now (self .entry)) (removePicture (now (self .entry)) «end_bits» interval)) ⌝ }
+        ensures { λ r. ⌜ (stepAnswer r ≡ doneAnswer (removePicture (now (self .entry)) «end_bits» interval)) × (now (self .exit) ≡ orElse (now (self .entry)) (removePicture (now (self .entry)) «end_bits» interval)) ⌝ }
     {
         let old = *self;
         let stepped = old.remove_step(end_bits, interval);

@@ -3,7 +3,7 @@ ghost use mathlib.Core.Path.{_≡_};
 ghost use mathlib.Core.Bool.{true};
 ghost use Prim.Native.Nat.{_+_, _-_, _/_, _^_, _≤_, _<_};
 ghost use Rattle.vbv.specs.Annex.{unit, firstDelivered};
-ghost use Rattle.vbv.specs.Answers.{errorNumber, modelAnswer, removalAnswer, delayAnswer, bitsAnswer, patchAnswer, rateAnswer, frameRate};
+ghost use Rattle.vbv.specs.Answers.{modelNumber, modelAnswer, removalAnswer, delayAnswer, modelBitsAnswer, patchAnswer, rateAnswer, frameRate};
 ghost use Rattle.vbv.specs.Steps.{ModelFits, EndFits};
 ghost use Rattle.vbv.specs.Params.{paramsOf};
 ghost use Rattle.vbv.specs.Model.{farthest, paramsInRange, paramsFit, delivered, modelFits, atDelivered, periods, nextDelivered, newModel, startModel, delayForPicture, removePicture, maxEndBits, minEndBits, occupancyBeforeRemoval};
@@ -108,7 +108,7 @@ pub enum VbvPatch {
 impl VbvError {
     // The refusal's number (docs/REFUSALS.md).
     pub fn number(self) -> u8
-        ensures { λ r. ⌜ r ≡ errorNumber self ⌝ }
+        ensures { λ r. ⌜ r ≡ modelNumber self ⌝ }
     {
         match self {
             VbvError::FrameRateCode => 6,
@@ -395,7 +395,7 @@ impl VbvCbrModel {
 
     // The greatest end that does not underflow at the pending removal.
     pub fn max_end_bits(self) -> VbvBits
-        ensures { λ r. ⌜ bitsAnswer r ≡ maxEndBits self ⌝ }
+        ensures { λ r. ⌜ modelBitsAnswer r ≡ maxEndBits self ⌝ }
     {
         if self.fits() {
             if self.started {
@@ -410,7 +410,7 @@ impl VbvCbrModel {
 
     // The least end that does not overflow at the removal after the pending one.
     pub fn min_end_bits(self, interval: RemovalInterval) -> VbvBits
-        ensures { λ r. ⌜ bitsAnswer r ≡ minEndBits self interval ⌝ }
+        ensures { λ r. ⌜ modelBitsAnswer r ≡ minEndBits self interval ⌝ }
     {
         if self.fits() {
             if self.started {
@@ -427,7 +427,7 @@ impl VbvCbrModel {
 
     // Whole bits in the buffer just before the pending removal.
     pub fn occupancy_before_removal_bits(self) -> VbvBits
-        ensures { λ r. ⌜ bitsAnswer r ≡ occupancyBeforeRemoval self ⌝ }
+        ensures { λ r. ⌜ modelBitsAnswer r ≡ occupancyBeforeRemoval self ⌝ }
     {
         if self.fits() {
             if self.started {

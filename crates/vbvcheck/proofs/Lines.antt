@@ -7,7 +7,7 @@ use native.Mathlib.Omega.{arith}
 use lib.ListN.{length, take, drop}
 use lib.Seq.{drop-drop, drop-at}
 use Rattle.words.specs.Words.{wordsBytes, wordAt}
-use Rattle.words.proofs.Bytes.{AllSmall as EachSmall, none as no-word, some as word, length-words, word-put}
+use Rattle.words.proofs.Bytes.{AllWords, none as no-word, some as word, length-words, word-put}
 use Rattle.verify.specs.Layout.{recordSize, recordsBytes}
 use Rattle.verify.specs.declared.VbvPictureRecord.{VbvPictureRecord}
 use Rattle.verify.proofs.Storing.{records-more}
@@ -40,7 +40,7 @@ lines-are [] rest none = refl
 lines-are (r ∷ rs) rest (some q t) =
     let ws = r .«vbv_delay» ∷ r .«expected_delay» ∷ r .«data_bits» ∷ r .«occupancy_before_bits» ∷ [] in
     let more = recordsBytes rs ++ rest in
-    let small : EachSmall ws
+    let small : AllWords ws
     = word {v = r .«vbv_delay»} (omega (arith, q .coded-small))
     (word {v = r .«expected_delay»} (omega (arith, q .expected-small))
     (word {v = r .«data_bits»} (omega (arith, q .data-small))

@@ -13,8 +13,9 @@ use Rattle.bits.specs.Refusals.{Answer, value, refused, andThen}
 use Rattle.vbv.specs.Annex.{unit, firstDelivered, gain}
 use Rattle.vbv.specs.Model.{paramsFit, periods}
 use Rattle.vbv.specs.declared.VbvParams.{VbvParams}
-use Rattle.vbv.proofs.Picks.{was-no, was-held}
-use Rattle.vbv.proofs.Laws.{refused-value, units-beyond, occupancy-least}
+use Rattle.bits.proofs.Flags.{was-no, was-held}
+use Rattle.bits.proofs.Following.{refused-value}
+use Rattle.vbv.proofs.Laws.{units-beyond, occupancy-least}
 use Rattle.pictures.specs.Front.{Front, front}
 use Rattle.pictures.specs.Due as fr
 use Rattle.pictures.specs.Due.{Read, FrontDue}

@@ -10,7 +10,8 @@ use Rattle.bits.specs.Refusals.{Answer, value, refused}
 use Rattle.vbv.specs.Model.{paramsFit}
 use Rattle.vbv.specs.declared.VbvParams.{VbvParams}
 use Rattle.vbv.proofs.Fitting.{params-fit}
-use Rattle.vbv.proofs.Laws.{refused-value, occupancy-most, units-over}
+use Rattle.bits.proofs.Following.{refused-value}
+use Rattle.vbv.proofs.Laws.{occupancy-most, units-over}
 use Rattle.verify.specs.declared.CodedPicture.{CodedPicture}
 use Rattle.verify.specs.declared.VbvPictureRecord.{VbvPictureRecord}
 use Rattle.verify.specs.declared.VbvStreamReport.{VbvStreamReport}

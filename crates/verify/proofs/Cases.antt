@@ -5,8 +5,8 @@ use lib.Dec.{eqb}
 use Rattle.bits.specs.Bits.{pick}
 use Rattle.headers.specs.declared.Error.{Error}
 use Rattle.headers.specs.declared.Error.the-variants as h
-use Rattle.vbv.specs.Steps.{errorOf}
-use Rattle.vbv.proofs.Numbers.{error-back}
+use Rattle.vbv.specs.Steps.{modelErrorOf}
+use Rattle.vbv.proofs.Numbers.{model-error-back}
 use Rattle.vbv.specs.declared.VbvError.{VbvError}
 use Rattle.vbv.specs.declared.VbvError.the-variants as m
 use Rattle.vbv.specs.declared.VbvViolation.{VbvViolation}
@@ -30,7 +30,7 @@ caseOf r =
     (pick (eqb (r .number) 15) RecordPlaces
     (pick (eqb (r .number) 16) (Parse h.FieldToWrite)
     (pick (eqb (r .number) 19) (Parse h.ShortOutput)
-    (Model (errorOf (r .number)))))))))))))
+    (Model (modelErrorOf (r .number)))))))))))))
 
 parse-back : (e : Error) → caseOf (refusalOf (Parse e)) ≡ Parse e
 unfolding caseOf pick
@@ -41,12 +41,12 @@ parse-back h.ShortOutput = refl
 
 model-back : (e : VbvError) → caseOf (refusalOf (Model e)) ≡ Model e
 unfolding caseOf pick
-model-back m.FrameRateCode = ap Model (error-back m.FrameRateCode)
-model-back m.Early = ap Model (error-back m.Early)
-model-back m.DelayTooLong = ap Model (error-back m.DelayTooLong)
-model-back m.Params = ap Model (error-back m.Params)
-model-back m.Order = ap Model (error-back m.Order)
-model-back m.Range = ap Model (error-back m.Range)
+model-back m.FrameRateCode = ap Model (model-error-back m.FrameRateCode)
+model-back m.Early = ap Model (model-error-back m.Early)
+model-back m.DelayTooLong = ap Model (model-error-back m.DelayTooLong)
+model-back m.Params = ap Model (model-error-back m.Params)
+model-back m.Order = ap Model (model-error-back m.Order)
+model-back m.Range = ap Model (model-error-back m.Range)
 
 violation-back : (v : VbvViolation) → caseOf (refusalOf (Violation v)) ≡ Violation v
 unfolding caseOf pick

@@ -6,11 +6,11 @@ use Prim.Native.Nat.{ℕ, _+_, _≤_}
 use lib.Dec.{ltb}
 use borrow.Author.Tests.{ltb-false, le-ltb}
 use Rattle.bits.specs.Refusals.{value}
-use Rattle.bits.proofs.Flags.{or-left, or-right}
+use Rattle.bits.proofs.Flags.{or-left, or-right, no, was-no}
 use Rattle.vbv.specs.Annex.{expectedDelay}
 use Rattle.vbv.specs.declared.VbvParams.{VbvParams}
-use Rattle.vbv.proofs.Picks.{no, was-no}
-use Rattle.vbv.proofs.Laws.{refused-value, over-units, units-over, beyond-units, units-beyond}
+use Rattle.bits.proofs.Following.{refused-value}
+use Rattle.vbv.proofs.Laws.{over-units, units-over, beyond-units, units-beyond}
 use Rattle.verify.specs.declared.CodedPicture.{CodedPicture}
 use Rattle.verify.specs.declared.VbvPictureRecord.{VbvPictureRecord}
 use Rattle.verify.specs.Run.{apart, removal}

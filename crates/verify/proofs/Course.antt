@@ -13,8 +13,8 @@ use Rattle.vbv.specs.Steps.{EndFits}
 use Rattle.vbv.specs.declared.VbvParams.{VbvParams}
 use Rattle.vbv.specs.declared.VbvCbrModel.{VbvCbrModel}
 use Rattle.vbv.proofs.Fitting.{fitting-end}
-use Rattle.vbv.proofs.Laws.{fits-params, occupancy-most, units-over, units-beyond, Removed as WasRemoved, removed as was-removed, removes}
-use Rattle.vbv.proofs.Told.{next-told}
+use Rattle.vbv.proofs.Laws.{fits-params, occupancy-most, units-over, units-beyond, Removed as WasRemoved, picture-removed as was-removed, removes}
+use Rattle.vbv.proofs.Told.{next-delivered-is}
 use Rattle.verify.specs.declared.CodedPicture.{CodedPicture}
 use Rattle.verify.specs.declared.VbvPictureRecord.{VbvPictureRecord}
 use Rattle.verify.specs.declared.Removed.the-variants.{Recorded}
@@ -91,7 +91,7 @@ course {p} {m} y x (next {previous} {c} {cs} q t) =
         let w = step y c q h in
         let z : Ready p k
         = record { fits = w .fits; on = w .is-started; kept = w .params-kept ∙ y .kept; few = rw (w .count-is, w .end-is) (omega (arith, q .grows, y .few)) } in
-        let d : delivered k ≡ delivered m + gain p (periods (c .interval)) = w .delivered-is ∙ next-told m (c .interval) ∙ rw (y .kept) in
+        let d : delivered k ≡ delivered m + gain p (periods (c .interval)) = w .delivered-is ∙ next-delivered-is m (c .interval) ∙ rw (y .kept) in
         let e : run p (k .removed) (k .«prev_end_bits») (delivered k) cs
         ≡ run p (suc (m .removed)) (c .«end_bits») (delivered m + gain p (periods (c .interval))) cs = cc (add-one (m .removed)) in
         goes (run p (suc (m .removed)) (c .«end_bits») (delivered m + gain p (periods (c .interval))) cs)

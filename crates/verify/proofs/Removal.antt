@@ -8,7 +8,8 @@ use Rattle.bits.specs.Refusals.{Answer, value, refused, andThen}
 use Rattle.vbv.specs.Model.{delivered, modelFits, afterRemoval, nextDelivered, farthest}
 use Rattle.vbv.specs.Steps.{EndFits}
 use Rattle.vbv.specs.declared.VbvCbrModel.{VbvCbrModel}
-use Rattle.vbv.proofs.Named.{pick-in, delay-named, removal-named, occupancy-named}
+use Rattle.bits.proofs.Flags.{pick-in}
+use Rattle.vbv.proofs.Named.{delay-named, removal-named, occupancy-named}
 use Rattle.verify.specs.declared.CodedPicture.{CodedPicture}
 use Rattle.verify.specs.Answers.{refusal, refusalOf}
 use Rattle.verify.specs.declared.VbvPictureRecord.{VbvPictureRecord}

@@ -18,7 +18,7 @@ use Rattle.vbv.specs.Model.{paramsFit, delivered, atDelivered}
 use Rattle.vbv.specs.declared.VbvParams.{VbvParams}
 use Rattle.vbv.specs.declared.VbvCbrModel.{VbvCbrModel}
 use Rattle.vbv.specs.declared.VbvError.the-variants.{Params as ParamsError, Range}
-use Rattle.vbv.proofs.Laws.{made, started, starts}
+use Rattle.vbv.proofs.Laws.{model-made, started, model-starts}
 use Rattle.vbv.proofs.Told.{makes}
 use Rattle.vbv.proofs.Named.{makes-named, unmade-named, starts-named}
 use Rattle.verify.specs.declared.VbvPictureRecord.{VbvPictureRecord}
@@ -156,8 +156,8 @@ begins : (p : VbvParams) (c : CodedPicture) → eqb (c .«vbv_delay») 0xFFFF �
 unfolding firstRemoved firstMade firstStarted pick
 begins p c v f q =
     let m : VbvCbrModel = record { params = p; whole = 0; rest = 0; «prev_end_bits» = 0; removed = 0; started = false } in
-    let a = made p m (makes p f) in
-    let e = starts m (c .«vbv_delay») (c .«pos_bits») (a .fits) (a .unstarted) (q .position-far) in
+    let a = model-made p m (makes p f) in
+    let e = model-starts m (c .«vbv_delay») (c .«pos_bits») (a .fits) (a .unstarted) (q .position-far) in
     let b = started m (c .«vbv_delay») (c .«pos_bits») _ e in
     record {
       model = atDelivered m (firstDelivered p (c .«pos_bits») (c .«vbv_delay»));

@@ -3,7 +3,7 @@
 use Prim.Native.Nat.{ℕ}
 use Rattle.bits.specs.Refusals.{Answer, value, refused, plain}
 use Rattle.headers.specs.Answers.{errorNumber}
-use Rattle.vbv.specs.Answers.{errorNumber as modelNumber, violationNumber, violationPicture, violationCoded, violationExpected}
+use Rattle.vbv.specs.Answers.{modelNumber, violationNumber, violationPicture, violationCoded, violationExpected}
 use Rattle.verify.specs.declared.VbvVerifyError.{VbvVerifyError}
 use Rattle.verify.specs.declared.VbvVerifyError.the-variants.{Parse, Model, NoSequenceHeader, NoPictures, VariableRate, RecordPlaces, Violation}
 use Rattle.bits.specs.declared.VbvRefusal.{VbvRefusal}

@@ -35,15 +35,15 @@ low-from (b ∷ bs) h =
 -- ---- words
 
 -- each has 64 bits at most
-pub data AllSmall : List ℕ → Type 0 where
-  none : AllSmall []
-  some : {v : ℕ} {vs : List ℕ} → v < 2 ^ 64 → AllSmall vs → AllSmall (v ∷ vs)
+pub data AllWords : List ℕ → Type 0 where
+  none : AllWords []
+  some : {v : ℕ} {vs : List ℕ} → v < 2 ^ 64 → AllWords vs → AllWords (v ∷ vs)
 
-pub each-small : (vs : List ℕ) → ((k : ℕ) → k < length vs → getD vs k 0 < 2 ^ 64) → AllSmall vs
+pub each-small : (vs : List ℕ) → ((k : ℕ) → k < length vs → getD vs k 0 < 2 ^ 64) → AllWords vs
 each-small [] h = none
 each-small (v ∷ vs) h = some (h 0 (omega arith)) (each-small vs (λ k g. h (suc k) (omega arith)))
 
-pub small-append : {us vs : List ℕ} → AllSmall us → AllSmall vs → AllSmall (us ++ vs)
+pub small-append : {us vs : List ℕ} → AllWords us → AllWords vs → AllWords (us ++ vs)
 small-append none b = b
 small-append (some h a) b = some h (small-append a b)
 
@@ -53,7 +53,7 @@ length-words [] = refl
 length-words (v ∷ vs) = rw (length-append (lowFirst 8 v) (wordsBytes vs), length-low 8 v, length-words vs) (omega arith)
 
 -- a word read where words were put
-pub word-put : {vs : List ℕ} → AllSmall vs → (rest : List ℕ) (k : ℕ) → k < length vs → wordAt (wordsBytes vs ++ rest) k ≡ getD vs k 0
+pub word-put : {vs : List ℕ} → AllWords vs → (rest : List ℕ) (k : ℕ) → k < length vs → wordAt (wordsBytes vs ++ rest) k ≡ getD vs k 0
 unfolding wordsBytes wordAt
 word-put none rest k h = absurd (omega arith)
 word-put (some {v} {vs} b f) rest zero h =

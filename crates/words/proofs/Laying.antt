@@ -1,4 +1,4 @@
--- Words stored byte by byte and one behind another; bytes laid over a place, and what they leave.
+-- Words stored byte by byte and one after another; bytes laid over a place, and what they leave.
 -- Assumes nothing.
 use mathlib.Core.Path.{_≡_, refl, sym, _∙_}
 use Prim.Native.Nat.{ℕ, zero, suc, _+_, _-_, _*_, _/_, _%_, _≤_, _<_}
@@ -27,7 +27,7 @@ unfolding lowFirst
 word-end out k rest zero h = refl
 word-end out k rest (suc left) h = absurd (omega arith)
 
--- a word, and those behind it
+-- a word, and those after it
 pub words-step : (out ws : List ℕ) (k : ℕ) → k < length ws
     → sets (sets out (8 * k) (lowFirst 8 (getD ws k 0))) (8 * (k + 1)) (wordsBytes (drop (k + 1) ws))
     ≡ sets out (8 * k) (wordsBytes (drop k ws))

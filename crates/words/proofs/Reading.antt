@@ -10,20 +10,20 @@ use lib.Seq.{drop-cons, take-nil}
 use Rattle.words.specs.Words.{fromLow, wordAt}
 
 -- the bytes from place `left` of a word on, as a number
-abbrev pub high : List ℕ → ℕ → ℕ → ℕ
-high s at left = fromLow (take (8 - left) (drop (at + left) s))
+abbrev pub highPart : List ℕ → ℕ → ℕ → ℕ
+highPart s at left = fromLow (take (8 - left) (drop (at + left) s))
 
-pub high-none : (s : List ℕ) (at left : ℕ) → left ≡ 8 → 0 ≡ high s at left
+pub high-none : (s : List ℕ) (at left : ℕ) → left ≡ 8 → 0 ≡ highPart s at left
 unfolding fromLow
 high-none s at left e = rw e
 
-pub high-past : (s : List ℕ) (at left : ℕ) → at + left ≡ length s → 0 ≡ high s at left
+pub high-past : (s : List ℕ) (at left : ℕ) → at + left ≡ length s → 0 ≡ highPart s at left
 unfolding fromLow
 high-past s at left e = rw (drop-of-length-le s {i = at + left} (omega arith), take-nil {A = ℕ} (8 - left))
 
 -- the next byte down
-pub high-step : (s : List ℕ) (at left v b : ℕ) → 0 < left → left ≤ 8 → at + left ≤ length s → v ≡ high s at left
-    → b ≡ getD s (at + (left - 1)) 0 → v * 256 + b ≡ high s at (left - 1)
+pub high-step : (s : List ℕ) (at left v b : ℕ) → 0 < left → left ≤ 8 → at + left ≤ length s → v ≡ highPart s at left
+    → b ≡ getD s (at + (left - 1)) 0 → v * 256 + b ≡ highPart s at (left - 1)
 unfolding fromLow
 high-step s at zero v b h l m e f = absurd (omega arith)
 high-step s at (suc n) v b h l m e f =
@@ -32,7 +32,7 @@ high-step s at (suc n) v b h l m e f =
     let d : suc (at + n) ≡ at + suc n = omega arith in
     rw (e, f, a, g, drop-cons s (at + n) 0 (omega arith), d) (omega arith)
 
-pub high-all : (s : List ℕ) (k v left : ℕ) → left ≤ 0 → v ≡ high s (8 * k) left → v ≡ wordAt s k
+pub high-all : (s : List ℕ) (k v left : ℕ) → left ≤ 0 → v ≡ highPart s (8 * k) left → v ≡ wordAt s k
 unfolding wordAt
 high-all s k v zero h e = rw (add-zero (8 * k)) at (e)
 high-all s k v (suc n) h e = absurd (omega arith)

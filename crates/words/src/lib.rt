@@ -23,7 +23,7 @@ fn put_word(out: &mut [u8], at: usize, word: u64)
     }
 }
 
-// Words, one behind another; the bytes behind them stay.
+// Words, one after another; the bytes after them stay.
 fn put_all(out: &mut [u8], words: &[u64])
     requires { ⌜ 8 * length (now words) ≤ length (now out) ⌝ }
     ensures { λ r. ⌜ now (out .exit) ≡ over (wordsBytes (now (words .entry))) (now (out .entry)) ⌝ }

@@ -1,2 +1,1 @@
-pub mod GopHeader
 pub mod RoundTrips

@@ -9,15 +9,15 @@ use Rattle.bits.specs.Refusals.{value}
 use Rattle.bits.specs.Fields.{fitsAll, readHeader, writeHeader}
 use Rattle.bits.specs.Answers.{writeAnswer}
 use Rattle.bits.specs.StartCodes.{startCode, groupStartCode}
-use Rattle.writers.specs.GopHeader.{groupFields, groupValues, timeCodeAt}
-use Rattle.writers.specs.declared.gop_header.TimeCode.{TimeCode}
-use Rattle.writers.specs.declared.gop_header.Mpeg2Gop.{Mpeg2Gop}
+use Rattle.headers.specs.GroupHeader.{groupFields, groupValues, timeCodeAt}
+use Rattle.headers.specs.declared.gop_header.TimeCode.{TimeCode}
+use Rattle.headers.specs.declared.gop_header.Mpeg2Gop.{Mpeg2Gop}
 
 -- the bytes that `write_gop_header` writes
 abbrev pub groupWritten : Mpeg2Gop → List ℕ
 groupWritten g = writeHeader (startCode groupStartCode) groupFields (groupValues g)
 
--- a written group header reads as the values given, whatever stands behind it
+-- a written group header reads as the values given, whatever stands after it
 abbrev pub GroupWrittenReads : Type 0
 GroupWrittenReads = (g : Mpeg2Gop) (behind : List ℕ) → fitsAll groupFields (groupValues g) ≡ true
     → readHeader (startCode groupStartCode) groupFields (groupWritten g ++ behind) ≡ value (groupValues g)

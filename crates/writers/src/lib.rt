@@ -1,4 +1,4 @@
-// The writers of sequence_header(), sequence_extension() and group_of_pictures_header() (ISO/IEC 13818-2 6.2.2), and the time code.
+// The writers of sequence_header(), sequence_extension() and group_of_pictures_header() (ISO/IEC 13818-2 6.2.2).
 ghost use mathlib.Core.Path.{_≡_};
 ghost use Prim.Native.Nat.{_*_, _≤_};
 ghost use Rattle.bits.specs.Answers.{wroteAnswer};

@@ -40,7 +40,7 @@ fn append_bytes(out: &mut [u8], at: usize, bytes: [u8; 64])
     }
 }
 
-// Writes a matrix's load flag at bit `at` and, where it is set, the matrix; the bit behind is the answer.
+// Writes a matrix's load flag at bit `at` and, where it is set, the matrix; the bit after it is the answer.
 fn append_matrix(out: &mut [u8], at: usize, matrix: QuantiserMatrix) -> usize
     requires { ⌜ at ≤ 607 ⌝ }
     requires { ⌜ at + total (matrixFields matrix) ≤ 8 * length (now out) ⌝ }

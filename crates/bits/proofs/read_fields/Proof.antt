@@ -2,12 +2,12 @@ use borrow.Author.Needs.{needs}
 use native.Mathlib.Omega.{arith}
 use Prim.Native.Nat.{_-_}
 use Rattle.bits.proofs.Reading.{bits-case}
-use Rattle.bits.proofs.ReadLoop.{Reading, told-short, told-bad, reading-none, reading-short, reading-width, reading-low, reading-high, reading-more, reading-end}
+use Rattle.bits.proofs.ReadLoop.{FieldsReading, told-short, told-bad, fields-reading-none, reading-short, reading-width, reading-low, reading-high, reading-more, reading-end}
 use Rattle.bits.proofs.read_fields.Statement.{statement}
 use Rattle.bits.proofs.read_fields.Tie as tie
 
 abbrev Inv-loop : tie.InvT-loop
-Inv-loop s start table n values₀ at₀ k₀ values at k = Reading table s start n values k at
+Inv-loop s start table n values₀ at₀ k₀ values at k = FieldsReading table s start n values k at
 
 abbrev μ-loop : tie.MeasureT-loop
 μ-loop s start table n values₀ at₀ k₀ values at k = n - k
@@ -16,7 +16,7 @@ field-count-requires : tie.Need-field-count-requires Inv-loop μ-loop
 field-count-requires c κs = search needs
 
 loop-holds : tie.Need-loop-holds Inv-loop μ-loop
-loop-holds c = reading-none _ _ _ _ (c .field-count .ensures)
+loop-holds c = fields-reading-none _ _ _ _ (c .field-count .ensures)
 
 mul-b : tie.Need-mul-b Inv-loop μ-loop
 mul-b c = omega arith

@@ -2,13 +2,13 @@ use mathlib.Core.Path.{_≡_, refl, sym, _∙_}
 use Prim.Native.Nat.{_+_, _-_}
 use native.Mathlib.Omega.{arith}
 use lib.ListN.{length, drop}
-use Rattle.headers.specs.StartCode.{zeros}
+use Rattle.headers.specs.StartCode.{leadingZeros}
 use Rattle.headers.proofs.StartCode.{zeros-past, zeros-none, zeros-more}
 use Rattle.headers.proofs.past_zeros.Statement.{statement}
 use Rattle.headers.proofs.past_zeros.Tie as tie
 
 abbrev Inv-loop : tie.InvT-loop
-Inv-loop buf from at₀ at = at + zeros (drop at buf) ≡ from + zeros (drop from buf)
+Inv-loop buf from at₀ at = at + leadingZeros (drop at buf) ≡ from + leadingZeros (drop from buf)
 
 abbrev μ-loop : tie.MeasureT-loop
 μ-loop buf from at₀ at = length buf - at

@@ -1,5 +1,5 @@
 use Rattle.layers.proofs.Ways.{layer-none, layer-some}
-use Rattle.scan.proofs.Walk.{seen}
+use Rattle.scan.proofs.Walk.{code-seen}
 use native.Mathlib.Omega.{arith}
 use mathlib.Core.Path.{sym, _∙_}
 use borrow.Author.Needs.{needs}
@@ -13,7 +13,7 @@ enum-known-offset : tie.Need-enum-known-offset
 enum-known-offset c = search needs
 
 add-slices-behind : tie.Need-add-slices-behind
-add-slices-behind c = omega (arith, seen _ _ _ _ (sym (c .before .before .before .next-code .ensures) ∙ c .before .offset .given .1) .room)
+add-slices-behind c = omega (arith, code-seen _ _ _ _ (sym (c .before .before .before .next-code .ensures) ∙ c .before .offset .given .1) .room)
 
 slices-behind-requires : tie.Need-slices-behind-requires
 slices-behind-requires c κs = search needs

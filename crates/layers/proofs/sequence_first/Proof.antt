@@ -1,5 +1,5 @@
 use Rattle.layers.proofs.Ways.{first-none, first-some}
-use Rattle.scan.proofs.Walk.{seen}
+use Rattle.scan.proofs.Walk.{code-seen}
 use Rattle.layers.specs.Steps.{inSet}
 use native.Mathlib.Omega.{arith}
 use mathlib.Core.Path.{sym, _∙_}
@@ -14,7 +14,7 @@ enum-known-offset : tie.Need-enum-known-offset
 enum-known-offset c = search needs
 
 add-all-in-set : tie.Need-add-all-in-set
-add-all-in-set c = omega (arith, seen _ _ _ _ (sym (c .before .before .before .next-code .ensures) ∙ c .before .offset .given .1) .room)
+add-all-in-set c = omega (arith, code-seen _ _ _ _ (sym (c .before .before .before .next-code .ensures) ∙ c .before .offset .given .1) .room)
 
 all-in-set-requires : tie.Need-all-in-set-requires
 all-in-set-requires c κs = search needs

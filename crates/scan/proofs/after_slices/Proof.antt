@@ -1,7 +1,7 @@
 use borrow.Author.Needs.{needs}
 use mathlib.Core.Path.{sym, ap, _∙_}
 use Rattle.scan.specs.Codes.{found}
-use Rattle.scan.proofs.Pictures.{after-none, after-some}
+use Rattle.scan.proofs.Pictures.{no-slices-end, after-some}
 use Rattle.scan.proofs.after_slices.Statement.{statement}
 use Rattle.scan.proofs.after_slices.Tie as tie
 
@@ -21,7 +21,7 @@ returns : tie.Need-returns
 returns c = c .seek2 .ensures ∙ ap found (after-some _ _ _ _ (sym (c .before .before .before .before .seek .ensures) ∙ c .before .before .offset .given .1))
 
 returns-2 : tie.Need-returns-2
-returns-2 c = after-none _ _ (sym (c .before .before .seek .ensures) ∙ c .enum-told .given .1)
+returns-2 c = no-slices-end _ _ (sym (c .before .before .seek .ensures) ∙ c .enum-told .given .1)
 
 pub after-slices-spec : {M : Type 1} → statement M
 after-slices-spec =

@@ -7,7 +7,7 @@ use lib.ListN.{length}
 use Rattle.scan.specs.Codes.{nextCode}
 use Rattle.scan.specs.Steps.{before}
 use Rattle.scan.proofs.NextCode.{next-here, not-third, far-first, far-second, far-third}
-use Rattle.scan.proofs.Blocks.{told, none-before}
+use Rattle.scan.proofs.Blocks.{told-before, none-before}
 use Rattle.scan.proofs.next_before.Statement.{statement}
 use Rattle.scan.proofs.next_before.Tie as tie
 
@@ -81,7 +81,7 @@ shared-slice-read-t9 c = omega arith
 
 returns : tie.Need-returns Inv-loop μ-loop
 returns c =
-    told _ _ _ _ (omega arith)
+    told-before _ _ _ _ (omega arith)
     (next-here _ _ (omega arith) (c .before .before .before .if3 .left) (c .before .if4 .left) (omega arith)
     ∙ c .before .before .before .before .before .before .before .before .before .loop .inv)
 

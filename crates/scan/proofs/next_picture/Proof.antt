@@ -2,7 +2,7 @@ use borrow.Author.Needs.{needs}
 use mathlib.Core.Path.{sym, _∙_}
 use native.Mathlib.Omega.{arith}
 use Rattle.scan.proofs.Walk.{sought}
-use Rattle.scan.proofs.Pictures.{behind, next-none, next-last, next-ended, next-followed}
+use Rattle.scan.proofs.Pictures.{slices-passed, next-none, next-last, next-ended, next-followed}
 use Rattle.scan.proofs.next_picture.Statement.{statement}
 use Rattle.scan.proofs.next_picture.Tie as tie
 
@@ -22,7 +22,7 @@ enum-known-offset : tie.Need-enum-known-offset
 enum-known-offset c = search needs
 
 add-end : tie.Need-add-end
-add-end c = omega (arith, behind _ _ _ _ (sym (c .before .before .before .before .after-slices .ensures) ∙ c .before .before .offset .given .1) .room)
+add-end c = omega (arith, slices-passed _ _ _ _ (sym (c .before .before .before .before .after-slices .ensures) ∙ c .before .before .offset .given .1) .room)
 
 enum-told : tie.Need-enum-told
 enum-told c = search needs

@@ -8,7 +8,7 @@ use Rattle.scan.specs.declared.Found.the-variants.{At}
 use Rattle.scan.specs.Codes.{nextCode, codesAt, found}
 use Rattle.scan.specs.Pictures.{skip}
 use Rattle.scan.specs.Steps.{passed}
-use Rattle.scan.proofs.Walk.{seen, pass-on, stop-here, none-here}
+use Rattle.scan.proofs.Walk.{code-seen, pass-on, stop-here, none-here}
 use Rattle.scan.proofs.seek.Statement.{statement}
 use Rattle.scan.proofs.seek.Tie as tie
 
@@ -37,10 +37,10 @@ at-code : (c : tie.Then1 Inv-loop μ-loop)
 at-code c = sym (c .before .before .before .before .before .next-code .ensures) ∙ c .before .before .before .offset .given .1
 
 add-i : tie.Need-add-i Inv-loop μ-loop
-add-i c = omega (arith, seen _ _ _ _ (at-code c) .room)
+add-i c = omega (arith, code-seen _ _ _ _ (at-code c) .room)
 
 loop-less : tie.Need-loop-less Inv-loop μ-loop
-loop-less c = omega (arith, seen _ _ _ _ (at-code c) .from, seen _ _ _ _ (at-code c) .room)
+loop-less c = omega (arith, code-seen _ _ _ _ (at-code c) .from, code-seen _ _ _ _ (at-code c) .room)
 
 loop-again : tie.Need-loop-again Inv-loop μ-loop
 loop-again c =

@@ -4,13 +4,13 @@ use Prim.Native.Nat.{_+_, _*_, _-_, _^_, _<_, _≤_}
 use native.Mathlib.Omega.{arith}
 use lib.ListN.{length}
 use borrow.Author.Needs.{needs}
-use Rattle.words.proofs.Reading.{high, high-none, high-past, high-step, high-all, word-past, size-none, size-step, size-most}
+use Rattle.words.proofs.Reading.{highPart, high-none, high-past, high-step, high-all, word-past, size-none, size-step, size-most}
 use Rattle.words.proofs.word_at.Statement.{statement}
 use Rattle.words.proofs.word_at.Tie as tie
 
 abbrev Inv-loop : tie.InvT-loop
 Inv-loop place k at behind left₀ value₀ left value =
-    (value ≡ high place at left) × (value < 256 ^ (8 - left)) × (left ≤ 8) × (at + left ≤ length place)
+    (value ≡ highPart place at left) × (value < 256 ^ (8 - left)) × (left ≤ 8) × (at + left ≤ length place)
 
 abbrev μ-loop : tie.MeasureT-loop
 μ-loop place k at behind left₀ value₀ left value = left

@@ -42,7 +42,8 @@ use denote.Triple.Walked.{says, Stays, stay-none, walkOf, AllGo, goes-none, Walk
 use denote.Triple.Clauses.{ensured, Lasts, lasts}
 use denote.Exit.{yes}
 use Rattle.vbv.specs.Model.{startModel}
-use Rattle.vbv.specs.Lent.{stepAnswer, done as answered, modelAfter}
+use Rattle.bits.specs.Refusals.{orElse}
+use Rattle.vbv.specs.Lent.{stepAnswer, doneAnswer as answered}
 use Rattle.vbv.specs.declared.VbvCbrModel.{VbvCbrModel}
 use Rattle.vbv.specs.declared.lent.VbvStepped.{VbvStepped}
 use Rattle.vbv.specs.declared.lent.VbvStep.{VbvStep}
@@ -82,7 +83,7 @@ module _ {M : Type 1} (𝓤 : URA M) (H : Heap 𝓤) (A : Atoms 𝓤) (W : Given
   Said r = stepAnswer r ≡ answered (startModel m delay position)
 
   abbrev after : VbvCbrModel
-  after = modelAfter m (startModel m delay position)
+  after = orElse m (startModel m delay position)
 
   abbrev d : VbvStep → VbvStepped
   d r = record { model = after; answer = r }

@@ -3,18 +3,18 @@ use native.Mathlib.Omega.{arith}
 use Prim.Native.Nat.{_-_}
 use Rattle.bits.proofs.Reading.{found-bound, bits-case}
 use Rattle.headers.proofs.QuantMatrix.{told-missing, told-there}
-use Rattle.headers.proofs.MatrixLoop.{Reading, reading-none, reading-short, reading-more, reading-end}
+use Rattle.headers.proofs.MatrixLoop.{MatrixReading, matrix-reading-none, reading-short, reading-more, reading-end}
 use Rattle.headers.proofs.quant_matrix_extension.read_bytes.Statement.{statement}
 use Rattle.headers.proofs.quant_matrix_extension.read_bytes.Tie as tie
 
 abbrev Inv-loop : tie.InvT-loop
-Inv-loop buf at bytes₀ k₀ bytes k = Reading buf at bytes k
+Inv-loop buf at bytes₀ k₀ bytes k = MatrixReading buf at bytes k
 
 abbrev μ-loop : tie.MeasureT-loop
 μ-loop buf at bytes₀ k₀ bytes k = 64 - k
 
 loop-holds : tie.Need-loop-holds Inv-loop μ-loop
-loop-holds c = reading-none _ _
+loop-holds c = matrix-reading-none _ _
 
 mul-read-bits : tie.Need-mul-read-bits Inv-loop μ-loop
 mul-read-bits c = omega arith

@@ -8,7 +8,7 @@ use Rattle.headers.specs.Sequence.{sequenceOf}
 use Rattle.headers.specs.declared.sequence_header.Mpeg2SequenceHeader.{Mpeg2SequenceHeader}
 use Rattle.headers.specs.declared.sequence_extension.Mpeg2SequenceExtension.{Mpeg2SequenceExtension}
 use Rattle.headers.proofs.SequenceExtension.{extension-bounds, extension-case}
-use Rattle.headers.proofs.Sequence.{told-refused}
+use Rattle.headers.proofs.Sequence.{sequence-told-refused}
 use Rattle.headers.proofs.sequence_extension.with_extension.Statement.{statement}
 use Rattle.headers.proofs.sequence_extension.with_extension.Tie as tie
 
@@ -84,7 +84,7 @@ add-vbv-buffer-size c = search needs
 returns : tie.Need-returns
 returns c =
     let k = c .before .before in
-    told-refused (c .refused .result) (k .read .given .0 .0) (c .refused .ensures) (rw (← extension-case (k .read .given .1) (k .before .before .parse .ensures)))
+    sequence-told-refused (c .refused .result) (k .read .given .0 .0) (c .refused .ensures) (rw (← extension-case (k .read .given .1) (k .before .before .parse .ensures)))
 
 returns-2 : tie.Need-returns-2
 unfolding sequenceOf

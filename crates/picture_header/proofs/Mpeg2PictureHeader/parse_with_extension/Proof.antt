@@ -5,7 +5,7 @@ use native.Mathlib.Omega.{arith}
 use Rattle.picture_header.specs.PictureHeader.{pictureHeader}
 use Rattle.picture_header.specs.declared.PictureCodingType.the-variants.{DcIntra}
 use Rattle.bits.specs.Refusals.{value}
-use Rattle.picture_header.proofs.PictureHeader.{header-case, picture-header-parsed, header-inside}
+use Rattle.picture_header.proofs.PictureHeader.{picture-header-case, picture-header-parsed, header-inside}
 use Rattle.picture_header.proofs.Picture.{picture-refused, picture-dc, picture-behind}
 use Rattle.picture_header.proofs.Mpeg2PictureHeader.parse_with_extension.Statement.{
   statement,
@@ -14,7 +14,7 @@ use Rattle.picture_header.proofs.Mpeg2PictureHeader.parse_with_extensio
 
 -- the header that was read
 header : (c : tie.After-read2) → pictureHeader (c .before .before .before .before .args .buf .now) ≡ value (c .read2 .given .0 .0)
-header c = sym (header-case (c .read2 .given .1) (c .before .before .parse .ensures))
+header c = sym (picture-header-case (c .read2 .given .1) (c .before .before .parse .ensures))
 
 parse-requires : tie.Need-parse-requires
 parse-requires c κs = search needs
@@ -35,7 +35,7 @@ behind-header-requires : tie.Need-behind-header-requires
 behind-header-requires c κs = omega (arith, header-inside (picture-header-parsed _ _ (header (c .before .before))))
 
 returns-2 : tie.Need-returns-2
-returns-2 c = picture-refused _ _ (header-case (c .before .read .given .1) (c .before .before .before .parse .ensures))
+returns-2 c = picture-refused _ _ (picture-header-case (c .before .read .given .1) (c .before .before .before .parse .ensures))
 
 -- the type's number is 0, 1 or 2; that of DcIntra is 3
 not-dc : (c : tie.At-match2-keys2) → c .before .before .read2 .given .0 .0 .«picture_coding_type» ≡ DcIntra → ⊥

@@ -2,8 +2,8 @@ use mathlib.Core.Path.{_≡_, sym, _∙_}
 use native.Mathlib.Omega.{arith}
 use Rattle.bits.proofs.Reading.{rest-is}
 use Rattle.scan.specs.declared.Next.the-variants.{Picture}
-use Rattle.scan.specs.Walk.{nextPicture}
-use Rattle.scan.proofs.Pictures.{Walked, walked}
+use Rattle.scan.specs.Pictures.{nextPicture}
+use Rattle.scan.proofs.Pictures.{PictureStep, picture-step}
 use Rattle.pictures.proofs.Seeing.{next-long, next-done, next-unread, next-shown}
 use borrow.Author.Needs.{needs}
 use Rattle.pictures.proofs.seen.next_seen.Statement.{statement}
@@ -27,10 +27,10 @@ enum-known-at : tie.Need-enum-known-at
 enum-known-at c = search needs
 
 sub-shown-at : tie.Need-sub-shown-at
-sub-shown-at c = omega (arith, walked _ _ _ _ _ (step c))
+sub-shown-at c = omega (arith, picture-step _ _ _ _ _ (step c))
 
 part-shown-at-start : tie.Need-part-shown-at-start
-part-shown-at-start c = omega (arith, walked _ _ _ _ _ (step c))
+part-shown-at-start c = omega (arith, picture-step _ _ _ _ _ (step c))
 
 part-shown-at-end : tie.Need-part-shown-at-end
 part-shown-at-end c = search needs
@@ -45,7 +45,7 @@ enum-known-vbv-delay : tie.Need-enum-known-vbv-delay
 enum-known-vbv-delay c = search needs
 
 seen-picture-requires : tie.Need-seen-picture-requires
-seen-picture-requires c κs = let w = walked _ _ _ _ _ (step (c .before .before .before .before .before)) in (omega (arith, w), omega (arith, w))
+seen-picture-requires c κs = let w = picture-step _ _ _ _ _ (step (c .before .before .before .before .before)) in (omega (arith, w), omega (arith, w))
 
 returns-2 : tie.Need-returns-2
 returns-2 c = next-done _ _ _ (omega arith) (sym (c .before .before .next-picture .ensures) ∙ c .enum-told .given .1)

@@ -1,4 +1,4 @@
-use Rattle.vbv.proofs.Fitting.{told-by}
+use Rattle.bits.proofs.Flags.{told-by}
 use Rattle.rate_control.proofs.Creation.{config-ranges, way-12, left-12, way-6, left-6, way-rate, left-rate}
 use borrow.Author.Needs.{needs}
 use Rattle.rate_control.proofs.CbrWriter.create.Statement.{statement}

@@ -1,7 +1,7 @@
 use Rattle.vbv.specs.Model.{modelFits, delayForPicture}
 use mathlib.Core.Path.{refl}
-use Rattle.vbv.proofs.Fitting.{told-by, model-fits}
-use Rattle.vbv.proofs.Picks.{failed}
+use Rattle.vbv.proofs.Fitting.{model-fits}
+use Rattle.bits.proofs.Flags.{failed, told-by}
 use Rattle.vbv.proofs.Ways.{delay-order, delay-range}
 use borrow.Author.Needs.{needs}
 use native.Mathlib.Omega.{arith}

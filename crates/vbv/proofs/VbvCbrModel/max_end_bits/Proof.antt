@@ -1,5 +1,5 @@
 use Rattle.vbv.specs.Model.{maxEndBits}
-use Rattle.vbv.proofs.Fitting.{told-by}
+use Rattle.bits.proofs.Flags.{told-by}
 use Rattle.vbv.proofs.Ways.{bits-are, bits-order, bits-params, greatest-is}
 use borrow.Author.Needs.{needs}
 use Rattle.vbv.proofs.VbvCbrModel.max_end_bits.Statement.{statement}

@@ -1,6 +1,7 @@
 use Rattle.vbv.specs.Model.{minEndBits}
 use mathlib.Core.Path.{_∙_}
-use Rattle.vbv.proofs.Fitting.{told-by, model-fits}
+use Rattle.bits.proofs.Flags.{told-by}
+use Rattle.vbv.proofs.Fitting.{model-fits}
 use Rattle.vbv.proofs.Ways.{bits-are, bits-order, bits-params, least-at, next-fits}
 use borrow.Author.Needs.{needs}
 use Rattle.vbv.proofs.VbvCbrModel.min_end_bits.Statement.{statement}

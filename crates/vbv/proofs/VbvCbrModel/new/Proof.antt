@@ -1,7 +1,6 @@
 use Rattle.vbv.specs.Model.{paramsFit, newModel}
 use mathlib.Core.Path.{refl}
-use Rattle.vbv.proofs.Fitting.{told-by}
-use Rattle.vbv.proofs.Picks.{held, failed}
+use Rattle.bits.proofs.Flags.{held, failed, told-by}
 use borrow.Author.Needs.{needs}
 use Rattle.vbv.proofs.VbvCbrModel.new.Statement.{statement}
 use Rattle.vbv.proofs.VbvCbrModel.new.Tie as tie

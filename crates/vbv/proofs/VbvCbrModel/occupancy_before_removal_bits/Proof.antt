@@ -1,6 +1,6 @@
 use Rattle.vbv.specs.Model.{occupancyBeforeRemoval}
 use mathlib.Core.Path.{_∙_}
-use Rattle.vbv.proofs.Fitting.{told-by}
+use Rattle.bits.proofs.Flags.{told-by}
 use Rattle.vbv.proofs.Ways.{bits-are, bits-order, bits-params, occupancy-is}
 use borrow.Author.Needs.{needs}
 use Rattle.vbv.proofs.VbvCbrModel.occupancy_before_removal_bits.Statement.{statement}

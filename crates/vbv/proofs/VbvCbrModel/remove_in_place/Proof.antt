@@ -41,7 +41,8 @@ use denote.Triple.Walked.{says, Stays, stay-ref, stay-none, walkOf, AllGo, goes-
 use denote.Triple.Clauses.{ensured, lasts}
 use denote.Exit.{yes}
 use Rattle.vbv.specs.Model.{removePicture}
-use Rattle.vbv.specs.Lent.{stepAnswer, done as answered, modelAfter}
+use Rattle.bits.specs.Refusals.{orElse}
+use Rattle.vbv.specs.Lent.{stepAnswer, doneAnswer as answered}
 use Rattle.vbv.specs.declared.VbvCbrModel.{VbvCbrModel}
 use Rattle.vbv.specs.declared.lent.VbvStepped.{VbvStepped}
 use Rattle.vbv.specs.declared.RemovalInterval.{RemovalInterval}
@@ -87,7 +88,7 @@ module _ {M : Type 1} (𝓤 : URA M) (H : Heap 𝓤) (A : Atoms 𝓤) (W : Given
   mvals = LL.vals T.the-type T′.the-laws
 
   abbrev Said : VbvStepped → Type 0
-  Said d = (stepAnswer (d .answer) ≡ answered (removePicture m end i)) × (d .model ≡ modelAfter m (removePicture m end i))
+  Said d = (stepAnswer (d .answer) ≡ answered (removePicture m end i)) × (d .model ≡ orElse m (removePicture m end i))
 
   abbrev avals : VbvStepped → List Val
   avals d = EL.vals S.the-type S′.the-laws (d .answer)

@@ -1,7 +1,7 @@
 use Rattle.vbv.specs.Model.{modelFits, endFits, removePicture}
 use mathlib.Core.Path.{refl}
-use Rattle.vbv.proofs.Fitting.{told-by, model-fits, end-fits}
-use Rattle.vbv.proofs.Picks.{failed}
+use Rattle.vbv.proofs.Fitting.{model-fits, end-fits}
+use Rattle.bits.proofs.Flags.{failed, told-by}
 use Rattle.vbv.proofs.Ways.{remove-order, remove-range}
 use borrow.Author.Needs.{needs}
 use Rattle.vbv.proofs.VbvCbrModel.remove_picture.Statement.{statement}

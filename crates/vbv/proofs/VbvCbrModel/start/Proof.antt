@@ -1,8 +1,8 @@
 use Rattle.vbv.specs.Model.{modelFits, startModel}
 use mathlib.Core.Path.{refl}
 use borrow.Author.Tests.{le-ltb, lt-ltb}
-use Rattle.vbv.proofs.Fitting.{told-by, model-fits}
-use Rattle.vbv.proofs.Picks.{yes, no, held, failed}
+use Rattle.vbv.proofs.Fitting.{model-fits}
+use Rattle.bits.proofs.Flags.{yes, no, held, failed, told-by}
 use borrow.Author.Needs.{needs}
 use native.Mathlib.Omega.{arith}
 use Rattle.vbv.proofs.VbvCbrModel.start.Statement.{statement}

@@ -41,7 +41,8 @@ use denote.Triple.Walked.{says, Stays, stay-ref, stay-none, walkOf, AllGo, goes-
 use denote.Triple.Clauses.{ensured, lasts}
 use denote.Exit.{yes}
 use Rattle.vbv.specs.Model.{startModel}
-use Rattle.vbv.specs.Lent.{stepAnswer, done as answered, modelAfter}
+use Rattle.bits.specs.Refusals.{orElse}
+use Rattle.vbv.specs.Lent.{stepAnswer, doneAnswer as answered}
 use Rattle.vbv.specs.declared.VbvCbrModel.{VbvCbrModel}
 use Rattle.vbv.specs.declared.lent.VbvStepped.{VbvStepped}
 use Rattle.vbv.proofs.VbvCbrModel as T
@@ -81,7 +82,7 @@ module _ {M : Type 1} (𝓤 : URA M) (H : Heap 𝓤) (A : Atoms 𝓤) (W : Given
   mvals = LL.vals T.the-type T′.the-laws
 
   abbrev Said : VbvStepped → Type 0
-  Said d = (stepAnswer (d .answer) ≡ answered (startModel m delay position)) × (d .model ≡ modelAfter m (startModel m delay position))
+  Said d = (stepAnswer (d .answer) ≡ answered (startModel m delay position)) × (d .model ≡ orElse m (startModel m delay position))
 
   abbrev avals : VbvStepped → List Val
   avals d = EL.vals S.the-type S′.the-laws (d .answer)

@@ -1,6 +1,6 @@
-use Rattle.vbv.specs.Model.{paramsInRange, ratioFits, paramsFit}
-use Rattle.vbv.proofs.Fitting.{told-by, in-range}
-use mathlib.Core.Path.{_≡_, sym, _∙_}
+use Rattle.vbv.specs.Model.{ratioFits, paramsFit}
+use Rattle.vbv.proofs.Fitting.{in-range}
+use mathlib.Core.Path.{sym, _∙_}
 use borrow.Author.Needs.{needs}
 use native.Mathlib.Omega.{arith}
 use Rattle.vbv.proofs.VbvParams.fit.Statement.{statement}

@@ -1,4 +1,4 @@
-use Rattle.vbv.proofs.Numbers.{bits-case, removal-case}
+use Rattle.vbv.proofs.Numbers.{model-bits-case, removal-case}
 use Rattle.verify.specs.Steps.{removedFrom, recordedIf}
 use borrow.Author.Needs.{needs}
 use Rattle.verify.proofs.run.remove_expected.Statement.{statement}
@@ -33,19 +33,19 @@ less-requires c κs = search needs
 
 returns : tie.Need-returns
 unfolding removedFrom
-returns c = rw (bits-case (c .before .error .given .1) (c .before .before .before .occupancy-before-removal-bits .ensures))
+returns c = rw (model-bits-case (c .before .error .given .1) (c .before .before .before .occupancy-before-removal-bits .ensures))
 
 returns-2 : tie.Need-returns-2
 unfolding removedFrom recordedIf
-returns-2 c = let k = c .before .before .before .before in rw (bits-case (k .before .before2 .given .1) (k .before .before .before .occupancy-before-removal-bits .ensures), removal-case (c .before .error2 .given .1) (c .before .before .before .remove-picture .ensures))
+returns-2 c = let k = c .before .before .before .before in rw (model-bits-case (k .before .before2 .given .1) (k .before .before .before .occupancy-before-removal-bits .ensures), removal-case (c .before .error2 .given .1) (c .before .before .before .remove-picture .ensures))
 
 returns-3 : tie.Need-returns-3
 unfolding removedFrom recordedIf
-returns-3 c = let k = c .before .before .before .before .before in rw (bits-case (k .before .before2 .given .1) (k .before .before .before .occupancy-before-removal-bits .ensures), removal-case (c .before .before .violation .given .1) (c .before .before .before .before .remove-picture .ensures), c .with-delays .ensures)
+returns-3 c = let k = c .before .before .before .before .before in rw (model-bits-case (k .before .before2 .given .1) (k .before .before .before .occupancy-before-removal-bits .ensures), removal-case (c .before .before .violation .given .1) (c .before .before .before .before .remove-picture .ensures), c .with-delays .ensures)
 
 returns-4 : tie.Need-returns-4
 unfolding removedFrom recordedIf
-returns-4 c = let k = c .before .before .before .before .before in rw (bits-case (k .before .before2 .given .1) (k .before .before .before .occupancy-before-removal-bits .ensures), removal-case (c .before .before .next .given .1) (c .before .before .before .before .remove-picture .ensures), c .less .ensures)
+returns-4 c = let k = c .before .before .before .before .before in rw (model-bits-case (k .before .before2 .given .1) (k .before .before .before .occupancy-before-removal-bits .ensures), removal-case (c .before .before .next .given .1) (c .before .before .before .before .remove-picture .ensures), c .less .ensures)
 
 pub remove-expected-spec : {M : Type 1} → statement M
 remove-expected-spec =

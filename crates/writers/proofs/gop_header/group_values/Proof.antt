@@ -1,5 +1,5 @@
 use borrow.Author.Needs.{needs}
-use Rattle.writers.specs.GopHeader.{groupValues}
+use Rattle.headers.proofs.GroupHeader.{group-values-are}
 use Rattle.writers.proofs.gop_header.group_values.Statement.{statement}
 use Rattle.writers.proofs.gop_header.group_values.Tie as tie
 
@@ -25,8 +25,7 @@ flag-requires-3 : tie.Need-flag-requires-3
 flag-requires-3 c κs = search needs
 
 returns : tie.Need-returns
-unfolding groupValues
-returns c = rw (c .before .before .flag .ensures, c .before .flag2 .ensures, c .flag3 .ensures)
+returns c = rw (group-values-are _, c .before .before .flag .ensures, c .before .flag2 .ensures, c .flag3 .ensures)
 
 pub group-values-spec : {M : Type 1} → statement M
 group-values-spec =

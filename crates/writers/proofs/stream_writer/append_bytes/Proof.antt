@@ -2,12 +2,12 @@ use borrow.Author.Needs.{needs}
 use mathlib.Core.Path.{_≡_, _∙_}
 use native.Mathlib.Omega.{arith}
 use Prim.Native.Nat.{_-_, _≤_}
-use Rattle.bits.proofs.Laying.{laid, laid-none, laid-length, laid-more, laid-all}
+use Rattle.bits.proofs.Laying.{bytesAppended, laid-none, laid-length, laid-more, laid-all}
 use Rattle.writers.proofs.stream_writer.append_bytes.Statement.{statement}
 use Rattle.writers.proofs.stream_writer.append_bytes.Tie as tie
 
 abbrev Inv-loop : tie.InvT-loop
-Inv-loop out₀ at bytes k₀ out k = (k ≤ 64) × (out ≡ laid out₀ at bytes k)
+Inv-loop out₀ at bytes k₀ out k = (k ≤ 64) × (out ≡ bytesAppended out₀ at bytes k)
 
 abbrev μ-loop : tie.MeasureT-loop
 μ-loop out₀ at bytes k₀ out k = 64 - k

@@ -3,7 +3,7 @@ use native.Mathlib.Omega.{arith}
 use borrow.Author.Needs.{needs}
 use Rattle.headers.specs.declared.Error.the-variants.{InvalidBitstream}
 use Rattle.headers.proofs.StartCode.{Found, next-found, next-case}
-use Rattle.headers.proofs.Sequence.{told-refused, header-case, sequence-refused, header-bounds, sequence-missing, sequence-at}
+use Rattle.headers.proofs.Sequence.{sequence-told-refused, header-case, sequence-refused, header-bounds, sequence-missing, sequence-at}
 use Rattle.headers.proofs.sequence_extension.Mpeg2Sequence.from_buf.Statement.{statement}
 use Rattle.headers.proofs.sequence_extension.Mpeg2Sequence.from_buf.Tie as tie
 
@@ -55,13 +55,13 @@ with-extension-requires c κs =
 
 returns : tie.Need-returns
 returns c =
-    told-refused (c .refused .result) (c .before .before .answer .given .0 .0) (c .refused .ensures)
+    sequence-told-refused (c .refused .result) (c .before .before .answer .given .0 .0) (c .refused .ensures)
     (sequence-refused _ (header-case _ (c .before .before .answer .given .1) (c .before .before .before .before .parse .ensures .0)))
 
 returns-2 : tie.Need-returns-2
 returns-2 c =
     let k = c .before .before .before in
-    told-refused (c .refused2 .result) InvalidBitstream (c .refused2 .ensures)
+    sequence-told-refused (c .refused2 .result) InvalidBitstream (c .refused2 .ensures)
     (sequence-missing _ _ (header-case _ (k .before .before .before .enum-told .given .1) (k .before .before .before .before .before .parse .ensures .0))
     _ (k .before .sequence-header-byte-length .ensures) (next-case (c .before .enum-told2 .given .1) (k .next-start-code .ensures)))
 

@@ -5,7 +5,7 @@ use Prim.Native.Nat.{ℕ}
 use mathlib.Core.List.{List}
 use Rattle.bits.specs.Refusals.{Answer, value}
 use Rattle.bits.specs.Fields.{readHeader}
-use Rattle.bits.specs.Answers.{placed, fieldsAnswer}
+use Rattle.bits.specs.Answers.{inPlaces, fieldsAnswer}
 use Rattle.bits.specs.StartCodes.{startCode, extensionStartCode}
 use Rattle.bits.proofs.Reading.{answer-short, answer-bad, header-done, Read}
 use Rattle.headers.specs.SequenceExtension.{sequenceExtensionFields, sequenceExtension, extensionOf}
@@ -18,7 +18,7 @@ module _ (c : tie.After-read-header) where
   abbrev header : Answer (List ℕ)
   header = readHeader (startCode extensionStartCode) sequenceExtensionFields (c .before .before .before .args .buf .now)
 
-  answered : fieldsAnswer (c .read-header .result) ≡ placed header
+  answered : fieldsAnswer (c .read-header .result) ≡ inPlaces header
   answered = c .read-header .ensures .0
 
 -- the values where it is Done

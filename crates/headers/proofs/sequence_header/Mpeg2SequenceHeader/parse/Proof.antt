@@ -1,19 +1,19 @@
 use borrow.Author.Needs.{needs}
 use mathlib.Core.Path.{_≡_}
 use native.Mathlib.Omega.{arith}
-use Rattle.bits.specs.Answers.{placed, fieldsAnswer}
+use Rattle.bits.specs.Answers.{inPlaces, fieldsAnswer}
 use Rattle.bits.specs.declared.Outcome.the-variants.{Done}
 use Rattle.bits.specs.StartCodes.{startCode, sequenceHeaderCode}
 use Rattle.bits.proofs.Reading.{Read, answer-short, answer-bad, header-done}
 use Rattle.headers.specs.SequenceHeader.{sequenceHeaderFields}
 use Rattle.headers.specs.declared.Error.the-variants.{ShortHeader, InvalidBitstream}
-use Rattle.headers.proofs.SequenceHeader.{fixedFields, told-refused, fields-refused, matrices-cut, matrices-there}
+use Rattle.headers.proofs.SequenceHeader.{fixedFields, header-told-refused, fields-refused, matrices-cut, matrices-there}
 use Rattle.headers.proofs.sequence_header.Mpeg2SequenceHeader.parse.Statement.{statement}
 use Rattle.headers.proofs.sequence_header.Mpeg2SequenceHeader.parse.Tie as tie
 
 -- what read_header says: the byte string is the definition's table
 module _ (c : tie.After-read-header) where
-  answer : fieldsAnswer (c .read-header .result) ≡ placed (fixedFields (c .before .before .before .args .buf .now))
+  answer : fieldsAnswer (c .read-header .result) ≡ inPlaces (fixedFields (c .before .before .before .args .buf .now))
   answer = c .read-header .ensures .0
 
   done : c .read-header .result .outcome ≡ Done → Read sequenceHeaderFields (fixedFields (c .before .before .before .args .buf .now)) (c .read-header .result)
@@ -94,10 +94,10 @@ refused-requires-3 : tie.Need-refused-requires-3
 refused-requires-3 c κs = search needs
 
 returns : tie.Need-returns
-returns c = told-refused (c .refused .result) ShortHeader (c .refused .ensures) (fields-refused _ (answer-short _ _ (answer (c .before .before .before)) (c .before .enum-told .given .1)))
+returns c = header-told-refused (c .refused .result) ShortHeader (c .refused .ensures) (fields-refused _ (answer-short _ _ (answer (c .before .before .before)) (c .before .enum-told .given .1)))
 
 returns-2 : tie.Need-returns-2
-returns-2 c = told-refused (c .refused2 .result) InvalidBitstream (c .refused2 .ensures) (fields-refused _ (answer-bad _ _ (answer (c .before .before .before)) (c .before .enum-told2 .given .1)))
+returns-2 c = header-told-refused (c .refused2 .result) InvalidBitstream (c .refused2 .ensures) (fields-refused _ (answer-bad _ _ (answer (c .before .before .before)) (c .before .enum-told2 .given .1)))
 
 returns-3 : tie.Need-returns-3
 returns-3 c =
@@ -111,7 +111,7 @@ returns-4 : tie.Need-returns-4
 returns-4 c =
     let n = c .before .before .before .before .before in
     let r = read-at (n .before .before .before .before) in
-    told-refused (c .refused3 .result) ShortHeader (c .refused3 .ensures)
+    header-told-refused (c .refused3 .result) ShortHeader (c .refused3 .ensures)
     (matrices-cut _ _ (r .parsed) (n .before .before .before .read-matrix .result) (n .read-matrix2 .result) (n .before .before .before .read-matrix .ensures .0) (rw (n .before .behind .ensures) at (n .read-matrix2 .ensures .0))
     (c .before .if1 .left))
 

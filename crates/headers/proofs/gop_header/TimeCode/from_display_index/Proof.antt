@@ -3,10 +3,10 @@ use mathlib.Core.Path.{_≡_}
 use native.Mathlib.Nat.{mod-lt}
 use native.Mathlib.Omega.{arith}
 use Rattle.bits.specs.Refusals.{value}
-use Rattle.writers.specs.GopHeader.{nominalRate, timeCode}
-use Rattle.writers.proofs.GopHeader.{nominal-case, rate-bound, code-at, no-code}
-use Rattle.writers.proofs.gop_header.TimeCode.from_display_index.Statement.{statement}
-use Rattle.writers.proofs.gop_header.TimeCode.from_display_index.Tie as tie
+use Rattle.headers.specs.GroupHeader.{nominalRate, timeCode}
+use Rattle.headers.proofs.GroupHeader.{nominal-case, rate-bound, code-at, no-code}
+use Rattle.headers.proofs.gop_header.TimeCode.from_display_index.Statement.{statement}
+use Rattle.headers.proofs.gop_header.TimeCode.from_display_index.Tie as tie
 
 -- the rate that was found
 rate : (c : tie.After-known-told) → value (c .before .rate .given .0 .0) ≡ nominalRate (c .before .before .before .before .args .picture-rate-code)

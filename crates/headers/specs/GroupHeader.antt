@@ -6,26 +6,26 @@ use mathlib.Core.Bool.{false, not, _&&_}
 use lib.Dec.{leb}
 use lib.ListN.{getD}
 use Rattle.bits.specs.Refusals.{Answer, value, refused, refuse, andThen}
-use Rattle.bits.specs.Fields.{Field, any, exactly}
+use Rattle.bits.specs.Fields.{Field, anyValue, exactly}
 use Rattle.headers.specs.Answers.{flagOf}
-use Rattle.writers.specs.declared.gop_header.TimeCode.{TimeCode}
-use Rattle.writers.specs.declared.gop_header.TimeCodeAnswer.{TimeCodeAnswer}
-use Rattle.writers.specs.declared.gop_header.TimeCodeAnswer.the-variants.{Code, Refused as NoCode}
-use Rattle.writers.specs.declared.gop_header.NominalRate.{NominalRate}
-use Rattle.writers.specs.declared.gop_header.NominalRate.the-variants.{PicturesPerSecond, Refused}
-use Rattle.writers.specs.declared.gop_header.Mpeg2Gop.{Mpeg2Gop}
+use Rattle.headers.specs.declared.gop_header.TimeCode.{TimeCode}
+use Rattle.headers.specs.declared.gop_header.TimeCodeAnswer.{TimeCodeAnswer}
+use Rattle.headers.specs.declared.gop_header.TimeCodeAnswer.the-variants.{Code, Refused as NoCode}
+use Rattle.headers.specs.declared.gop_header.NominalRate.{NominalRate}
+use Rattle.headers.specs.declared.gop_header.NominalRate.the-variants.{PicturesPerSecond, Refused}
+use Rattle.headers.specs.declared.gop_header.Mpeg2Gop.{Mpeg2Gop}
 
 -- Table 6-11; the writer holds its values to their widths alone (docs/DIFFERENCES.md)
 abbrev pub groupFields : List Field
 groupFields =
-    any 1 ∷  -- 0 drop_frame_flag
-    any 5 ∷  -- 1 time_code_hours
-    any 6 ∷  -- 2 time_code_minutes
+    anyValue 1 ∷  -- 0 drop_frame_flag
+    anyValue 5 ∷  -- 1 time_code_hours
+    anyValue 6 ∷  -- 2 time_code_minutes
     exactly 1 1 ∷  -- 3 marker_bit
-    any 6 ∷  -- 4 time_code_seconds
-    any 6 ∷  -- 5 time_code_pictures
-    any 1 ∷  -- 6 closed_gop
-    any 1 ∷ []  -- 7 broken_link
+    anyValue 6 ∷  -- 4 time_code_seconds
+    anyValue 6 ∷  -- 5 time_code_pictures
+    anyValue 1 ∷  -- 6 closed_gop
+    anyValue 1 ∷ []  -- 7 broken_link
 
 unfoldable pub groupValues : Mpeg2Gop → List ℕ
 groupValues g =

@@ -1,8 +1,8 @@
 use borrow.Author.Needs.{needs}
 use native.Mathlib.Omega.{arith}
-use Rattle.writers.proofs.GopHeader.{rate-low, rate-high, rate-is}
-use Rattle.writers.proofs.gop_header.nominal_pictures_per_second.Statement.{statement}
-use Rattle.writers.proofs.gop_header.nominal_pictures_per_second.Tie as tie
+use Rattle.headers.proofs.GroupHeader.{rate-low, rate-high, rate-is}
+use Rattle.headers.proofs.gop_header.nominal_pictures_per_second.Statement.{statement}
+use Rattle.headers.proofs.gop_header.nominal_pictures_per_second.Tie as tie
 
 returns : tie.Need-returns
 returns c = rate-low _ (omega arith)
