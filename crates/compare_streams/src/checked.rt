@@ -1,8 +1,9 @@
 // Kinds 17 and 18: what the check answers to a stream, as oracle/FORMAT.md lays it out: at the start of out, its length
 // returned, 0 where s is malformed.
-use crate::put::put;
-use crate::put::put64;
-use crate::take::number16;
+use cases::put::put;
+use cases::put::put_pattern;
+use cases::put::put64;
+use cases::take::number16;
 use verify::VbvRefusal;
 use verify::VbvStandard;
 use verify::VbvStreamReport;
@@ -20,17 +21,6 @@ pub(crate) fn check(s: &[u8], standard: VbvStandard, out: &mut [u8]) -> usize {
     let verified = verify::verify_cbr_stream(&s[2..], standard, &mut out[41..end]);
     put_verified(out, verified);
     end
-}
-
-// What the record part holds before the check.
-fn put_pattern(out: &mut [u8], at: usize, count: u16) -> usize {
-    let mut next = at;
-    let mut i: u16 = 0;
-    while i < count {
-        next = put(out, next, (i % 251) as u8);
-        i += 1;
-    }
-    next
 }
 
 fn put_verified(out: &mut [u8], verified: VbvVerified) -> usize {

@@ -1,13 +1,14 @@
 // Kinds 14 to 16: what the buffer model answers, as oracle/FORMAT.md lays it out. Each function of a kind puts it at the
 // start of out and answers its length, 0 where s is malformed.
-use crate::put::put;
-use crate::put::put_bytes;
-use crate::put::put64;
-use crate::take::byte;
-use crate::take::number16;
-use crate::take::number64;
+use cases::model::interval;
+use cases::model::put_model;
+use cases::put::put;
+use cases::put::put_bytes;
+use cases::put::put64;
+use cases::take::byte;
+use cases::take::number16;
+use cases::take::number64;
 use vbv::FrameRate;
-use vbv::RemovalInterval;
 use vbv::VbvBits;
 use vbv::VbvCbrModel;
 use vbv::VbvDelay;
@@ -118,13 +119,6 @@ fn call(out: &mut [u8], at: usize, c: &[u8], model: VbvCbrModel) -> Called {
     }
 }
 
-fn interval(code: u16) -> RemovalInterval {
-    if code == 0 {
-        return RemovalInterval::Frame;
-    }
-    RemovalInterval::Field
-}
-
 fn put_started(out: &mut [u8], at: usize, before: VbvCbrModel, started: VbvModel) -> Called {
     match started {
         VbvModel::Refused(e) => Called {
@@ -133,7 +127,7 @@ fn put_started(out: &mut [u8], at: usize, before: VbvCbrModel, started: VbvModel
         },
         VbvModel::Model(model) => Called {
             model,
-            next: put_model(out, at, model),
+            next: put_done(out, at, model),
         },
     }
 }
@@ -150,17 +144,14 @@ fn put_removed(out: &mut [u8], at: usize, before: VbvCbrModel, removed: VbvRemov
         },
         VbvRemoval::Model(model) => Called {
             model,
-            next: put_model(out, at, model),
+            next: put_done(out, at, model),
         },
     }
 }
 
-fn put_model(out: &mut [u8], at: usize, m: VbvCbrModel) -> usize {
-    let whole = put(out, at, 0);
-    let rest = put64(out, whole, m.whole);
-    let previous = put64(out, rest, m.rest);
-    let removed = put64(out, previous, m.prev_end_bits);
-    put64(out, removed, m.removed)
+fn put_done(out: &mut [u8], at: usize, model: VbvCbrModel) -> usize {
+    let next = put(out, at, 0);
+    put_model(out, next, model)
 }
 
 fn put_violation(out: &mut [u8], at: usize, v: VbvViolation) -> usize {
