@@ -123,7 +123,7 @@ pub fn add_one(counts: &mut [u64], at: usize) {
     }
 }
 
-fn get(counts: &[u64], at: usize) -> u64 {
+pub fn get(counts: &[u64], at: usize) -> u64 {
     if at < counts.len() {
         return counts[at];
     }
@@ -169,9 +169,9 @@ fn report_kind(kind: usize, all: u64, differ: u64) {
     }
 }
 
-pub fn print(text: &[u8], n: u64) {
+pub fn print(text: &[u8], n: u64) -> bool {
     io::write_all(STDOUT_FILENO, text);
-    io::print_decimal(STDOUT_FILENO, n);
+    io::print_decimal(STDOUT_FILENO, n)
 }
 
 pub fn end_line() {

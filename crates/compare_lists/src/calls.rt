@@ -1,12 +1,14 @@
 // What the writer answers to a list of calls, as oracle/FORMAT.md lays it out (kind 19).
-use crate::add_one;
-use crate::put::put;
-use crate::put::put_pattern;
-use crate::put::put64;
-use crate::take::byte;
-use crate::take::number16;
-use crate::take::number32;
-use crate::take::number64;
+use cases::add_one;
+use cases::model::interval;
+use cases::model::put_model;
+use cases::put::put;
+use cases::put::put_pattern;
+use cases::put::put64;
+use cases::take::byte;
+use cases::take::number16;
+use cases::take::number32;
+use cases::take::number64;
 use layers::PictureKind;
 use rate_control::CbrAnswer;
 use rate_control::CbrConfig;
@@ -17,6 +19,14 @@ use rate_control::CbrWriter;
 use rate_control::Pending;
 use vbv::RemovalInterval;
 use vbv::VbvCbrModel;
+
+// The numbers of answers that are no refusals, beside 0 of a placed picture.
+pub(crate) const SET: u8 = 129;
+pub(crate) const AGAIN: u8 = 130;
+pub(crate) const WITHDRAWN: u8 = 131;
+
+// The number of no answer: bytes or room are missing.
+pub(crate) const MISSING: u8 = 132;
 
 // The writer after a call, the place of the next call, the place after the answer, and the answer's number.
 struct Called {
@@ -44,7 +54,7 @@ struct Told {
 }
 
 // The answer to a list, at the start of out: its length. Each call is counted by its answer's number.
-pub(crate) fn list(s: &[u8], out: &mut [u8], counts: &mut [u64]) -> usize {
+pub(crate) fn list(s: &[u8], out: &mut [u8], given: &mut [u64]) -> usize {
     let created = CbrWriter::create(CbrConfig {
         bit_rate_value: number32(s, 0),
         vbv_buffer_size_value: number16(s, 4),
@@ -57,14 +67,14 @@ pub(crate) fn list(s: &[u8], out: &mut [u8], counts: &mut [u64]) -> usize {
     match answer {
         CbrCreation::Refused(e) => {
             let number = e.number();
-            add_one(counts, number as usize);
+            add_one(given, number as usize);
             put(out, 0, number)
         }
         CbrCreation::Created => {
             let writer = created.writer;
             let targets = put(out, 0, 0);
             let at = put_targets(out, targets, writer);
-            put_calls(s, writer, out, at, counts)
+            put_calls(s, writer, out, at, given)
         }
     }
 }
@@ -81,7 +91,7 @@ fn put_calls(
     writer: CbrWriter,
     out: &mut [u8],
     from: usize,
-    counts: &mut [u64],
+    given: &mut [u64],
 ) -> usize {
     let mut now = writer;
     let mut at: usize = 11;
@@ -89,7 +99,7 @@ fn put_calls(
     let mut left = byte(s, 10);
     while left > 0 {
         let called = call(s, at, now, out, next);
-        add_one(counts, called.number as usize);
+        add_one(given, called.number as usize);
         now = called.writer;
         at = called.at;
         next = called.next;
@@ -104,7 +114,7 @@ fn call(s: &[u8], at: usize, writer: CbrWriter, out: &mut [u8], next: usize) -> 
         writer,
         at,
         next,
-        number: 32,
+        number: MISSING,
     };
     if s.len() < at || out.len() < next {
         return nothing;
@@ -140,7 +150,7 @@ fn read_head(c: &[u8]) -> Head {
     Head {
         which: byte(c, 0),
         kind: kind(byte(c, 1)),
-        interval: interval(byte(c, 2)),
+        interval: interval(byte(c, 2) as u16),
         last: byte(c, 3) == 1,
         headers: number16(c, 4),
         layer: number16(c, 6),
@@ -156,13 +166,6 @@ fn kind(code: u8) -> PictureKind {
     }
 }
 
-fn interval(code: u8) -> RemovalInterval {
-    if code == 0 {
-        return RemovalInterval::Frame;
-    }
-    RemovalInterval::Field
-}
-
 fn offer(
     h: Head,
     headers: &[u8],
@@ -176,7 +179,7 @@ fn offer(
         writer,
         at,
         next,
-        number: 32,
+        number: MISSING,
     };
     let part = h.part as usize;
     if out.len() < next {
@@ -208,7 +211,7 @@ fn withdraw(writer: CbrWriter, at: usize, out: &mut [u8], next: usize) -> Called
     let after = withdrawn.writer;
     let answer = withdrawn.answer;
     let number = match answer {
-        CbrWithdrawal::Withdrawn => 31,
+        CbrWithdrawal::Withdrawn => WITHDRAWN,
         CbrWithdrawal::Refused(e) => e.number(),
     };
     let told = Told {
@@ -246,14 +249,14 @@ fn set(writer: CbrWriter, far: &[u8], at: usize, out: &mut [u8], next: usize) ->
         finished: writer.finished,
     };
     let told = Told {
-        number: 29,
+        number: SET,
         words: [0, 0, 0, 0],
     };
     Called {
         writer: after,
         at,
         next: put_told(out, next, told, after),
-        number: 29,
+        number: SET,
     }
 }
 
@@ -269,7 +272,7 @@ fn in_words(answer: CbrAnswer) -> Told {
             words: [q as u64, vbv_delay as u64, bytes, stuffing_bytes],
         },
         CbrAnswer::Again(q) => Told {
-            number: 30,
+            number: AGAIN,
             words: [q as u64, 0, 0, 0],
         },
         CbrAnswer::Refused(e) => refused(e),
@@ -297,11 +300,12 @@ fn put_told(out: &mut [u8], at: usize, told: Told, writer: CbrWriter) -> usize {
 // The state but for its parameters and targets.
 fn put_writer(out: &mut [u8], at: usize, w: CbrWriter) -> usize {
     let waiting = w.pending;
+    let model = w.model;
     let pending = put_quantisers(out, at, w);
     let finished = put_pending(out, pending, waiting);
-    let stuffing = put(out, finished, flag(w.finished));
-    let model = put64(out, stuffing, w.stuffing_bytes);
-    put_model(out, model, w)
+    let stuffing = put(out, finished, w.finished as u8);
+    let next = put64(out, stuffing, w.stuffing_bytes);
+    put_model(out, next, model)
 }
 
 fn put_quantisers(out: &mut [u8], at: usize, w: CbrWriter) -> usize {
@@ -309,14 +313,6 @@ fn put_quantisers(out: &mut [u8], at: usize, w: CbrWriter) -> usize {
     let p = put(out, at, q[0]);
     let b = put(out, p, q[1]);
     put(out, b, q[2])
-}
-
-fn put_model(out: &mut [u8], at: usize, w: CbrWriter) -> usize {
-    let model = w.model;
-    let rest = put64(out, at, model.whole);
-    let previous = put64(out, rest, model.rest);
-    let removed = put64(out, previous, model.prev_end_bits);
-    put64(out, removed, model.removed)
 }
 
 // 0, or the kind's code and 1; and the quantiser.
@@ -339,11 +335,4 @@ fn code(kind: PictureKind) -> u8 {
         PictureKind::P => 2,
         PictureKind::B => 3,
     }
-}
-
-fn flag(set: bool) -> u8 {
-    if set {
-        return 1;
-    }
-    0
 }

@@ -9,10 +9,10 @@ use Rattle.compare_lists.proofs.main.Statement.{statement}
 use Rattle.compare_lists.proofs.main.Tie as tie
 
 abbrev Inv-loop : tie.InvT-loop
-Inv-loop buf₀ out₀ counts₀ case₀ buf out counts case = (length buf ≡ 65536) × (length out ≡ 65536) × (length counts ≡ 40) × (case .input ≤ length buf)
+Inv-loop buf₀ out₀ counts₀ given₀ case₀ buf out counts given case = (length buf ≡ 65536) × (length out ≡ 65536) × (length counts ≡ 40) × (length given ≡ 132) × (case .input ≤ length buf)
 
 abbrev μ-loop : tie.MeasureT-loop
-μ-loop buf₀ out₀ counts₀ case₀ buf out counts case = case .left
+μ-loop buf₀ out₀ counts₀ given₀ case₀ buf out counts given case = case .left
 
 large-buffer-requires : tie.Need-large-buffer-requires Inv-loop μ-loop
 large-buffer-requires c κs = search needs
@@ -44,6 +44,9 @@ part-answer-end c = search needs
 slice-aggregate-answer : tie.Need-slice-aggregate-answer Inv-loop μ-loop
 slice-aggregate-answer c = search needs
 
+slice-aggregate-answer-2 : tie.Need-slice-aggregate-answer-2 Inv-loop μ-loop
+slice-aggregate-answer-2 c = search needs
+
 answer-requires : tie.Need-answer-requires Inv-loop μ-loop
 answer-requires c κs = search needs
 
@@ -64,6 +67,12 @@ loop-less c = search needs
 
 loop-again : tie.Need-loop-again Inv-loop μ-loop
 loop-again c = search needs
+
+slice-aggregate-report-numbers : tie.Need-slice-aggregate-report-numbers Inv-loop μ-loop
+slice-aggregate-report-numbers c = search needs
+
+report-numbers-requires : tie.Need-report-numbers-requires Inv-loop μ-loop
+report-numbers-requires c κs = search needs
 
 slice-aggregate-report : tie.Need-slice-aggregate-report Inv-loop μ-loop
 slice-aggregate-report c = search needs
@@ -90,6 +99,7 @@ main-spec =
     part-answer-start
     part-answer-end
     slice-aggregate-answer
+    slice-aggregate-answer-2
     answer-requires
     slice-aggregate-next
     slice-aggregate-next-2
@@ -97,6 +107,8 @@ main-spec =
     next-requires
     loop-less
     loop-again
+    slice-aggregate-report-numbers
+    report-numbers-requires
     slice-aggregate-report
     report-requires
     returns)

@@ -1,25 +1,24 @@
--- `report_numbers` is safe and ends: the measure is the numbers that are left.
+-- `report_numbers` is safe and ends: the measure is the numbers that are left, and nothing has to hold from turn to turn.
 -- Assumes nothing.
 use borrow.Author.Needs.{needs}
 use Prim.Native.Nat.{_-_}
-use lib.ListN.{length}
 use Rattle.compare_lists.proofs.report_numbers.Statement.{statement}
 use Rattle.compare_lists.proofs.report_numbers.Tie as tie
 
 abbrev Inv-loop : tie.InvT-loop
-Inv-loop counts number₀ number = Unit {0}
+Inv-loop given number₀ number = Unit {0}
 
 abbrev μ-loop : tie.MeasureT-loop
-μ-loop counts number₀ number = length counts - number
+μ-loop given number₀ number = 132 - number
 
 loop-holds : tie.Need-loop-holds Inv-loop μ-loop
 loop-holds c = search needs
 
-mul-report-number : tie.Need-mul-report-number Inv-loop μ-loop
-mul-report-number c = search needs
+cast-get : tie.Need-cast-get Inv-loop μ-loop
+cast-get c = search needs
 
-shared-slice-read-report-number : tie.Need-shared-slice-read-report-number Inv-loop μ-loop
-shared-slice-read-report-number c = search needs
+get-requires : tie.Need-get-requires Inv-loop μ-loop
+get-requires c κs = search needs
 
 report-number-requires : tie.Need-report-number-requires Inv-loop μ-loop
 report-number-requires c κs = search needs
@@ -43,8 +42,8 @@ report-numbers-spec =
     Inv-loop
     μ-loop
     loop-holds
-    mul-report-number
-    shared-slice-read-report-number
+    cast-get
+    get-requires
     report-number-requires
     add-number
     loop-less

@@ -7,10 +7,10 @@ use Rattle.compare_lists.proofs.calls.put_calls.Statement.{statement}
 use Rattle.compare_lists.proofs.calls.put_calls.Tie as tie
 
 abbrev Inv-loop : tie.InvT-loop
-Inv-loop s out₀ from counts₀ now₀ at₀ next₀ left₀ out counts now at next left = (length out ≡ length out₀) × (length counts ≡ length counts₀)
+Inv-loop s out₀ from given₀ now₀ at₀ next₀ left₀ out given now at next left = (length out ≡ length out₀) × (length given ≡ length given₀)
 
 abbrev μ-loop : tie.MeasureT-loop
-μ-loop s out₀ from counts₀ now₀ at₀ next₀ left₀ out counts now at next left = left
+μ-loop s out₀ from given₀ now₀ at₀ next₀ left₀ out given now at next left = left
 
 byte-requires : tie.Need-byte-requires Inv-loop μ-loop
 byte-requires c κs = search needs
