@@ -35,7 +35,7 @@ pub const KINDS: [(&str, &[u8]); 19] = [
     ("patch_vbv_delay", &[20]),
     ("verify_cbr_stream, MPEG-1", &[1, 2, 3, 4, 5, 6, 7, 8, 9, 10, 11, 12, 15]),
     ("verify_cbr_stream, MPEG-2", &[1, 2, 3, 4, 5, 6, 7, 8, 9, 10, 11, 12, 15]),
-    ("CbrWriter", &[6, 7, 9, 12, 14, 17, 18, 19, 20, 21, 22, 29, 30, 31, 32, 33, 34, 35]),
+    ("CbrWriter", &[6, 7, 9, 12, 14, 17, 18, 19, 20, 21, 22, 129, 130, 131, 132, 133, 134, 135]),
 ];
 
 /// The bytes of an answer, and what was met on the way to them: 0, or a refusal with its reason.

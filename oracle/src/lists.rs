@@ -8,13 +8,13 @@ use original::rate_control::OracleWriter;
 use original::vbv::{VbvStandard, verify_cbr_stream};
 
 /// Answers that are no refusals, and what else is counted.
-const SET: u8 = 29;
-const AGAIN: u8 = 30;
-const WITHDRAWN: u8 = 31;
-const EMITTED: u8 = 32;
-const NOT_EMITTED: u8 = 33;
-const CHECKED: u8 = 34;
-const FINISHED: u8 = 35;
+const SET: u8 = 129;
+const AGAIN: u8 = 130;
+const WITHDRAWN: u8 = 131;
+const EMITTED: u8 = 132;
+const NOT_EMITTED: u8 = 133;
+const CHECKED: u8 = 134;
+const FINISHED: u8 = 135;
 
 /// What the answers are called.
 const REASONS: [(u8, &str); 19] = [

@@ -77,7 +77,7 @@ impl Cases {
             for &number in refusals {
                 for ((_, _, reason), n) in of(number) {
                     match number {
-                        29.. => eprintln!("    {n} {reason}"),
+                        129.. => eprintln!("    {n} {reason}"),
                         _ => eprintln!("    {n} refused {number}: {reason}"),
                     }
                 }

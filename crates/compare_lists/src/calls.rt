@@ -22,7 +22,9 @@ use vbv::VbvCbrModel;
 
 // The numbers of answers that are no refusals, beside 0 of a placed picture.
 pub(crate) const SET: u8 = 129;
+
 pub(crate) const AGAIN: u8 = 130;
+
 pub(crate) const WITHDRAWN: u8 = 131;
 
 // The number of no answer: bytes or room are missing.
@@ -86,13 +88,7 @@ fn put_targets(out: &mut [u8], at: usize, writer: CbrWriter) -> usize {
     put64(out, b, targets[2])
 }
 
-fn put_calls(
-    s: &[u8],
-    writer: CbrWriter,
-    out: &mut [u8],
-    from: usize,
-    given: &mut [u64],
-) -> usize {
+fn put_calls(s: &[u8], writer: CbrWriter, out: &mut [u8], from: usize, given: &mut [u64]) -> usize {
     let mut now = writer;
     let mut at: usize = 11;
     let mut next = from;

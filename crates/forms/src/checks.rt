@@ -4,6 +4,8 @@ use crate::bridge::answer;
 use crate::bridge::places;
 use crate::tally::Tally;
 use crate::tally::counted;
+use cases::put::put;
+use cases::put::put64;
 use verify::VbvPictureRecord;
 use verify::VbvStandard;
 use verify::VbvVerified;
@@ -20,29 +22,6 @@ fn changed(n: usize) -> [u8; 80] {
         stream[i] = (n % 256) as u8;
     }
     stream
-}
-
-fn put(out: &mut [u8], at: usize, x: u8) -> usize {
-    if at < out.len() {
-        out[at] = x;
-        return at + 1;
-    }
-    at
-}
-
-fn put16(out: &mut [u8], at: usize, x: u16) -> usize {
-    let next = put(out, at, (x % 256) as u8);
-    put(out, next, (x / 256) as u8)
-}
-
-fn put32(out: &mut [u8], at: usize, x: u32) -> usize {
-    let next = put16(out, at, (x % 65536) as u16);
-    put16(out, next, (x / 65536) as u16)
-}
-
-fn put64(out: &mut [u8], at: usize, x: u64) -> usize {
-    let next = put32(out, at, (x % 0x1_0000_0000) as u32);
-    put32(out, next, (x / 0x1_0000_0000) as u32)
 }
 
 fn put_record(out: &mut [u8], at: usize, record: VbvPictureRecord) -> usize {
@@ -76,8 +55,8 @@ fn put_answer(out: &mut [u8], answer: VbvVerified) {
             let refusal = error.refusal();
             let picture = put(out, 0, refusal.number);
             let coded = put64(out, picture, refusal.picture);
-            let expected = put16(out, coded, refusal.coded);
-            put16(out, expected, refusal.expected);
+            let expected = put64(out, coded, refusal.coded as u64);
+            put64(out, expected, refusal.expected as u64);
         }
     }
 }
