@@ -1,9 +1,9 @@
-// What the programs share that compare our answers with the original's (oracle/FORMAT.md): the cases on standard input, read
-// one by one, each answer compared and counted, and the counts printed. A program's loop is
+// What the programs share that compare our answers with the original's (oracle/FORMAT.md): the cases on standard input are
+// read one by one, each answer is compared and counted, and the counts are printed. A program works the answers out:
 //     let mut case = cases::first(..);
 //     while 0 < case.left { .. case = cases::next(case, ..); }
-// and works each answer out. Nothing is promised but what this loop rests on: what the answers are is proved of the functions
-// that give them.
+// No contract can say what is read or printed. Promised is what this loop rests on, that the functions are safe, and that
+// they end.
 pub mod model; // the buffer model in a case
 pub mod put; // an answer's bytes
 pub mod take; // an input's numbers
@@ -17,8 +17,8 @@ use libc::STDOUT_FILENO;
 // The kinds of cases, and kind 0 for those that are malformed.
 const KINDS: usize = 20;
 
-// How many counts there are: of each kind its cases, and behind these of each kind those that differ.
-pub const COUNTS: usize = 40;
+// How many counts there are: of each kind its cases, and after these of each kind those that differ.
+pub const COUNTS: usize = 2 * KINDS;
 
 // A case at the start of a buffer: its input, and from there to `end` its answer. A proved loop has to end, and nothing says
 // that the standard input does: `left` is counted down from a number that no run uses up, and is 0 where no case follows.
@@ -29,7 +29,7 @@ pub struct Case {
     pub left: u64,
 }
 
-// The first case, read into buf.
+// The first case, read into buf. A case that is cut, or too long for buf, is malformed, and the last.
 pub fn first(buf: &mut [u8], counts: &mut [u64]) -> Case
     ensures { λ r. ⌜ r .input ≤ length (now (buf .exit)) ⌝ }
 {
@@ -74,7 +74,6 @@ fn read(left: u64, buf: &mut [u8], counts: &mut [u64]) -> Case
     no_case(counts, true)
 }
 
-// The last case is malformed where it is cut or too long for its buffer.
 fn no_case(counts: &mut [u64], malformed: bool) -> Case
     ensures { λ r. ⌜ (r .left ≡ 0) × (r .input ≡ 0) ⌝ }
 {
@@ -90,14 +89,13 @@ fn no_case(counts: &mut [u64], malformed: bool) -> Case
 }
 
 // Whether there are n bytes more, which are read into buf.
-fn fill(buf: &mut [u8], n: usize) -> bool {
-    if buf.len() < n {
-        return false;
-    }
+fn fill(buf: &mut [u8], n: usize) -> bool
+    requires { ⌜ n ≤ length (now buf) ⌝ }
+{
     io::read_full(STDIN_FILENO, &mut buf[0..n]) == n
 }
 
-// Counts a case, and prints the first ten that differ.
+// Counts a case by its kind, a malformed one as kind 0, and prints the first ten that differ.
 fn count(case: Case, n: usize, buf: &[u8], out: &[u8], counts: &mut [u64]) {
     let kind = case.kind as usize;
     let input = case.input;
@@ -169,6 +167,7 @@ fn report_kind(kind: usize, all: u64, differ: u64) {
     }
 }
 
+// Prints a text and a number; false where that fails, as in `io`.
 pub fn print(text: &[u8], n: u64) -> bool {
     io::write_all(STDOUT_FILENO, text);
     io::print_decimal(STDOUT_FILENO, n)
