@@ -4,7 +4,7 @@
 //     while 0 < case.left { .. case = cases::next(case, ..); }
 // No contract can say what is read or printed. Promised is what this loop rests on, that the functions are safe, and that
 // they end.
-pub mod model; // the buffer model in a case
+mod names; // the kinds' names
 pub mod put; // an answer's bytes
 pub mod take; // an input's numbers
 
@@ -13,6 +13,7 @@ ghost use Prim.Native.Nat.{_-_, _≤_};
 ghost use lib.ListN.{length};
 use libc::STDIN_FILENO;
 use libc::STDOUT_FILENO;
+use names::print_name;
 
 // The kinds of cases, and kind 0 for those that are malformed.
 const KINDS: usize = 20;
@@ -95,23 +96,35 @@ fn fill(buf: &mut [u8], n: usize) -> bool
     io::read_full(STDIN_FILENO, &mut buf[0..n]) == n
 }
 
-// Counts a case by its kind, a malformed one as kind 0, and prints the first ten that differ.
+// Counts a case by its kind, a malformed one as kind 0.
 fn count(case: Case, n: usize, buf: &[u8], out: &[u8], counts: &mut [u64]) {
     let kind = case.kind as usize;
-    let input = case.input;
-    let end = case.end;
-    if n == 0 || out.len() < n || end < input || buf.len() < end || KINDS <= kind {
+    if n == 0 || KINDS <= kind {
         add_one(counts, 0);
         return;
     }
     add_one(counts, kind);
-    if !check::same(&out[0..n], &buf[input..end]) {
+    if differs(case, n, buf, out) {
         add_one(counts, KINDS + kind);
-        if sum(counts, KINDS) <= 10 {
-            print_name(kind);
-            print(b": differs in case ", sum(counts, 0));
-            end_line();
-        }
+        print_difference(kind, counts);
+    }
+}
+
+fn differs(case: Case, n: usize, buf: &[u8], out: &[u8]) -> bool {
+    let input = case.input;
+    let end = case.end;
+    if out.len() < n || buf.len() < end || end < input {
+        return true;
+    }
+    !check::same(&out[0..n], &buf[input..end])
+}
+
+// Only of the first ten.
+fn print_difference(kind: usize, counts: &[u64]) {
+    if sum(counts, KINDS) <= 10 {
+        print_name(kind);
+        print(b": differs in case ", sum(counts, 0));
+        end_line();
     }
 }
 
@@ -175,28 +188,4 @@ pub fn print(text: &[u8], n: u64) -> bool {
 
 pub fn end_line() {
     io::write_all(STDOUT_FILENO, b"\n");
-}
-
-fn print_name(kind: usize) -> bool {
-    match kind {
-        1 => io::write_all(STDOUT_FILENO, b"Mpeg2SequenceHeader::parse"),
-        2 => io::write_all(STDOUT_FILENO, b"Mpeg2SequenceExtension::parse"),
-        3 => io::write_all(STDOUT_FILENO, b"Mpeg2Sequence::from_buf"),
-        4 => io::write_all(STDOUT_FILENO, b"Mpeg2PictureHeader::parse"),
-        5 => io::write_all(STDOUT_FILENO, b"PictureCodingExtension::parse"),
-        6 => io::write_all(STDOUT_FILENO, b"Mpeg2PictureHeader::parse_with_extension"),
-        7 => io::write_all(STDOUT_FILENO, b"picture_header_byte_length"),
-        8 => io::write_all(STDOUT_FILENO, b"write_sequence_header"),
-        9 => io::write_all(STDOUT_FILENO, b"write_sequence_extension"),
-        10 => io::write_all(STDOUT_FILENO, b"write_gop_header"),
-        11 => io::write_all(STDOUT_FILENO, b"TimeCode::from_display_index"),
-        12 => io::write_all(STDOUT_FILENO, b"nominal_pictures_per_second"),
-        13 => io::write_all(STDOUT_FILENO, b"profile_and_level_indication"),
-        14 => io::write_all(STDOUT_FILENO, b"frame_rate_value"),
-        15 => io::write_all(STDOUT_FILENO, b"VbvCbrModel"),
-        16 => io::write_all(STDOUT_FILENO, b"patch_vbv_delay"),
-        17 => io::write_all(STDOUT_FILENO, b"verify_cbr_stream, MPEG-1"),
-        18 => io::write_all(STDOUT_FILENO, b"verify_cbr_stream, MPEG-2"),
-        _ => io::write_all(STDOUT_FILENO, b"CbrWriter"),
-    }
 }

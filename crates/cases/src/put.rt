@@ -33,6 +33,16 @@ pub fn put_numbers(out: &mut [u8], at: usize, numbers: &[u32]) -> usize {
     next
 }
 
+pub fn put_words(out: &mut [u8], at: usize, words: &[u64]) -> usize {
+    let mut next = at;
+    let mut i: usize = 0;
+    while i < words.len() {
+        next = put64(out, next, words[i]);
+        i += 1;
+    }
+    next
+}
+
 pub fn put_bytes(out: &mut [u8], at: usize, bytes: &[u8]) -> usize {
     let mut next = at;
     let mut i: usize = 0;

@@ -12,16 +12,28 @@ pub fn is_set(s: &[u8], at: usize) -> bool {
 }
 
 pub fn number16(s: &[u8], at: usize) -> u16 {
-    (number64(s, at) % 65536) as u16
+    if s.len() <= at {
+        return 0;
+    }
+    let low = byte(s, at);
+    let high = byte(s, at + 1);
+    (low as u16) + 256 * (high as u16)
 }
 
 pub fn number32(s: &[u8], at: usize) -> u32 {
-    (number64(s, at) % 0x1_0000_0000) as u32
+    if s.len() <= at {
+        return 0;
+    }
+    let low = number16(s, at);
+    let high = number16(s, at + 2);
+    (low as u32) + 65536 * (high as u32)
 }
 
 pub fn number64(s: &[u8], at: usize) -> u64 {
-    if s.len() < at {
+    if s.len() <= at {
         return 0;
     }
-    words::word_at(&s[at..], 0)
+    let low = number32(s, at);
+    let high = number32(s, at + 4);
+    (low as u64) + 0x1_0000_0000 * (high as u64)
 }

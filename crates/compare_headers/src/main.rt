@@ -6,19 +6,8 @@ mod written; // kinds 8 to 13
 // The answer of a kind to an input, at the start of out: its length, 0 where the case is malformed.
 fn answer(kind: u8, input: &[u8], out: &mut [u8]) -> usize {
     match kind {
-        1 => parsed::sequence_header(input, out),
-        2 => parsed::sequence_extension(input, out),
-        3 => parsed::sequence(input, out),
-        4 => parsed::picture_header(input, out),
-        5 => parsed::picture_coding_extension(input, out),
-        6 => parsed::picture(input, out),
-        7 => parsed::picture_header_length(input, out),
-        8 => written::write_sequence_header(input, out),
-        9 => written::write_sequence_extension(input, out),
-        10 => written::write_gop_header(input, out),
-        11 => written::time_code(input, out),
-        12 => written::nominal_rate(input, out),
-        13 => written::profile_and_level(input, out),
+        1..=7 => parsed::answer(kind, input, out),
+        8..=13 => written::answer(kind, input, out),
         _ => 0,
     }
 }

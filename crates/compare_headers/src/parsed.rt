@@ -25,7 +25,19 @@ use picture_header::PictureHeaderRead;
 use picture_header::PictureRead;
 use picture_header::PictureStructure;
 
-pub(crate) fn sequence_header(s: &[u8], out: &mut [u8]) -> usize {
+pub(crate) fn answer(kind: u8, s: &[u8], out: &mut [u8]) -> usize {
+    match kind {
+        1 => sequence_header(s, out),
+        2 => sequence_extension(s, out),
+        3 => sequence(s, out),
+        4 => picture_header(s, out),
+        5 => picture_coding_extension(s, out),
+        6 => picture(s, out),
+        _ => picture_header_length(s, out),
+    }
+}
+
+fn sequence_header(s: &[u8], out: &mut [u8]) -> usize {
     let read = Mpeg2SequenceHeader::parse(s);
     let answer = read.answer;
     match answer {
@@ -37,7 +49,7 @@ pub(crate) fn sequence_header(s: &[u8], out: &mut [u8]) -> usize {
     }
 }
 
-pub(crate) fn sequence_extension(s: &[u8], out: &mut [u8]) -> usize {
+fn sequence_extension(s: &[u8], out: &mut [u8]) -> usize {
     let read = Mpeg2SequenceExtension::parse(s);
     match read {
         SequenceExtensionRead::Refused(e) => put(out, 0, e.number()),
@@ -48,7 +60,7 @@ pub(crate) fn sequence_extension(s: &[u8], out: &mut [u8]) -> usize {
     }
 }
 
-pub(crate) fn sequence(s: &[u8], out: &mut [u8]) -> usize {
+fn sequence(s: &[u8], out: &mut [u8]) -> usize {
     let read = Mpeg2Sequence::from_buf(s);
     let answer = read.answer;
     match answer {
@@ -60,7 +72,7 @@ pub(crate) fn sequence(s: &[u8], out: &mut [u8]) -> usize {
     }
 }
 
-pub(crate) fn picture_header(s: &[u8], out: &mut [u8]) -> usize {
+fn picture_header(s: &[u8], out: &mut [u8]) -> usize {
     let read = Mpeg2PictureHeader::parse(s);
     match read {
         PictureHeaderRead::Refused(e) => put(out, 0, e.number()),
@@ -71,7 +83,7 @@ pub(crate) fn picture_header(s: &[u8], out: &mut [u8]) -> usize {
     }
 }
 
-pub(crate) fn picture_coding_extension(s: &[u8], out: &mut [u8]) -> usize {
+fn picture_coding_extension(s: &[u8], out: &mut [u8]) -> usize {
     let read = PictureCodingExtension::parse(s);
     match read {
         PictureCodingExtensionRead::Refused(e) => put(out, 0, e.number()),
@@ -82,7 +94,7 @@ pub(crate) fn picture_coding_extension(s: &[u8], out: &mut [u8]) -> usize {
     }
 }
 
-pub(crate) fn picture(s: &[u8], out: &mut [u8]) -> usize {
+fn picture(s: &[u8], out: &mut [u8]) -> usize {
     let read = Mpeg2PictureHeader::parse_with_extension(s);
     match read {
         PictureRead::Refused(e) => put(out, 0, e.number()),
@@ -94,7 +106,7 @@ pub(crate) fn picture(s: &[u8], out: &mut [u8]) -> usize {
     }
 }
 
-pub(crate) fn picture_header_length(s: &[u8], out: &mut [u8]) -> usize {
+fn picture_header_length(s: &[u8], out: &mut [u8]) -> usize {
     let length = picture_header::picture_header_byte_length(s);
     match length {
         HeaderLength::Refused(e) => put(out, 0, e.number()),

@@ -26,7 +26,18 @@ enum OptionChroma {
     None,
 }
 
-pub(crate) fn write_sequence_header(s: &[u8], out: &mut [u8]) -> usize {
+pub(crate) fn answer(kind: u8, s: &[u8], out: &mut [u8]) -> usize {
+    match kind {
+        8 => write_sequence_header(s, out),
+        9 => write_sequence_extension(s, out),
+        10 => write_gop_header(s, out),
+        11 => time_code(s, out),
+        12 => nominal_rate(s, out),
+        _ => profile_and_level(s, out),
+    }
+}
+
+fn write_sequence_header(s: &[u8], out: &mut [u8]) -> usize {
     if s.len() < 142 {
         return 0;
     }
@@ -51,7 +62,7 @@ pub(crate) fn write_sequence_header(s: &[u8], out: &mut [u8]) -> usize {
     end
 }
 
-pub(crate) fn write_sequence_extension(s: &[u8], out: &mut [u8]) -> usize {
+fn write_sequence_extension(s: &[u8], out: &mut [u8]) -> usize {
     if s.len() < 2 {
         return 0;
     }
@@ -74,7 +85,7 @@ pub(crate) fn write_sequence_extension(s: &[u8], out: &mut [u8]) -> usize {
     }
 }
 
-pub(crate) fn write_gop_header(s: &[u8], out: &mut [u8]) -> usize {
+fn write_gop_header(s: &[u8], out: &mut [u8]) -> usize {
     if s.len() < 7 {
         return 0;
     }
@@ -99,7 +110,7 @@ pub(crate) fn write_gop_header(s: &[u8], out: &mut [u8]) -> usize {
     end
 }
 
-pub(crate) fn time_code(s: &[u8], out: &mut [u8]) -> usize {
+fn time_code(s: &[u8], out: &mut [u8]) -> usize {
     if s.len() != 9 {
         return 0;
     }
@@ -120,7 +131,7 @@ pub(crate) fn time_code(s: &[u8], out: &mut [u8]) -> usize {
     }
 }
 
-pub(crate) fn nominal_rate(s: &[u8], out: &mut [u8]) -> usize {
+fn nominal_rate(s: &[u8], out: &mut [u8]) -> usize {
     if s.len() != 1 {
         return 0;
     }
@@ -134,7 +145,7 @@ pub(crate) fn nominal_rate(s: &[u8], out: &mut [u8]) -> usize {
     }
 }
 
-pub(crate) fn profile_and_level(s: &[u8], out: &mut [u8]) -> usize {
+fn profile_and_level(s: &[u8], out: &mut [u8]) -> usize {
     if s.len() != 1 {
         return 0;
     }

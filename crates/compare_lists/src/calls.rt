@@ -1,10 +1,9 @@
 // What the writer answers to a list of calls, as oracle/FORMAT.md lays it out (kind 19).
 use cases::add_one;
-use cases::model::interval;
-use cases::model::put_model;
 use cases::put::put;
+use cases::put::put_bytes;
 use cases::put::put_pattern;
-use cases::put::put64;
+use cases::put::put_words;
 use cases::take::byte;
 use cases::take::number16;
 use cases::take::number32;
@@ -74,18 +73,12 @@ pub(crate) fn list(s: &[u8], out: &mut [u8], given: &mut [u64]) -> usize {
         }
         CbrCreation::Created => {
             let writer = created.writer;
-            let targets = put(out, 0, 0);
-            let at = put_targets(out, targets, writer);
+            let targets = writer.target_bits;
+            let next = put(out, 0, 0);
+            let at = put_words(out, next, &targets);
             put_calls(s, writer, out, at, given)
         }
     }
-}
-
-fn put_targets(out: &mut [u8], at: usize, writer: CbrWriter) -> usize {
-    let targets = writer.target_bits;
-    let p = put64(out, at, targets[0]);
-    let b = put64(out, p, targets[1]);
-    put64(out, b, targets[2])
 }
 
 fn put_calls(s: &[u8], writer: CbrWriter, out: &mut [u8], from: usize, given: &mut [u64]) -> usize {
@@ -146,7 +139,7 @@ fn read_head(c: &[u8]) -> Head {
     Head {
         which: byte(c, 0),
         kind: kind(byte(c, 1)),
-        interval: interval(byte(c, 2) as u16),
+        interval: interval(byte(c, 2)),
         last: byte(c, 3) == 1,
         headers: number16(c, 4),
         layer: number16(c, 6),
@@ -160,6 +153,13 @@ fn kind(code: u8) -> PictureKind {
         1 => PictureKind::P,
         _ => PictureKind::B,
     }
+}
+
+fn interval(code: u8) -> RemovalInterval {
+    if code == 0 {
+        return RemovalInterval::Frame;
+    }
+    RemovalInterval::Field
 }
 
 fn offer(
@@ -285,30 +285,27 @@ fn refused(e: CbrError) -> Told {
 
 fn put_told(out: &mut [u8], at: usize, told: Told, writer: CbrWriter) -> usize {
     let words = told.words;
-    let first = put(out, at, told.number);
-    let second = put64(out, first, words[0]);
-    let third = put64(out, second, words[1]);
-    let fourth = put64(out, third, words[2]);
-    let state = put64(out, fourth, words[3]);
+    let next = put(out, at, told.number);
+    let state = put_words(out, next, &words);
     put_writer(out, state, writer)
 }
 
 // The state but for its parameters and targets.
 fn put_writer(out: &mut [u8], at: usize, w: CbrWriter) -> usize {
+    let q = w.q;
     let waiting = w.pending;
     let model = w.model;
-    let pending = put_quantisers(out, at, w);
+    let pending = put_bytes(out, at, &q);
     let finished = put_pending(out, pending, waiting);
-    let stuffing = put(out, finished, w.finished as u8);
-    let next = put64(out, stuffing, w.stuffing_bytes);
-    put_model(out, next, model)
-}
-
-fn put_quantisers(out: &mut [u8], at: usize, w: CbrWriter) -> usize {
-    let q = w.q;
-    let p = put(out, at, q[0]);
-    let b = put(out, p, q[1]);
-    put(out, b, q[2])
+    let next = put(out, finished, w.finished as u8);
+    let words = [
+        w.stuffing_bytes,
+        model.whole,
+        model.rest,
+        model.prev_end_bits,
+        model.removed,
+    ];
+    put_words(out, next, &words)
 }
 
 // 0, or the kind's code and 1; and the quantiser.

@@ -2,7 +2,7 @@
 // returned, 0 where s is malformed.
 use cases::put::put;
 use cases::put::put_pattern;
-use cases::put::put64;
+use cases::put::put_words;
 use cases::take::number16;
 use verify::VbvRefusal;
 use verify::VbvStandard;
@@ -31,19 +31,19 @@ fn put_verified(out: &mut [u8], verified: VbvVerified) -> usize {
 }
 
 fn put_refusal(out: &mut [u8], r: VbvRefusal) -> usize {
-    let picture = put(out, 0, r.number);
-    let coded = put64(out, picture, r.picture);
-    let expected = put64(out, coded, r.coded as u64);
-    let rest = put64(out, expected, r.expected as u64);
-    let last = put64(out, rest, 0);
-    put64(out, last, 0)
+    let at = put(out, 0, r.number);
+    let words = [r.picture, r.coded as u64, r.expected as u64, 0, 0];
+    put_words(out, at, &words)
 }
 
 fn put_report(out: &mut [u8], r: VbvStreamReport) -> usize {
-    let rate = put(out, 0, 0);
-    let buffer = put64(out, rate, r.bit_rate);
-    let pictures = put64(out, buffer, r.buffer_size_bits);
-    let least = put64(out, pictures, r.pictures);
-    let greatest = put64(out, least, r.min_occupancy_after_bits);
-    put64(out, greatest, r.max_occupancy_before_bits)
+    let at = put(out, 0, 0);
+    let words = [
+        r.bit_rate,
+        r.buffer_size_bits,
+        r.pictures,
+        r.min_occupancy_after_bits,
+        r.max_occupancy_before_bits,
+    ];
+    put_words(out, at, &words)
 }

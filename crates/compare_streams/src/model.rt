@@ -1,14 +1,14 @@
 // Kinds 14 to 16: what the buffer model answers, as oracle/FORMAT.md lays it out. Each function of a kind puts it at the
 // start of out and answers its length, 0 where s is malformed.
-use cases::model::interval;
-use cases::model::put_model;
 use cases::put::put;
 use cases::put::put_bytes;
+use cases::put::put_words;
 use cases::put::put64;
 use cases::take::byte;
 use cases::take::number16;
 use cases::take::number64;
 use vbv::FrameRate;
+use vbv::RemovalInterval;
 use vbv::VbvBits;
 use vbv::VbvCbrModel;
 use vbv::VbvDelay;
@@ -33,8 +33,8 @@ pub(crate) fn frame_rate(s: &[u8], out: &mut [u8]) -> usize {
         FrameRate::Refused(e) => put(out, 0, e.number()),
         FrameRate::Rate(frn, frd) => {
             let at = put(out, 0, 0);
-            let next = put64(out, at, frn);
-            put64(out, next, frd)
+            let words = [frn, frd];
+            put_words(out, at, &words)
         }
     }
 }
@@ -119,6 +119,13 @@ fn call(out: &mut [u8], at: usize, c: &[u8], model: VbvCbrModel) -> Called {
     }
 }
 
+fn interval(code: u16) -> RemovalInterval {
+    if code == 0 {
+        return RemovalInterval::Frame;
+    }
+    RemovalInterval::Field
+}
+
 fn put_started(out: &mut [u8], at: usize, before: VbvCbrModel, started: VbvModel) -> Called {
     match started {
         VbvModel::Refused(e) => Called {
@@ -127,7 +134,7 @@ fn put_started(out: &mut [u8], at: usize, before: VbvCbrModel, started: VbvModel
         },
         VbvModel::Model(model) => Called {
             model,
-            next: put_done(out, at, model),
+            next: put_model(out, at, model),
         },
     }
 }
@@ -144,14 +151,15 @@ fn put_removed(out: &mut [u8], at: usize, before: VbvCbrModel, removed: VbvRemov
         },
         VbvRemoval::Model(model) => Called {
             model,
-            next: put_done(out, at, model),
+            next: put_model(out, at, model),
         },
     }
 }
 
-fn put_done(out: &mut [u8], at: usize, model: VbvCbrModel) -> usize {
+fn put_model(out: &mut [u8], at: usize, m: VbvCbrModel) -> usize {
     let next = put(out, at, 0);
-    put_model(out, next, model)
+    let words = [m.whole, m.rest, m.prev_end_bits, m.removed];
+    put_words(out, next, &words)
 }
 
 fn put_violation(out: &mut [u8], at: usize, v: VbvViolation) -> usize {

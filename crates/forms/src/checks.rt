@@ -5,7 +5,7 @@ use crate::bridge::places;
 use crate::tally::Tally;
 use crate::tally::counted;
 use cases::put::put;
-use cases::put::put64;
+use cases::put::put_words;
 use verify::VbvPictureRecord;
 use verify::VbvStandard;
 use verify::VbvVerified;
@@ -25,10 +25,13 @@ fn changed(n: usize) -> [u8; 80] {
 }
 
 fn put_record(out: &mut [u8], at: usize, record: VbvPictureRecord) -> usize {
-    let expected = put64(out, at, record.vbv_delay as u64);
-    let data = put64(out, expected, record.expected_delay as u64);
-    let occupancy = put64(out, data, record.data_bits);
-    put64(out, occupancy, record.occupancy_before_bits)
+    let words = [
+        record.vbv_delay as u64,
+        record.expected_delay as u64,
+        record.data_bits,
+        record.occupancy_before_bits,
+    ];
+    put_words(out, at, &words)
 }
 
 fn put_records(out: &mut [u8], records: [VbvPictureRecord; 4]) {
@@ -45,18 +48,24 @@ fn put_records(out: &mut [u8], records: [VbvPictureRecord; 4]) {
 fn put_answer(out: &mut [u8], answer: VbvVerified) {
     match answer {
         VbvVerified::Report(report) => {
-            let buffer = put64(out, 0, report.bit_rate);
-            let pictures = put64(out, buffer, report.buffer_size_bits);
-            let least = put64(out, pictures, report.pictures);
-            let greatest = put64(out, least, report.min_occupancy_after_bits);
-            put64(out, greatest, report.max_occupancy_before_bits);
+            let words = [
+                report.bit_rate,
+                report.buffer_size_bits,
+                report.pictures,
+                report.min_occupancy_after_bits,
+                report.max_occupancy_before_bits,
+            ];
+            put_words(out, 0, &words);
         }
         VbvVerified::Refused(error) => {
             let refusal = error.refusal();
-            let picture = put(out, 0, refusal.number);
-            let coded = put64(out, picture, refusal.picture);
-            let expected = put64(out, coded, refusal.coded as u64);
-            put64(out, expected, refusal.expected as u64);
+            let at = put(out, 0, refusal.number);
+            let words = [
+                refusal.picture,
+                refusal.coded as u64,
+                refusal.expected as u64,
+            ];
+            put_words(out, at, &words);
         }
     }
 }
