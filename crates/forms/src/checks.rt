@@ -4,6 +4,8 @@ use crate::bridge::answer;
 use crate::bridge::places;
 use crate::tally::Tally;
 use crate::tally::counted;
+use cases::put::put;
+use cases::put::put_words;
 use verify::VbvPictureRecord;
 use verify::VbvStandard;
 use verify::VbvVerified;
@@ -22,34 +24,14 @@ fn changed(n: usize) -> [u8; 80] {
     stream
 }
 
-fn put(out: &mut [u8], at: usize, x: u8) -> usize {
-    if at < out.len() {
-        out[at] = x;
-        return at + 1;
-    }
-    at
-}
-
-fn put16(out: &mut [u8], at: usize, x: u16) -> usize {
-    let next = put(out, at, (x % 256) as u8);
-    put(out, next, (x / 256) as u8)
-}
-
-fn put32(out: &mut [u8], at: usize, x: u32) -> usize {
-    let next = put16(out, at, (x % 65536) as u16);
-    put16(out, next, (x / 65536) as u16)
-}
-
-fn put64(out: &mut [u8], at: usize, x: u64) -> usize {
-    let next = put32(out, at, (x % 0x1_0000_0000) as u32);
-    put32(out, next, (x / 0x1_0000_0000) as u32)
-}
-
 fn put_record(out: &mut [u8], at: usize, record: VbvPictureRecord) -> usize {
-    let expected = put64(out, at, record.vbv_delay as u64);
-    let data = put64(out, expected, record.expected_delay as u64);
-    let occupancy = put64(out, data, record.data_bits);
-    put64(out, occupancy, record.occupancy_before_bits)
+    let words = [
+        record.vbv_delay as u64,
+        record.expected_delay as u64,
+        record.data_bits,
+        record.occupancy_before_bits,
+    ];
+    put_words(out, at, &words)
 }
 
 fn put_records(out: &mut [u8], records: [VbvPictureRecord; 4]) {
@@ -66,18 +48,24 @@ fn put_records(out: &mut [u8], records: [VbvPictureRecord; 4]) {
 fn put_answer(out: &mut [u8], answer: VbvVerified) {
     match answer {
         VbvVerified::Report(report) => {
-            let buffer = put64(out, 0, report.bit_rate);
-            let pictures = put64(out, buffer, report.buffer_size_bits);
-            let least = put64(out, pictures, report.pictures);
-            let greatest = put64(out, least, report.min_occupancy_after_bits);
-            put64(out, greatest, report.max_occupancy_before_bits);
+            let words = [
+                report.bit_rate,
+                report.buffer_size_bits,
+                report.pictures,
+                report.min_occupancy_after_bits,
+                report.max_occupancy_before_bits,
+            ];
+            put_words(out, 0, &words);
         }
         VbvVerified::Refused(error) => {
             let refusal = error.refusal();
-            let picture = put(out, 0, refusal.number);
-            let coded = put64(out, picture, refusal.picture);
-            let expected = put16(out, coded, refusal.coded);
-            put16(out, expected, refusal.expected);
+            let at = put(out, 0, refusal.number);
+            let words = [
+                refusal.picture,
+                refusal.coded as u64,
+                refusal.expected as u64,
+            ];
+            put_words(out, at, &words);
         }
     }
 }

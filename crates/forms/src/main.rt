@@ -4,12 +4,9 @@ mod checks; // streams
 mod steps; // calls of the model
 mod tally; // what is counted
 
-use libc::STDOUT_FILENO;
-
 fn print_count(name: &[u8], n: u64) {
-    io::write_all(STDOUT_FILENO, name);
-    io::print_decimal(STDOUT_FILENO, n);
-    io::write_all(STDOUT_FILENO, b"\n");
+    cases::print(name, n);
+    cases::end_line();
 }
 
 fn main() {

@@ -59,7 +59,7 @@ fn number(answer: VbvStep) -> u64 {
     }
 }
 
-// The model and the tally behind a call.
+// The model and the tally after a call.
 struct Called {
     model: VbvCbrModel,
     tally: Tally,

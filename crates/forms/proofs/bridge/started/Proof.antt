@@ -78,7 +78,7 @@ module _ {M : Type 1} (𝓤 : URA M) (H : Heap 𝓤) (A : Atoms 𝓤) (W : Given
   abbrev mvals : VbvCbrModel → List Val
   mvals = LL.vals T.the-type T′.the-laws
 
-  -- what the callee says of its answer, the model behind the call, and the result with such an answer
+  -- what the callee says of its answer, the model after the call, and the result with such an answer
   abbrev Said : VbvStep → Type 0
   Said r = stepAnswer r ≡ answered (startModel m delay position)
 
