@@ -61,6 +61,12 @@ unfolding pick
 pick-in f true x y = refl
 pick-in f false x y = refl
 
+-- two choices by one test: what holds between their first sides and, where the test fails, between their second ones
+pub pick-alike : {A B : Type 0} (R : A → B → Type 0) (t : Bool) {a b : A} {c d : B} → R a c → (t ≡ false → R b d) → R (pick t a b) (pick t c d)
+unfolding pick
+pick-alike R true e h = e
+pick-alike R false e h = h refl
+
 -- past a test that holds, and past one that does not
 pub yes : {A : Type 0} (t : Bool) (x y : A) {z : A} → t ≡ true → z ≡ x → z ≡ pick t x y
 unfolding pick

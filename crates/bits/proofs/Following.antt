@@ -11,6 +11,10 @@ use Rattle.bits.proofs.Reading.{ParseOutcome, cut, broken, whole}
 pub refused-value : {X : Type 0} {n p c e : ℕ} {x : X} → refused n p c e ≡ value x → ⊥
 refused-value h = clash cc
 
+-- a value is one
+pub same-value : {X : Type 0} {x y : X} → value x ≡ value y → x ≡ y
+same-value e = cc
+
 -- a value comes from values
 pub then-value : {X Y : Type 0} (a : Answer X) {f : X → Answer Y} {y : Y} → andThen a f ≡ value y → (x : X) × (a ≡ value x) × (f x ≡ value y)
 then-value (value x) e = (x, refl, e)

@@ -1,7 +1,7 @@
 -- The ways through the writer's entries.
 -- Assumes nothing.
 use mathlib.Core.Path.{_≡_, refl, sym, ap, _∙_}
-use mathlib.Core.Bool.{Bool, true, false, _&&_, true≢false}
+use mathlib.Core.Bool.{Bool, true, false, _&&_}
 use mathlib.Core.List.{List}
 use Prim.Native.Nat.{ℕ, _≤_, _<_}
 use native.Mathlib.Omega.{arith}
@@ -15,6 +15,7 @@ use Rattle.vbv.specs.declared.RemovalInterval.{RemovalInterval}
 use Rattle.vbv.specs.declared.VbvError.{VbvError}
 use Rattle.bits.specs.Refusals.{plain}
 use Rattle.bits.specs.declared.VbvRefusal.{VbvRefusal}
+use Rattle.bits.proofs.Flags.{clash}
 use Rattle.layers.specs.declared.PictureKind.{PictureKind}
 use Rattle.rate_control.specs.Answers.{offerAnswer, creationAnswer, createdAnswer, withdrawalAnswer, withdrawnAnswer}
 use Rattle.rate_control.specs.Create.{create}
@@ -145,4 +146,4 @@ module _ (s : List ℕ) (x : CbrState) (e : x ≡ stateAt s) where
         let k = holds s x e h in
         let b : modelRefusal v ≡ withdraw (x .writer) = sym (ap (λ y. withdrawalAnswer y (r .writer)) a) ∙ f in
         let d : withdraw (x .writer) ≡ value _ = ap withdraw (k .1) ∙ withdraw-answer (writerAt s) (state-fits s (k .0) .2) in
-        absurd (true≢false cc)
+        absurd (clash cc)

@@ -9,7 +9,7 @@ use native.Mathlib.Nat.{mul-le-mul, div-le-self, div-lt-iff-lt-mul}
 use lib.Dec.{leb}
 use borrow.Author.Tests.{le-leb}
 use Rattle.bits.specs.Bits.{pick}
-use Rattle.bits.proofs.Following.{then-value, refused-value}
+use Rattle.bits.proofs.Following.{then-value, refused-value, same-value}
 use Rattle.bits.specs.Refusals.{value, orElse}
 use Rattle.vbv.specs.Answers.{frameRate, modelAnswer, rateAnswer}
 use Rattle.bits.proofs.Flags.{was-held, both-true}
@@ -203,9 +203,6 @@ pub record Creation (c : CbrConfig) (w : CbrWriter) : Type 0 where
   pub model : VbvCbrModel
   pub model-is : newModel (writerParams c frames) ≡ value model
   pub writer-is : freshWriter c model ≡ w
-
-same-value : {X : Type 0} {x y : X} → value x ≡ value y → x ≡ y
-same-value e = cc
 
 pub creation-found : (c : CbrConfig) (w : CbrWriter) → create c ≡ value w → Creation c w
 unfolding create

@@ -7,6 +7,7 @@ use lib.Dec.{eqb}
 use lib.ListN.{length}
 use Rattle.bits.specs.Bits.{pick}
 use Rattle.bits.specs.Refusals.{Answer, value, refused}
+use Rattle.bits.proofs.Flags.{pick-alike}
 use Rattle.rate_control.specs.Answers.{Given, placed, again, offerRefusal, offerAnswer}
 use Rattle.rate_control.specs.Writer.{asked}
 use Rattle.rate_control.specs.Offer.{Offer, stuffing, delay, placedBytes, withPending, tooLarge, offer, leftBy, left}
@@ -17,7 +18,6 @@ use Rattle.rate_control.specs.declared.CbrError.{CbrError}
 use Rattle.rate_control.specs.declared.CbrError.the-variants.{TooLarge}
 use Rattle.rate_control.specs.declared.CbrAnswer.the-variants.{Again, Refused}
 use Rattle.rate_control.specs.declared.CbrOffered.{CbrOffered}
-use Rattle.rate_control.proofs.Testing.{alike}
 
 module _ (w : CbrWriter) (o : Offer) where
   Same : CbrOffered → Answer Given → Type 0
@@ -37,7 +37,7 @@ module _ (w : CbrWriter) (o : Offer) where
 
   large-same : Same (tooLargeInCode w (o .kind) (asked w (o .kind))) (tooLarge (asked w (o .kind)))
   unfolding tooLargeInCode
-  large-same = alike Same _ largest-same (λ h. again-same _)
+  large-same = pick-alike Same _ largest-same (λ h. again-same _)
 
   placed-same : Same (placedInCode w o (asked w (o .kind))) (value (placed (asked w (o .kind)) (delay w o) (length (placedBytes w o)) (stuffing w o)))
   unfolding Same placedInCode
@@ -46,16 +46,16 @@ module _ (w : CbrWriter) (o : Offer) where
   same : Same (offerInCode w o) (offer w o)
   unfolding offerInCode offer
   same =
-      alike Same _ (refused-same _ refl) λ h12.
-      alike Same _ (refused-same _ refl) λ h17.
-      alike Same _ (refused-same _ refl) λ h18.
-      alike Same _ (refused-same _ refl) λ h20.
-      alike Same _ (refused-same _ refl) λ h14.
-      alike Same _ (refused-same _ refl) λ h7.
-      alike Same _ (refused-same _ refl) λ h9.
-      alike Same _ large-same λ size.
-      alike Same _ (refused-same _ refl) λ h22.
-      alike Same _ (refused-same _ refl) λ h19. placed-same
+      pick-alike Same _ (refused-same _ refl) λ h12.
+      pick-alike Same _ (refused-same _ refl) λ h17.
+      pick-alike Same _ (refused-same _ refl) λ h18.
+      pick-alike Same _ (refused-same _ refl) λ h20.
+      pick-alike Same _ (refused-same _ refl) λ h14.
+      pick-alike Same _ (refused-same _ refl) λ h7.
+      pick-alike Same _ (refused-same _ refl) λ h9.
+      pick-alike Same _ large-same λ size.
+      pick-alike Same _ (refused-same _ refl) λ h22.
+      pick-alike Same _ (refused-same _ refl) λ h19. placed-same
 
   pub answer-is : offerAnswer (offerInCode w o .answer) ≡ offer w o
   unfolding Same

@@ -1,14 +1,14 @@
 -- The ways through an offer: each with its answer, and with what the output part then holds.
 -- Assumes nothing.
 use mathlib.Core.Path.{_≡_, refl, sym, ap, _∙_}
-use mathlib.Core.Bool.{Bool, true, false, not, _||_, true≢false}
+use mathlib.Core.Bool.{Bool, true, false, not, _||_}
 use mathlib.Core.List.{List, [], _++_}
 use Prim.Native.Nat.{ℕ, _+_, _≤_, _<_}
 use native.Mathlib.Omega.{arith}
 use lib.Dec.{leb, ltb, eqb}
 use lib.ListN.{length, replicate}
 use borrow.Author.Tests.{leb-true, lt-ltb, le-ltb, ltb-false, not-false}
-use Rattle.bits.proofs.Flags.{or-right, pick-elim, yes, no, was-no}
+use Rattle.bits.proofs.Flags.{or-right, pick-elim, yes, no, was-no, clash, pick-alike}
 use Rattle.bits.specs.Bits.{pick}
 use Rattle.bits.specs.Answers.{over}
 use Rattle.bits.specs.Refusals.{Answer}
@@ -35,7 +35,7 @@ use Rattle.rate_control.specs.declared.Tested.the-variants.{Refused, Too
 use Rattle.rate_control.proofs.Fitting.{all-fit-get, writer-fits}
 use Rattle.rate_control.proofs.Placing.{placed-size}
 use Rattle.rate_control.proofs.Numbers.{answer-is, writer-is}
-use Rattle.rate_control.proofs.Testing.{alike, placement, measuredFor, measured-is}
+use Rattle.rate_control.proofs.Testing.{placement, measuredFor, measured-is}
 
 -- ---- the tests
 
@@ -105,25 +105,25 @@ module _ (w : CbrWriter) (o : Offer) where
   offer-is : answerTo w o (testedFor w o) ≡ offerInCode w o
   unfolding tested offerInCode measuredFor
   offer-is =
-      alike Gives _ (answer-refused _) λ h12.
-      alike Gives _ (answer-refused _) λ h17.
-      alike Gives _ (answer-refused _) λ h18.
-      alike Gives _ (answer-refused _) λ h20.
+      pick-alike Gives _ (answer-refused _) λ h12.
+      pick-alike Gives _ (answer-refused _) λ h17.
+      pick-alike Gives _ (answer-refused _) λ h18.
+      pick-alike Gives _ (answer-refused _) λ h20.
       ap (answerTo w o) (measured-is w o (not-false _ h12)) ∙
-      (alike Gives _ (answer-refused _) λ h14.
-      alike Gives _ (answer-refused _) λ h7.
-      alike Gives _ (answer-refused _) λ h9.
-      alike Gives _ answer-large λ size.
-      alike Gives _ (answer-refused _) λ h22.
+      (pick-alike Gives _ (answer-refused _) λ h14.
+      pick-alike Gives _ (answer-refused _) λ h7.
+      pick-alike Gives _ (answer-refused _) λ h9.
+      pick-alike Gives _ answer-large λ size.
+      pick-alike Gives _ (answer-refused _) λ h22.
       answer-ready)
 
 -- ---- a picture to place
 
 not-ready : {e : CbrError} {p : Placement} → Refused e ≡ Ready p → ⊥
-not-ready h = true≢false cc
+not-ready h = clash cc
 
 large-ready : {p : Placement} → TooLarge ≡ Ready p → ⊥
-large-ready h = true≢false cc
+large-ready h = clash cc
 
 record Readied (w : CbrWriter) (o : Offer) (p : Placement) : Type 0 where
   fitted : writerFits w ≡ true

@@ -7,7 +7,7 @@ use native.Mathlib.Omega.{arith}
 use lib.Dec.{ltb}
 use lib.ListN.{length}
 use borrow.Author.Tests.{ltb-true, ltb-false, lt-ltb, le-ltb}
-use Rattle.bits.proofs.Flags.{pick-elim, yes, no}
+use Rattle.bits.proofs.Flags.{pick-elim, yes, no, pick-alike}
 use Rattle.bits.specs.Bits.{pick}
 use Rattle.vbv.specs.Annex.{firstDelivered, overflows, beyond, expectedDelay, greatestEnd, leastEnd}
 use Rattle.vbv.specs.Steps.{EndFits, delayOf, bitsOf, removalOf}
@@ -41,13 +41,7 @@ use Rattle.rate_control.proofs.Fitting.{writer-fits}
 use Rattle.rate_control.proofs.Placing.{delivered-later, delivered-first, placed-size}
 use Rattle.rate_control.proofs.Ways.{first-low}
 
--- ---- chains
-
--- two choices by one test: what holds between their first sides and, where the test fails, between their second ones
-pub alike : {A B : Type 0} (R : A → B → Type 0) (t : Bool) {a b : A} {c d : B} → R a c → (t ≡ false → R b d) → R (pick t a b) (pick t c d)
-unfolding pick
-alike R true e h = e
-alike R false e h = h refl
+-- ---- ranges
 
 -- one of two numbers passes 2^48
 either : (a b : ℕ) → farthest < max a b → (ltb farthest a || ltb farthest b) ≡ true
@@ -236,7 +230,7 @@ module _ (w : CbrWriter) (o : Offer) (f : writerFits w ≡ true) (n : VbvCbrMode
     end-told t g =
         let i = o .interval in
         ap (byEnd n x (stuffing w o)) (removal (end w o) (omega (arith, inside, end-same w o)) far ∙ sym (no _ _ _ g refl))
-        ∙ alike (λ (r : VbvRemoval) (j : Tested). byEnd n x (stuffing w o) r ≡ j) _ (end-violated n x (stuffing w o) i _)
+        ∙ pick-alike (λ (r : VbvRemoval) (j : Tested). byEnd n x (stuffing w o) r ≡ j) _ (end-violated n x (stuffing w o) i _)
         (λ h22. end-model n x (stuffing w o) i _ ∙ ready-told near t g)
 
     size-told : beyond p (position w o) (deliveredAt w o) ≡ false
@@ -248,8 +242,8 @@ module _ (w : CbrWriter) (o : Offer) (f : writerFits w ≡ true) (n : VbvCbrMode
         let i = o .interval in
         let z = stuffing w o in
         ap (bySize n x z i) (removal (content w o) inside (omega (arith, end-same w o)))
-        ∙ alike (λ (r : VbvRemoval) (j : Tested). bySize n x z i r ≡ j) _ (size-over n x z i _ _ _)
-        (λ h9. alike (λ (r : VbvRemoval) (j : Tested). bySize n x z i r ≡ j) _ (size-under n x z i _ _ _)
+        ∙ pick-alike (λ (r : VbvRemoval) (j : Tested). bySize n x z i r ≡ j) _ (size-over n x z i _ _ _)
+        (λ h9. pick-alike (λ (r : VbvRemoval) (j : Tested). bySize n x z i r ≡ j) _ (size-under n x z i _ _ _)
         (λ size. size-model n x z i _ ∙ rw (end-same w o) (end-told t h9)))
 
     pub position-told : byMost n x (stuffing w o) (o .interval) (bitsOf (maxEndBits n)) ≡ measuredFor w o
@@ -258,7 +252,7 @@ module _ (w : CbrWriter) (o : Offer) (f : writerFits w ≡ true) (n : VbvCbrMode
         rw most-told
         (most-case n x (stuffing w o) (o .interval) _
         ∙ rw (← beyond-greatest p params-fits (position w o) (deliveredAt w o))
-        (alike (λ (a b : Tested). a ≡ b) _ refl (λ h7. size-told h7) ∙ no _ _ _ (neither (position w o) (end w o) near far) refl))
+        (pick-alike (λ (a b : Tested). a ≡ b) _ refl (λ h7. size-told h7) ∙ no _ _ _ (neither (position w o) (end w o) near far) refl))
 
 -- ---- 14
 

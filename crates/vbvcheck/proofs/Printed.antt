@@ -19,6 +19,7 @@ use Rattle.verify.specs.declared.VbvVerified.the-variants.{Report, Refused}
 use Rattle.verify.specs.declared.VbvVerifyError.{VbvVerifyError}
 use Rattle.verify.specs.declared.VbvStreamReport.{VbvStreamReport}
 use Rattle.bits.proofs.Over.{over-is}
+use Rattle.bits.proofs.Flags.{clash}
 use Rattle.verify.proofs.Storing.{length-records}
 use Rattle.verify.proofs.Bounds.{picture-count, records-small}
 use Rattle.io.specs.Counts.{Counts}
@@ -44,7 +45,7 @@ pictures-fit s places r x old new q h w =
 -- the text of a verdict, by the answer that tells it
 text-refused : (v : Answer Accepted) (e : VbvVerifyError) → refusal e ≡ reported v → refusalText (refusalOf e) ≡ verdictText v
 unfolding verdictText
-text-refused (value a) e h = let z : _≡_ {A = ℕ} 0 1 = cc in absurd (omega arith)
+text-refused (value a) e h = absurd (clash cc)
 text-refused (refused n k c x) e h =
     let a : refusalOf e .number ≡ n = cc in
     let b : refusalOf e .picture ≡ k = cc in
@@ -56,7 +57,7 @@ text-reported : (v : Answer Accepted) (x : VbvStreamReport) → value x ≡ repo
     → reportText x ++ (ascii "delay expected data_bits occupancy_before\n" ++ recordLines (records v)) ≡ verdictText v
 unfolding verdictText
 text-reported (value a) x h = let e : x ≡ reportOf a = cc in rw e
-text-reported (refused n k c y) x h = let z : _≡_ {A = ℕ} 0 1 = cc in absurd (omega arith)
+text-reported (refused n k c y) x h = absurd (clash cc)
 
 module _ (s : List ℕ) (places : ℕ) (h : length s ≤ 65536) (l : places ≡ 1024) (r : VbvVerified) where
   pub printed-refused : (e : VbvVerifyError) → r ≡ Refused e → verifiedAnswer r ≡ reported (verdict Mpeg2 s places) → refusalText (refusalOf e) ≡ printed s
