@@ -153,10 +153,10 @@ pub const BUFFER_UNIT: u64 = 16384;
 pub fn params_of(rate: u32, buffer: u32, frn: u64, frd: u64) -> VbvParams
     ensures { λ r. ⌜ r ≡ paramsOf rate buffer (frn, frd) ⌝ }
 {
-    let units = rate as u64;
+    let rate_units = rate as u64;
     let buffer_units = buffer as u64;
     VbvParams {
-        bit_rate: RATE_UNIT * units,
+        bit_rate: RATE_UNIT * rate_units,
         buffer_size_bits: BUFFER_UNIT * buffer_units,
         frn,
         frd,
