@@ -18,12 +18,12 @@ pub const GROUP_START_CODE: u8 = 0xB8;
 // start_code_prefix (6.2.1), and the four bytes of those that are read or written whole.
 pub const START_CODE_PREFIX: [u8; 3] = *b"\x00\x00\x01";
 
-pub const PICTURE_START: [u8; 4] = [0x00, 0x00, 0x01, PICTURE_START_CODE];
+pub const PICTURE_START: [u8; 4] = *b"\x00\x00\x01\x00";
 
-pub const SEQUENCE_HEADER: [u8; 4] = [0x00, 0x00, 0x01, SEQUENCE_HEADER_CODE];
+pub const SEQUENCE_HEADER: [u8; 4] = *b"\x00\x00\x01\xB3";
 
-pub const EXTENSION_START: [u8; 4] = [0x00, 0x00, 0x01, EXTENSION_START_CODE];
+pub const EXTENSION_START: [u8; 4] = *b"\x00\x00\x01\xB5";
 
-pub const SEQUENCE_END: [u8; 4] = [0x00, 0x00, 0x01, SEQUENCE_END_CODE];
+pub const SEQUENCE_END: [u8; 4] = *b"\x00\x00\x01\xB7";
 
-pub const GROUP_START: [u8; 4] = [0x00, 0x00, 0x01, GROUP_START_CODE];
+pub const GROUP_START: [u8; 4] = *b"\x00\x00\x01\xB8";

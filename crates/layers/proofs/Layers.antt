@@ -33,9 +33,9 @@ use Rattle.picture_header.proofs.Extent.{header-bytes}
 use Rattle.picture_header.proofs.OtherDelay.{withDelay, delayed-type, forward-code, extra-flag}
 use Rattle.vbv.specs.declared.RemovalInterval.{RemovalInterval}
 use Rattle.vbv.specs.declared.RemovalInterval.the-variants.{Frame, Field}
-use Rattle.pictures.proofs.Showing.{facts-are}
+use Rattle.picture_header.proofs.FactLaws.{facts-are}
 use Rattle.pictures.specs.Seen.{isAnchor, isField, factsOf, intervalOf}
-use Rattle.pictures.specs.declared.PictureFacts.{PictureFacts}
+use Rattle.picture_header.specs.declared.PictureFacts.{PictureFacts}
 use Rattle.scan.specs.Codes.{codes, endsPrefix}
 use Rattle.scan.proofs.PictureCodes.{PictureHead}
 use Rattle.layers.specs.declared.PictureKind.{PictureKind}

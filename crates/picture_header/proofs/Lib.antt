@@ -1,3 +1,4 @@
+pub mod FactLaws
 pub mod Following
 pub mod CodingExtension
 pub mod Extent

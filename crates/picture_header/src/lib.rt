@@ -10,6 +10,10 @@ ghost use Rattle.picture_header.specs.CodingExtension.{pictureStructure,
 ghost use Rattle.picture_header.specs.Picture.{picture};
 ghost use Rattle.picture_header.specs.Steps.{behindHeader};
 ghost use Rattle.picture_header.specs.Answers.{extraAnswer, pictureHeaderAnswer, codingAnswer, pictureAnswer, lengthAnswer};
+mod picture_facts; // what the headers tell of how long a picture lasts
+
+pub use crate::picture_facts::facts;
+pub use crate::picture_facts::is_field;
 use bits::Bits;
 use bits::Fields;
 use bits::Outcome;
@@ -100,6 +104,15 @@ pub struct PictureCodingExtension {
     pub chroma_420_type: bool,
     pub progressive_frame: bool,
     pub composite_display_flag: bool,
+}
+
+// What both tell of how long a picture lasts: whether it is an I or P picture, whether a field, repeat_first_field and
+// top_field_first.
+pub struct PictureFacts {
+    pub anchor: bool,
+    pub field: bool,
+    pub repeat: bool,
+    pub top: bool,
 }
 
 pub enum PictureCodingExtensionRead {

@@ -3,3 +3,4 @@ pub mod Showing
 pub mod Order
 pub mod Due
 pub mod Numbering
+pub mod Cases

@@ -1,50 +1,59 @@
 -- The steps of the walk give the pictures of a stream, which lie one after another within it.
 -- Assumes nothing.
-use mathlib.Core.Path.{_≡_, refl, sym, ap, _∙_}
-use Prim.Native.Nat.{ℕ, _+_, _*_, _≤_, _<_}
+use mathlib.Core.Path.{_≡_, refl, sym, ap}
+use Prim.Native.Nat.{ℕ, zero, suc, _+_, _*_, _≤_, _<_}
 use mathlib.Core.List.{List, [], _∷_}
 use mathlib.Core.Bool.{false}
 use native.Mathlib.Omega.{arith}
 use lib.ListN.{length, drop}
 use Rattle.vbv.specs.Model.{farthest}
-use Rattle.bits.specs.Refusals.{Answer, value, refused, andThen}
+use Rattle.bits.specs.Refusals.{Answer, value, refused}
 use Rattle.bits.proofs.Following.{then-value}
 use Rattle.picture_header.specs.PictureHeader.{pictureHeader}
 use Rattle.picture_header.specs.Picture.{picture}
-use Rattle.picture_header.specs.declared.PictureStructure.the-variants.{Frame as FramePicture}
+use Rattle.picture_header.specs.Facts.{factsBy, factsOf}
+use Rattle.picture_header.specs.declared.PictureStructure.the-variants.{Frame}
 use Rattle.picture_header.proofs.PictureHeader.{picture-header-parsed, delay-high}
 use Rattle.picture_header.proofs.Picture.{picture-parsed}
-use Rattle.scan.specs.declared.Next.{Next}
-use Rattle.scan.specs.declared.Next.the-variants.{Picture, Done}
-use Rattle.scan.specs.Pictures.{Pic, pictures, nextPicture}
+use Rattle.scan.specs.Pictures.{Pic, pictures}
 use Rattle.scan.specs.Order as scanned
-use Rattle.scan.specs.Order.{WalkGives, InOrder}
-use Rattle.scan.proofs.Pictures.{walk-gives, in-order}
-use Rattle.pictures.specs.Seen.{shown, factsBy, factsOf, seenOf, seenAt, seenEach, seenPictures, sightAt, nextSeen, nothing, one}
+use Rattle.scan.specs.Order.{InOrder}
+use Rattle.scan.proofs.Pictures.{in-order}
+use Rattle.pictures.specs.Seen.{shown, seenOf, seenAt, seenEach, seenPictures, Sight, nextSeen, nothing, one}
 use Rattle.pictures.specs.Order.{Visits, ended, stopped, went-on, stopped-later, StepsGivePictures, Placed, Rising, last, next, SeenRising}
 use Rattle.pictures.specs.declared.VbvStandard.{VbvStandard}
 use Rattle.pictures.specs.declared.VbvStandard.the-variants.{Mpeg1, Mpeg2}
-use Rattle.pictures.specs.declared.PictureFacts.{PictureFacts}
+use Rattle.picture_header.specs.declared.PictureFacts.{PictureFacts}
 use Rattle.pictures.specs.declared.SeenPicture.{SeenPicture}
-use Rattle.pictures.proofs.Seeing.{next-is}
+use Rattle.pictures.proofs.Seeing.{seenFrom, seen-from-first, before, Onward, no-more, unread, one-more, onward}
 
 -- ---- the steps
 
 module _ (standard : VbvStandard) (s : List ℕ) (short : 8 * length s ≤ farthest) where
-  visits : {i : ℕ} {qs : List Pic} → WalkGives s i qs → Visits standard s i (seenEach standard s qs)
-  unfolding seenEach sightAt
-  visits (scanned.done {from = i} h) = ended (next-is standard s short i ∙ ap (sightAt standard s) h)
-  visits (scanned.step {from = i} {start = a} {end = b} {next = k} {qs = qs} h t) = go (seenAt standard s (record { start = a; end = b })) (next-is standard s short i ∙ ap (sightAt standard s) h) (seenEach standard s qs) (visits t)
+  -- a picture, and the steps after it
+  goes-on : {i k : ℕ} {x : SeenPicture} → nextSeen standard s i ≡ value (one x k) → (a : Answer (List SeenPicture)) → Visits standard s k a
+      → Visits standard s i (before x a)
+  goes-on e (refused n j c d) v = stopped-later e v
+  goes-on e (value xs) v = went-on e v
+
+  -- no more steps than bytes
+  visits : (n i : ℕ) → length s ≤ n + i → Visits standard s i (seenFrom standard s i)
+  visits zero i b = go (nextSeen standard s i) refl (onward standard s short i)
     where
-      go : (o : Answer SeenPicture) → nextSeen standard s i ≡ andThen o (λ x. value (one x k)) → (a : Answer (List SeenPicture)) → Visits standard s k a
-          → Visits standard s i (andThen o (λ x. andThen a (λ xs. value (x ∷ xs))))
-      go (refused n j c d) e a v = stopped e
-      go (value x) e (refused n j c d) v = stopped-later e v
-      go (value x) e (value xs) v = went-on e v
+      go : (o : Answer Sight) → nextSeen standard s i ≡ o → Onward standard s i o → Visits standard s i (seenFrom standard s i)
+      go (value nothing) e (no-more h) = rw h (ended e)
+      go (refused m j c d) e (unread h) = rw h (stopped e)
+      go (value (one x k)) e (one-more l m h) = absurd (omega arith)
+  visits (suc n) i b = go (λ k l. visits n k l) (nextSeen standard s i) refl (onward standard s short i)
+    where
+      go : ((k : ℕ) → length s ≤ n + k → Visits standard s k (seenFrom standard s k)) → (o : Answer Sight) → nextSeen standard s i ≡ o → Onward standard s i o
+          → Visits standard s i (seenFrom standard s i)
+      go ih (value nothing) e (no-more h) = rw h (ended e)
+      go ih (refused m j c d) e (unread h) = rw h (stopped e)
+      go ih (value (one x k)) e (one-more l m h) = rw h (goes-on e (seenFrom standard s k) (ih k (omega arith)))
 
 pub steps-give : StepsGivePictures
-unfolding seenPictures
-steps-give standard s short = visits standard s short (walk-gives s)
+steps-give standard s short = rw (seen-from-first standard s) at (visits standard s short (length s) 0 (omega arith))
 
 -- ---- where the pictures lie
 
@@ -53,7 +62,7 @@ shown-small : (standard : VbvStandard) (s : List ℕ) (t : ℕ × PictureFacts) 
 unfolding shown
 shown-small Mpeg1 s t e =
     let a = then-value (pictureHeader s) e in
-    let x : _≡_ {A = ℕ × PictureFacts} (a .0 .«vbv_delay», factsBy (a .0 .«picture_coding_type») FramePicture false false) t = cc in
+    let x : _≡_ {A = ℕ × PictureFacts} (a .0 .«vbv_delay», factsBy (a .0 .«picture_coding_type») Frame false false) t = cc in
     omega (arith, ap (λ (y : ℕ × PictureFacts). y .0) x, delay-high (picture-header-parsed s (a .0) (a .1)))
 shown-small Mpeg2 s t e =
     let a = then-value (picture s) e in
@@ -84,7 +93,7 @@ module _ (standard : VbvStandard) (s : List ℕ) (short : 8 * length s ≤ farth
       let y : a .0 ∷ c .0 ≡ xs = cc in
       rw (← y)
       (next {previous = 8 * e} {x = a .0} {xs = c .0}
-      (record { position-far = omega arith; grows = omega arith; end-far = omega arith; delay-small = f .2 })
+      (record { begins = omega arith; ends = omega arith; end-near = omega arith; delay-small = f .2 })
       (rw ee (rising o (c .0) (c .1))))
 
 pub seen-rising : SeenRising

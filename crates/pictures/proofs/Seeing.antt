@@ -15,7 +15,7 @@ use Rattle.scan.specs.Pictures.{Pic, pictures, nextPicture}
 use Rattle.scan.proofs.Pictures.{picturesAt, PictureStep, picture-step, pictures-done, pictures-walk}
 use Rattle.pictures.specs.Seen.{shown, seenOf, seenAt, seenEach, seenPictures, Sight, nothing, one, sightAt, nextSeen}
 use Rattle.pictures.specs.declared.VbvStandard.{VbvStandard}
-use Rattle.pictures.specs.declared.PictureFacts.{PictureFacts}
+use Rattle.picture_header.specs.declared.PictureFacts.{PictureFacts}
 use Rattle.pictures.specs.declared.SeenPicture.{SeenPicture}
 use Rattle.pictures.specs.declared.NextSeen.{NextSeen}
 use Rattle.pictures.specs.Answers.{seenAnswer}

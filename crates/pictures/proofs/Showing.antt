@@ -1,6 +1,6 @@
 -- What a parsed picture shows, and what a parsed sequence header at byte 0 declares.
 -- Assumes nothing.
-use mathlib.Core.Path.{_≡_, refl}
+use mathlib.Core.Path.{_≡_}
 use Prim.Native.Nat.{ℕ, _*_}
 use mathlib.Core.List.{List, _∷_}
 use Rattle.bits.specs.Refusals.{value}
@@ -16,7 +16,8 @@ use Rattle.scan.specs.Codes.{Code, codes, found}
 use Rattle.scan.specs.Pictures.{skip, notSequence}
 use Rattle.scan.specs.declared.Found.the-variants.{At}
 use Rattle.scan.proofs.Sorts.{sequence-code, skip-stops, found-first}
-use Rattle.pictures.specs.Seen.{isAnchor, isField, factsBy, factsOf, shown}
+use Rattle.pictures.specs.Seen.{shown}
+use Rattle.picture_header.specs.Facts.{factsOf}
 use Rattle.pictures.specs.Sequence.{rated, declaredBy, declaredAt, declared}
 use Rattle.pictures.specs.declared.VbvStandard.the-variants.{Mpeg2}
 
@@ -24,17 +25,6 @@ pub shown-parsed : (s : List ℕ) (h : Mpeg2PictureHeader) (x : PictureCodingExt
     → shown Mpeg2 s ≡ value (h .«vbv_delay», factsOf h x)
 unfolding shown
 shown-parsed s h x e = rw e
-
-pub facts-are : (h : Mpeg2PictureHeader) (x : PictureCodingExtension)
-    → factsOf h x
-    ≡ record {
-      anchor = isAnchor (h .«picture_coding_type»);
-      field = isField (x .«picture_structure»);
-      repeat = x .«repeat_first_field»;
-      top = x .«top_field_first»;
-    }
-unfolding factsOf factsBy
-facts-are h x = refl
 
 module _ (s : List ℕ) (cs : List Code) (c : codes s ≡ record { offset = 0; code = sequenceHeaderCode } ∷ cs) where
   first-sequence : found (skip notSequence (codes s)) ≡ At 0 sequenceHeaderCode

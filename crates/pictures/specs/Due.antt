@@ -22,11 +22,11 @@ pub record Read (standard : VbvStandard) (s : List ℕ) (p : VbvParams) (x : See
 pub data FrontDue (standard : VbvStandard) (s : List ℕ) : Answer Front → Type 0 where
   too-far : farthest < 8 * length s → FrontDue standard s (refused 14 0 0 0)
   undeclared : {n k i j : ℕ} → 8 * length s ≤ farthest → declared standard s ≡ refused n k i j → FrontDue standard s (refused n k i j)
-  unread : {p : VbvParams} {n k i j : ℕ} → 8 * length s ≤ farthest → declared standard s ≡ value p → seenPictures standard s ≡ refused n k i j
+  bad-picture : {p : VbvParams} {n k i j : ℕ} → 8 * length s ≤ farthest → declared standard s ≡ value p → seenPictures standard s ≡ refused n k i j
       → FrontDue standard s (refused n k i j)
   no-picture : {p : VbvParams} → 8 * length s ≤ farthest → declared standard s ≡ value p → seenPictures standard s ≡ value []
       → FrontDue standard s (refused 4 0 0 0)
-  shown : {p : VbvParams} {x : SeenPicture} {xs : List SeenPicture} → Read standard s p x xs
+  all-read : {p : VbvParams} {x : SeenPicture} {xs : List SeenPicture} → Read standard s p x xs
       → FrontDue standard s (value (record { params = p; first = x; others = xs }))
 
 -- what is owed

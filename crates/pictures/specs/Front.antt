@@ -22,9 +22,14 @@ unfoldable pub withFirst : VbvParams → List SeenPicture → Answer Front
 withFirst p [] = refused 4 0 0 0
 withFirst p (x ∷ xs) = value (record { params = p; first = x; others = xs })
 
+-- before the pictures: 14, 3, sequence header, extension, 6
+unfoldable pub opening : VbvStandard → List ℕ → Answer VbvParams
+opening standard s =
+    refuse 14 (ltb farthest (8 * length s))
+    (declared standard s)
+
 unfoldable pub front : VbvStandard → List ℕ → Answer Front
 front standard s =
-    refuse 14 (ltb farthest (8 * length s))
-    (andThen (declared standard s) (λ p.
+    andThen (opening standard s) (λ p.
     andThen (seenPictures standard s) (λ xs.
-    withFirst p xs)))
+    withFirst p xs))

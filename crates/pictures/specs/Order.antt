@@ -1,6 +1,6 @@
 -- What is owed of the pictures: the steps of the walk give them, or the first refusal; and they lie in order, each within the stream.
 -- Assumes nothing.
-use Prim.Native.Nat.{ℕ, _*_, _≤_, _<_}
+use Prim.Native.Nat.{ℕ, _+_, _*_, _≤_, _<_}
 use mathlib.Core.Path.{_≡_}
 use mathlib.Core.List.{List, [], _∷_}
 use lib.ListN.{length}
@@ -23,11 +23,11 @@ pub data Visits (standard : VbvStandard) (s : List ℕ) : ℕ → Answer (List S
 abbrev pub StepsGivePictures : Type 0
 StepsGivePictures = (standard : VbvStandard) (s : List ℕ) → 8 * length s ≤ farthest → Visits standard s 0 (seenPictures standard s)
 
--- a picture within 2^48 bits, after what ends at `previous`, its delay in 16 bits
+-- a picture whose start code lies after what ends at `previous` and before its own end, all within 2^48 bits, its delay in 16 bits
 pub record Placed (previous position end delay : ℕ) : Type 0 where
-  pub position-far : position ≤ farthest
-  pub grows : previous < end
-  pub end-far : end ≤ farthest
+  pub begins : previous + 32 ≤ position
+  pub ends : position ≤ end
+  pub end-near : end ≤ farthest
   pub delay-small : delay < 65536
 
 pub data Rising : ℕ → List SeenPicture → Type 0 where

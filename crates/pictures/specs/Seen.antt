@@ -2,59 +2,28 @@
 -- Assumes nothing.
 use Prim.Native.Nat.{ℕ, _+_, _*_}
 use mathlib.Core.List.{List, [], _∷_}
-use mathlib.Core.Bool.{Bool, true, false}
+use mathlib.Core.Bool.{false}
 use lib.Dec.{ltb}
 use lib.ListN.{length, drop}
 use Rattle.vbv.specs.Model.{farthest}
 use Rattle.bits.specs.Refusals.{Answer, value, refuse, andThen}
 use Rattle.picture_header.specs.PictureHeader.{pictureHeader}
 use Rattle.picture_header.specs.Picture.{picture}
-use Rattle.picture_header.specs.declared.PictureCodingType.{PictureCodingType}
-use Rattle.picture_header.specs.declared.PictureCodingType.the-variants.{Intra, Predictive, Bidirectional, DcIntra}
-use Rattle.picture_header.specs.declared.PictureStructure.{PictureStructure}
-use Rattle.picture_header.specs.declared.PictureStructure.the-variants.{TopField, BottomField, Frame as FramePicture}
-use Rattle.picture_header.specs.declared.Mpeg2PictureHeader.{Mpeg2PictureHeader}
-use Rattle.picture_header.specs.declared.PictureCodingExtension.{PictureCodingExtension}
-use Rattle.vbv.specs.declared.RemovalInterval.{RemovalInterval}
-use Rattle.vbv.specs.declared.RemovalInterval.the-variants.{Frame, Field}
+use Rattle.picture_header.specs.Facts.{factsBy, factsOf}
+use Rattle.picture_header.specs.declared.PictureStructure.the-variants.{Frame}
 use Rattle.scan.specs.Pictures.{Pic, pictures, nextPicture}
 use Rattle.scan.specs.declared.Next.{Next}
 use Rattle.scan.specs.declared.Next.the-variants.{Picture, Done}
 use Rattle.pictures.specs.declared.VbvStandard.{VbvStandard}
 use Rattle.pictures.specs.declared.VbvStandard.the-variants.{Mpeg1, Mpeg2}
-use Rattle.pictures.specs.declared.PictureFacts.{PictureFacts}
+use Rattle.picture_header.specs.declared.PictureFacts.{PictureFacts}
 use Rattle.pictures.specs.declared.SeenPicture.{SeenPicture}
-
--- ---- a picture's facts
-
--- I or P
-unfoldable pub isAnchor : PictureCodingType → Bool
-isAnchor Intra = true
-isAnchor Predictive = true
-isAnchor Bidirectional = false
-isAnchor DcIntra = false
-
-unfoldable pub isField : PictureStructure → Bool
-isField TopField = true
-isField BottomField = true
-isField FramePicture = false
-
-unfoldable pub factsBy : PictureCodingType → PictureStructure → Bool → Bool → PictureFacts
-factsBy type structure repeat top = record { anchor = isAnchor type; field = isField structure; repeat = repeat; top = top }
-
-unfoldable pub factsOf : Mpeg2PictureHeader → PictureCodingExtension → PictureFacts
-factsOf h x = factsBy (h .«picture_coding_type») (x .«picture_structure») (x .«repeat_first_field») (x .«top_field_first»)
-
--- C.11: a field picture lasts a field period, a frame a frame period; repeat_first_field does not count (docs/DIFFERENCES.md)
-unfoldable pub intervalOf : Bool → RemovalInterval
-intervalOf true = Field
-intervalOf false = Frame
 
 -- ---- a picture
 
 -- what the picture whose start code begins s shows: its coded delay and its facts. MPEG-1 pictures are all frames
 unfoldable pub shown : VbvStandard → List ℕ → Answer (ℕ × PictureFacts)
-shown Mpeg1 s = andThen (pictureHeader s) (λ h. value (h .«vbv_delay», factsBy (h .«picture_coding_type») FramePicture false false))
+shown Mpeg1 s = andThen (pictureHeader s) (λ h. value (h .«vbv_delay», factsBy (h .«picture_coding_type») Frame false false))
 shown Mpeg2 s = andThen (picture s) (λ p. value (p .0 .«vbv_delay», factsOf (p .0) (p .1)))
 
 -- in bits: the end of the picture's start code, and the end of its data

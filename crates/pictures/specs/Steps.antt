@@ -3,7 +3,7 @@
 use Prim.Native.Nat.{ℕ}
 use Rattle.bits.specs.Refusals.{Answer, value}
 use Rattle.headers.specs.Answers.{headerRefusal}
-use Rattle.pictures.specs.declared.PictureFacts.{PictureFacts}
+use Rattle.picture_header.specs.declared.PictureFacts.{PictureFacts}
 use Rattle.pictures.specs.declared.Shown.{Shown}
 use Rattle.pictures.specs.declared.Shown.the-variants.{Picture, Refused}
 

@@ -2,11 +2,10 @@
 mod seen; // the pictures, one after another
 mod sequence; // what the first sequence header declares
 
-pub use crate::seen::interval;
-pub use crate::seen::is_field;
 pub use crate::seen::next_seen;
-pub use crate::sequence::declared_params;
+pub use crate::sequence::opening;
 use headers::Error;
+use picture_header::PictureFacts;
 use vbv::VbvError;
 use vbv::VbvParams;
 
@@ -25,19 +24,10 @@ pub enum Unread {
     NoPictures,
 }
 
-// What the first sequence header declares.
+// What the first sequence header declares, or why it is refused.
 pub enum Declared {
     Params(VbvParams),
     Refused(Unread),
-}
-
-// What a picture's headers tell of how long it lasts: whether it is an I or P picture, whether a field,
-// repeat_first_field and top_field_first.
-pub struct PictureFacts {
-    pub anchor: bool,
-    pub field: bool,
-    pub repeat: bool,
-    pub top: bool,
 }
 
 // A picture as its headers show it: the end of its start code and the end of its data, in bits, its coded delay, its facts.

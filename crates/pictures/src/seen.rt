@@ -4,72 +4,23 @@ ghost use Prim.Native.Nat.{_+_, _*_, _≤_};
 ghost use lib.ListN.{length};
 ghost use Rattle.vbv.specs.Model.{farthest};
 ghost use Rattle.pictures.specs.Answers.{seenAnswer};
-ghost use Rattle.pictures.specs.Seen.{isAnchor, isField, intervalOf, factsBy, shown, seenOf, nextSeen};
+ghost use Rattle.pictures.specs.Seen.{shown, seenOf, nextSeen};
 ghost use Rattle.pictures.specs.Steps.{shownAnswer};
 use crate::NextSeen;
-use crate::PictureFacts;
 use crate::SeenPicture;
 use crate::Shown;
 use crate::Unread;
 use crate::VbvStandard;
 use picture_header::Mpeg2PictureHeader;
-use picture_header::PictureCodingType;
+use picture_header::PictureFacts;
 use picture_header::PictureHeaderRead;
 use picture_header::PictureRead;
 use picture_header::PictureStructure;
+use picture_header::facts;
 use scan::Next;
 use scan::next_picture;
 use vbv::FARTHEST;
-use vbv::RemovalInterval;
 use vbv::VbvError;
-
-// An I or P picture.
-fn is_anchor(coding_type: PictureCodingType) -> bool
-    ensures { λ r. ⌜ r ≡ isAnchor «coding_type» ⌝ }
-{
-    match coding_type {
-        PictureCodingType::Intra => true,
-        PictureCodingType::Predictive => true,
-        PictureCodingType::Bidirectional => false,
-        PictureCodingType::DcIntra => false,
-    }
-}
-
-pub fn is_field(structure: PictureStructure) -> bool
-    ensures { λ r. ⌜ r ≡ isField structure ⌝ }
-{
-    match structure {
-        PictureStructure::TopField => true,
-        PictureStructure::BottomField => true,
-        PictureStructure::Frame => false,
-    }
-}
-
-// A field picture lasts a field period.
-pub fn interval(field: bool) -> RemovalInterval
-    ensures { λ r. ⌜ r ≡ intervalOf field ⌝ }
-{
-    if field {
-        return RemovalInterval::Field;
-    }
-    RemovalInterval::Frame
-}
-
-fn facts(
-    coding_type: PictureCodingType,
-    structure: PictureStructure,
-    repeat: bool,
-    top: bool,
-) -> PictureFacts
-    ensures { λ r. ⌜ r ≡ factsBy «coding_type» structure repeat top ⌝ }
-{
-    PictureFacts {
-        anchor: is_anchor(coding_type),
-        field: is_field(structure),
-        repeat,
-        top,
-    }
-}
 
 // What the picture that begins a part of the stream shows.
 fn shown_at(part: &[u8], standard: VbvStandard) -> Shown

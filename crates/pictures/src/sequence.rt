@@ -1,6 +1,7 @@
 // What the first sequence header of a stream declares.
 ghost use mathlib.Core.Path.{_≡_};
 ghost use Rattle.pictures.specs.Answers.{declaredAnswer};
+ghost use Rattle.pictures.specs.Front.{opening as openingOf};
 ghost use Rattle.pictures.specs.Sequence.{rated, declaredBy, declared};
 use crate::Declared;
 use crate::Unread;
@@ -10,7 +11,9 @@ use headers::sequence_header::Answer;
 use headers::sequence_header::Mpeg2SequenceHeader;
 use scan::Found;
 use scan::first_sequence;
+use vbv::FARTHEST;
 use vbv::FrameRate;
+use vbv::VbvError;
 use vbv::frame_rate_value;
 use vbv::params_of;
 
@@ -64,11 +67,21 @@ fn declared_at(part: &[u8], standard: VbvStandard) -> Declared
 }
 
 // What the first sequence header declares.
-pub fn declared_params(stream: &[u8], standard: VbvStandard) -> Declared
+fn declared_params(stream: &[u8], standard: VbvStandard) -> Declared
     ensures { λ r. ⌜ declaredAnswer r ≡ declared standard (now (stream .entry)) ⌝ }
 {
     match first_sequence(stream) {
         Found::At { offset, code: _ } => declared_at(&stream[offset..], standard),
         Found::Nothing => Declared::Refused(Unread::NoSequenceHeader),
     }
+}
+
+// What every report asks before the pictures: 14 for a stream above 2^48 bits, 3, sequence header, extension, 6.
+pub fn opening(stream: &[u8], standard: VbvStandard) -> Declared
+    ensures { λ r. ⌜ declaredAnswer r ≡ openingOf standard (now (stream .entry)) ⌝ }
+{
+    if FARTHEST / 8 < stream.len() as u64 {
+        return Declared::Refused(Unread::Model(VbvError::Range));
+    }
+    declared_params(stream, standard)
 }

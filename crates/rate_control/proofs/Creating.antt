@@ -11,7 +11,7 @@ use Rattle.bits.proofs.Flags.{is-false, pick-elim, held, failed}
 use Rattle.vbv.specs.Answers.{frameRate}
 use Rattle.vbv.specs.Model.{paramsFit, newModel}
 use Rattle.vbv.specs.declared.VbvCbrModel.{VbvCbrModel}
-use Rattle.vbv.proofs.Units.{params-rate, params-buffer, params-frn, params-frd}
+use Rattle.vbv.proofs.Params.{params-rate, params-buffer, params-frn, params-frd}
 use Rattle.vbv.proofs.Fitting.{params-fit, fitting-params}
 use Rattle.rate_control.specs.Create.{configFits, writerParams, freshWriter, create}
 use Rattle.rate_control.specs.Due.{atFirst, holding, Ranges, targetsOf, CreationDue, bad-range, bad-code, bad-ratio, created}

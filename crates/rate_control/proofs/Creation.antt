@@ -23,7 +23,7 @@ use Rattle.vbv.specs.declared.VbvError.{VbvError}
 use Rattle.vbv.specs.declared.VbvError.the-variants.{Params}
 use Rattle.vbv.specs.declared.VbvModel.{VbvModel}
 use Rattle.vbv.specs.declared.VbvModel.the-variants.{Model, Refused as NoModel}
-use Rattle.vbv.proofs.Units.{params-rate}
+use Rattle.vbv.proofs.Params.{params-rate}
 use Rattle.vbv.proofs.Fitting.{params-fit}
 use Rattle.vbv.proofs.Laws.{model-made}
 use Rattle.rate_control.specs.Targets.{groupPictures, groupBits, groupWeight, target, targets}

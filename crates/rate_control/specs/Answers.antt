@@ -1,9 +1,8 @@
 -- What a writer answers: the number of each refusal in paper 01's table with what it carries, and each answer by number and values. A 9 names its picture, and no delays,
 -- since nothing was coded. Assumes nothing.
 use Prim.Native.Nat.{ℕ}
-use Rattle.bits.specs.Refusals.{Answer, value, refused}
-use Rattle.vbv.specs.Answers.{modelNumber, violationNumber, violationPicture, violationCoded, violationExpected, modelRefusal}
-use Rattle.bits.specs.Refusals.{plain}
+use Rattle.bits.specs.Refusals.{Answer, value, refused, plain}
+use Rattle.vbv.specs.Answers.{modelNumber, violationRefusal, modelRefusal}
 use Rattle.bits.specs.declared.VbvRefusal.{VbvRefusal}
 use Rattle.rate_control.specs.declared.CbrWriter.{CbrWriter}
 use Rattle.rate_control.specs.declared.CbrCreation.{CbrCreation}
@@ -19,8 +18,7 @@ use Rattle.rate_control.specs.declared.CbrError.the-variants.{Model, Vio
 
 abbrev pub offerRefusal : CbrError → VbvRefusal
 offerRefusal (Model e) = plain (modelNumber e)
-offerRefusal (Violation v) =
-    record { number = violationNumber v; picture = violationPicture v; coded = violationCoded v; expected = violationExpected v }
+offerRefusal (Violation v) = violationRefusal v
 offerRefusal Kind = plain 17
 offerRefusal Headers = plain 18
 offerRefusal Output = plain 19

@@ -133,8 +133,8 @@ impl CbrError {
         ensures { λ r. ⌜ r ≡ offerRefusal self ⌝ }
     {
         match self {
-            CbrError::Model(e) => VbvVerifyError::Model(e).refusal(),
-            CbrError::Violation(v) => VbvVerifyError::Violation(v).refusal(),
+            CbrError::Model(e) => plain(e.number()),
+            CbrError::Violation(v) => v.refusal(),
             CbrError::Kind => plain(17),
             CbrError::Headers => plain(18),
             CbrError::Layer => plain(20),

@@ -10,6 +10,7 @@ use Rattle.bits.specs.StartCodes.{startCode, pictureStartCode}
 use Rattle.bits.proofs.Reading.{same-self}
 use Rattle.vbv.specs.Annex.{unit, firstDelivered, gain, overflows, beyond, expectedDelay}
 use Rattle.vbv.specs.Model.{paramsInRange, ratioFits, paramsFit, delivered, modelFits, atDelivered, afterRemoval, nextDelivered, newModel, startModel, delayForPicture, endFits, removePicture}
+use Rattle.vbv.proofs.Params.{params-are}
 use Rattle.vbv.specs.Patch.{startsPicture}
 use Rattle.vbv.specs.Figures.{ModelFigures}
 use Rattle.vbv.proofs.Patching.{starts-picture-is, patched-bytes}
@@ -35,6 +36,7 @@ header-starts = sym (starts-picture-is patchedHeader (lit≤ tt)) ∙ same-self 
 pub model-figures : ModelFigures
 unfolding pick unit firstDelivered gain overflows beyond expectedDelay paramsInRange ratioFits paramsFit delivered modelFits atDelivered afterRemoval nextDelivered newModel startModel delayForPicture endFits removePicture
 model-figures = record {
+  fields = params-are 2500 20 25 1;
   end-246755 = refl;
   end-246756 = refl;
   delay-at-100032 = refl;

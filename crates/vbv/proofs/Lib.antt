@@ -12,4 +12,3 @@ pub mod Told
 pub mod Named
 pub mod After
 pub mod Cases
-pub mod Units

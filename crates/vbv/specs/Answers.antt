@@ -4,6 +4,7 @@ use Prim.Native.Nat.{ℕ}
 use lib.Dec.{eqb}
 use Rattle.bits.specs.Bits.{pick}
 use Rattle.bits.specs.Refusals.{Answer, value, refused}
+use Rattle.bits.specs.declared.VbvRefusal.{VbvRefusal}
 use Rattle.vbv.specs.declared.VbvError.{VbvError}
 use Rattle.vbv.specs.declared.VbvError.the-variants.{FrameRateCode, Early, DelayTooLong, Params, Order, Range}
 use Rattle.vbv.specs.declared.VbvViolation.{VbvViolation}
@@ -50,6 +51,11 @@ abbrev pub violationExpected : VbvViolation → ℕ
 violationExpected (Overflow n c e) = e
 violationExpected (Underflow n c e) = e
 violationExpected (DelayMismatch n c e) = e
+
+-- as paper 01 writes it
+abbrev pub violationRefusal : VbvViolation → VbvRefusal
+violationRefusal v =
+    record { number = violationNumber v; picture = violationPicture v; coded = violationCoded v; expected = violationExpected v }
 
 -- each answer by its number and values
 abbrev pub modelRefusal : {X : Type 0} → VbvError → Answer X

@@ -6,6 +6,7 @@ use Prim.Native.Nat.{ℕ, _*_}
 use Rattle.vbv.specs.Annex.{unit}
 use Rattle.bits.specs.Refusals.{Answer, value, andThen, number}
 use Rattle.vbv.specs.Model.{delivered, newModel, startModel, delayForPicture, removePicture}
+use Rattle.vbv.specs.Params.{paramsOf}
 use Rattle.vbv.specs.Patch.{patched}
 use Rattle.vbv.specs.declared.RemovalInterval.the-variants.{Frame}
 use Rattle.vbv.specs.declared.VbvParams.{VbvParams}
@@ -33,6 +34,7 @@ andDelivered a = andThen a (λ m. value (delivered m))
 
 -- by the numbers of the answers: 0 is acceptance
 pub record ModelFigures : Type 0 where
+  pub fields : paramsOf 2500 20 (25, 1) ≡ at25 1000000 327680
   pub end-246755 : number (andRemove 246755 (startedModel 1000000 327680 22118 1000)) ≡ 0
   pub end-246756 : number (andRemove 246756 (startedModel 1000000 327680 22118 1000)) ≡ 10
   pub delay-at-100032 : andDelay 100032 (andRemove 100000 (startedModel 1000000 327680 22118 1000)) ≡ value 16805

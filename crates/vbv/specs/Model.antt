@@ -72,6 +72,11 @@ afterRemoval m end d = record {
   started = true;
 }
 
+-- C.11: a field picture lasts a field period, a frame a frame period; repeat_first_field does not count (docs/DIFFERENCES.md)
+unfoldable pub intervalOf : Bool → RemovalInterval
+intervalOf true = Field
+intervalOf false = Frame
+
 -- C.9, C.11; 11172-2 C.1.4: field periods up to the next removal
 abbrev pub periods : RemovalInterval → ℕ
 periods Frame = 2

@@ -3,14 +3,15 @@ ghost use mathlib.Core.Path.{_≡_};
 ghost use mathlib.Core.Bool.{true};
 ghost use Prim.Native.Nat.{_+_, _-_, _/_, _^_, _≤_, _<_};
 ghost use Rattle.vbv.specs.Annex.{unit, firstDelivered};
-ghost use Rattle.vbv.specs.Answers.{modelNumber, modelAnswer, removalAnswer, delayAnswer, modelBitsAnswer, patchAnswer, rateAnswer, frameRate};
+ghost use Rattle.vbv.specs.Answers.{modelNumber, modelAnswer, removalAnswer, delayAnswer, modelBitsAnswer, patchAnswer, rateAnswer, frameRate, violationRefusal};
 ghost use Rattle.vbv.specs.Steps.{ModelFits, EndFits};
 ghost use Rattle.vbv.specs.Params.{paramsOf};
-ghost use Rattle.vbv.specs.Model.{farthest, paramsInRange, paramsFit, delivered, modelFits, atDelivered, periods, nextDelivered, newModel, startModel, delayForPicture, removePicture, maxEndBits, minEndBits, occupancyBeforeRemoval};
+ghost use Rattle.vbv.specs.Model.{farthest, paramsInRange, paramsFit, delivered, modelFits, atDelivered, periods, nextDelivered, newModel, startModel, delayForPicture, removePicture, maxEndBits, minEndBits, occupancyBeforeRemoval, intervalOf};
 ghost use Rattle.vbv.specs.Patch.{startsPicture, patchPicture, patched};
 
 pub mod lent; // the model by reference
 
+use bits::VbvRefusal;
 use bits::start_codes::PICTURE_START;
 
 // Why a call is refused.
@@ -117,6 +118,46 @@ impl VbvError {
             VbvError::Params => 12,
             VbvError::Order => 13,
             VbvError::Range => 14,
+        }
+    }
+}
+
+impl VbvViolation {
+    // The refusal as paper 01 writes it.
+    pub fn refusal(self) -> VbvRefusal
+        ensures { λ r. ⌜ r ≡ violationRefusal self ⌝ }
+    {
+        match self {
+            VbvViolation::Overflow {
+                picture,
+                coded,
+                expected,
+            } => VbvRefusal {
+                number: 9,
+                picture,
+                coded,
+                expected,
+            },
+            VbvViolation::Underflow {
+                picture,
+                coded,
+                expected,
+            } => VbvRefusal {
+                number: 10,
+                picture,
+                coded,
+                expected,
+            },
+            VbvViolation::DelayMismatch {
+                picture,
+                coded,
+                expected,
+            } => VbvRefusal {
+                number: 11,
+                picture,
+                coded,
+                expected,
+            },
         }
     }
 }
@@ -439,6 +480,16 @@ impl VbvCbrModel {
             VbvBits::Refused(VbvError::Params)
         }
     }
+}
+
+// A field picture lasts a field period.
+pub fn interval(field: bool) -> RemovalInterval
+    ensures { λ r. ⌜ r ≡ intervalOf field ⌝ }
+{
+    if field {
+        return RemovalInterval::Field;
+    }
+    RemovalInterval::Frame
 }
 
 fn periods_of(interval: RemovalInterval) -> u64

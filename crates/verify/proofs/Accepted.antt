@@ -26,11 +26,11 @@ use Rattle.pictures.proofs.Due.{front-due, front-read}
 use Rattle.pictures.proofs.Order.{seen-rising}
 use Rattle.verify.specs.declared.CodedPicture.{CodedPicture}
 use Rattle.verify.specs.declared.VbvPictureRecord.{VbvPictureRecord}
-use Rattle.verify.specs.Coded.{codedOf, timed}
+use Rattle.verify.specs.Coded.{timed}
 use Rattle.verify.specs.Run.{recordOf, removal, run}
 use Rattle.verify.specs.Check.{Accepted, accepted, withPictures, verdict}
 use Rattle.verify.specs.Accepted.{Conforms, Along, none, more, Passes, AcceptedExactly, Uncut, NothingCut}
-use Rattle.verify.proofs.Rising.{Rising, last, next, timed-rising, timed-first, timed-length}
+use Rattle.verify.proofs.Rising.{Rising, last, next, timed-rising, timed-length}
 use Rattle.verify.proofs.Conforming.{conforms, conforming}
 
 -- ---- a run, both ways
@@ -61,15 +61,15 @@ along-run n (more h t) = rw (conforming n h, along-run (suc n) t)
 -- ---- a stream that passes
 
 module _ {standard : VbvStandard} {s : List ℕ} {places : ℕ} {p : VbvParams} {r : VbvPictureRecord} {rs : List VbvPictureRecord} (a : Passes standard s places p (r ∷ rs)) where
-  pub judged-is : withPictures places p (codedOf (a .first)) (timed (a .others)) ≡ value (record { params = p; first = r; others = rs })
+  pub judged-is : withPictures places p (a .first) (timed (a .first ∷ a .others)) ≡ value (record { params = p; first = r; others = rs })
   unfolding withPictures pick
   judged-is =
-      let l : length (codedOf (a .first) ∷ timed (a .others)) ≤ places = omega (arith, timed-length (a .others), a .places-suffice) in
+      let l : length (timed (a .first ∷ a .others)) ≤ places = omega (arith, timed-length (a .first ∷ a .others), a .places-suffice) in
       rw (
         ne-eqb (a .first .«vbv_delay») 0xFFFF (a .constant-rate),
         a .params-fit,
-        le-ltb places (length (codedOf (a .first) ∷ timed (a .others))) l,
-        along-run 0 (rw (timed-first (a .first) (a .others)) at (a .removals)),
+        le-ltb places (length (timed (a .first ∷ a .others))) l,
+        along-run 0 (a .removals),
       )
 
   passing : verdict standard s places ≡ value (record { params = p; first = r; others = rs })
@@ -86,13 +86,13 @@ was-ran {p} {v} (value (r ∷ rs)) h = let e : record { params = p; first = r; o
 
 module _ (standard : VbvStandard) (s : List ℕ) (places : ℕ) {v : Accepted} where
   by-pictures : {q : VbvParams} {x : SeenPicture} {xs : List SeenPicture} → Read standard s q x xs
-      → withPictures places q (codedOf x) (timed xs) ≡ value v → Passes standard s places (v .params) (v .first ∷ v .others)
+      → withPictures places q x (timed (x ∷ xs)) ≡ value v → Passes standard s places (v .params) (v .first ∷ v .others)
   unfolding withPictures
   by-pictures {q} {x} {xs} g h =
       let a = was-no _ _ _ refused-value h in
       let b = was-held (paramsFit q) _ _ refused-value (a .1) in
       let e = was-no _ _ _ refused-value (b .1) in
-      let f = was-ran (run q 0 0 (firstDelivered q (x .«pos_bits») (x .«vbv_delay»)) (codedOf x ∷ timed xs)) (e .1) in
+      let f = was-ran (run q 0 0 (firstDelivered q (x .«pos_bits») (x .«vbv_delay»)) (timed (x ∷ xs))) (e .1) in
       rw (← f .0)
       record {
         first = x;
@@ -100,15 +100,15 @@ module _ (standard : VbvStandard) (s : List ℕ) (places : ℕ) {v : Accepted} w
         is-read = g;
         constant-rate = eqb-false (x .«vbv_delay») 0xFFFF (a .0);
         params-fit = b .0;
-        places-suffice = omega (arith, timed-length xs, ltb-false places (length (codedOf x ∷ timed xs)) (e .0));
-        removals = rw (timed-first x xs) (run-along q 0 0 _ (codedOf x ∷ timed xs) (v .first ∷ v .others) (f .1));
+        places-suffice = omega (arith, timed-length (x ∷ xs), ltb-false places (length (timed (x ∷ xs))) (e .0));
+        removals = run-along q 0 0 _ (timed (x ∷ xs)) (v .first ∷ v .others) (f .1);
       }
 
   by-front : (a : Answer Front) → FrontDue standard s a
-      → andThen a (λ f. withPictures places (f .params) (codedOf (f .first)) (timed (f .others))) ≡ value v
+      → andThen a (λ f. withPictures places (f .params) (f .first) (timed (f .first ∷ f .others))) ≡ value v
       → Passes standard s places (v .params) (v .first ∷ v .others)
   by-front (refused n k i j) d h = absurd (refused-value h)
-  by-front (value f) (fr.shown g) h = by-pictures g h
+  by-front (value f) (fr.all-read g) h = by-pictures g h
 
   pub passed : verdict standard s places ≡ value v → Passes standard s places (v .params) (v .first ∷ v .others)
   unfolding verdict
@@ -130,9 +130,9 @@ module _ {p : VbvParams} (f : paramsFit p ≡ true) where
   unfolding recordOf
   removal-uncut {previous} {d} {c} q w =
       let e = w .no-underflow in
-      let l : previous * unit p ≤ c .«end_bits» * unit p = mul-le-mul-right (unit p) (omega (arith, q .grows)) in
+      let l : previous * unit p ≤ c .«end_bits» * unit p = mul-le-mul-right (unit p) (omega (arith, q .begins, q .ends)) in
       record {
-        for-data = omega (arith, q .grows);
+        for-data = omega (arith, q .begins, q .ends);
         for-before = omega arith;
         for-after = rw (w .record-is) (occupancy-least p f previous (c .«end_bits») d (units-beyond p (c .«end_bits») d (w .no-underflow)));
       }

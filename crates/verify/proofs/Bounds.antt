@@ -43,7 +43,7 @@ module _ {p : VbvParams} (f : paramsFit p ≡ true) where
       record {
         coded-small = q .delay-small;
         expected-small = omega (arith, w .sayable);
-        data-small = omega (arith, q .end-far);
+        data-small = omega (arith, q .end-near);
         occupancy-small = omega (arith, occupancy-most p f previous d (units-over p previous d (w .no-overflow)), params-fit f .size-high);
       }
 

@@ -35,10 +35,10 @@ pub record Ready (p : VbvParams) (m : VbvCbrModel) : Type 0 where
 module _ {p : VbvParams} {m : VbvCbrModel} (y : Ready p m) (c : CodedPicture) (q : Placed (m .«prev_end_bits») (c .«pos_bits») (c .«end_bits») (c .«vbv_delay»)) where
   end-fits : EndFits m (c .«end_bits»)
   end-fits =
-      record { end-far = q .end-far; end-low = omega (arith, q .grows); count = omega (arith, q .grows, q .end-far, y .few) }
+      record { end-far = q .end-near; end-low = omega (arith, q .begins, q .ends); count = omega (arith, q .begins, q .ends, q .end-near, y .few) }
 
   by-annex : removedAnswer (removed m c) ≡ withModel m c (removal p (m .removed) (m .«prev_end_bits») (delivered m) c)
-  by-annex = rw (← y .kept) (removal-is m c (y .fits) (y .on) (q .position-far) end-fits)
+  by-annex = rw (← y .kept) (removal-is m c (y .fits) (y .on) (omega (arith, q .ends, q .end-near)) end-fits)
 
   -- the model after a removal
   step : {r : VbvPictureRecord} → removal p (m .removed) (m .«prev_end_bits») (delivered m) c ≡ value r
@@ -90,7 +90,7 @@ course {p} {m} y x (next {previous} {c} {cs} q t) =
     go ih q (value r) h =
         let w = step y c q h in
         let z : Ready p k
-        = record { fits = w .fits; on = w .is-started; kept = w .params-kept ∙ y .kept; few = rw (w .count-is, w .end-is) (omega (arith, q .grows, y .few)) } in
+        = record { fits = w .fits; on = w .is-started; kept = w .params-kept ∙ y .kept; few = rw (w .count-is, w .end-is) (omega (arith, q .begins, q .ends, y .few)) } in
         let d : delivered k ≡ delivered m + gain p (periods (c .interval)) = w .delivered-is ∙ next-delivered-is m (c .interval) ∙ rw (y .kept) in
         let e : run p (k .removed) (k .«prev_end_bits») (delivered k) cs
         ≡ run p (suc (m .removed)) (c .«end_bits») (delivered m + gain p (periods (c .interval))) cs = cc (add-one (m .removed)) in

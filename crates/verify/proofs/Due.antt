@@ -20,7 +20,7 @@ use Rattle.pictures.specs.Due.{Read, FrontDue}
 use Rattle.pictures.specs.declared.VbvStandard.{VbvStandard}
 use Rattle.pictures.specs.declared.SeenPicture.{SeenPicture}
 use Rattle.pictures.proofs.Due.{front-due}
-use Rattle.verify.specs.Coded.{codedOf, timed}
+use Rattle.verify.specs.Coded.{timed}
 use Rattle.verify.specs.Run.{apart, removal, run}
 use Rattle.verify.specs.Check.{Accepted, accepted, withPictures, verdict}
 use Rattle.verify.specs.Due as due
@@ -86,27 +86,27 @@ module _ (standard : VbvStandard) (s : List ℕ) (places : ℕ) where
   J a = VerdictDue standard s places a
 
   ran : {p : VbvParams} {x : SeenPicture} {xs : List SeenPicture} → Modelled standard s places p x xs → (a : Answer (List VbvPictureRecord))
-      → RunDue p 0 0 (firstDelivered p (x .«pos_bits») (x .«vbv_delay»)) (codedOf x ∷ timed xs) a → J (andThen a (accepted p))
-  ran {p} {x} {xs} g (refused n k i j) h = due.stopped {p = p} {x = x} {xs = xs} {n = n} {k = k} {i = i} {j = j} g (rw (timed-first x xs) h)
-  ran {p} {x} {xs} g (value (r ∷ rs)) h = due.accepted {p = p} {x = x} {xs = xs} {r = r} {rs = rs} g (rw (timed-first x xs) h)
-  ran g (value []) h = absurd (none h)
+      → RunDue p 0 0 (firstDelivered p (x .«pos_bits») (x .«vbv_delay»)) (timed (x ∷ xs)) a → J (andThen a (accepted p))
+  ran {p} {x} {xs} g (refused n k i j) h = due.stopped {p = p} {x = x} {xs = xs} {n = n} {k = k} {i = i} {j = j} g h
+  ran {p} {x} {xs} g (value (r ∷ rs)) h = due.accepted {p = p} {x = x} {xs = xs} {r = r} {rs = rs} g h
+  ran {x = x} {xs} g (value []) h = absurd (none (rw (timed-first x xs) at h))
     where
       none : {p : VbvParams} {n previous d : ℕ} {c : CodedPicture} {cs : List CodedPicture} → RunDue p n previous d (c ∷ cs) (value []) → ⊥
       none = elim [ ]
 
-  with-pictures : {p : VbvParams} {x : SeenPicture} {xs : List SeenPicture} → Read standard s p x xs → J (withPictures places p (codedOf x) (timed xs))
+  with-pictures : {p : VbvParams} {x : SeenPicture} {xs : List SeenPicture} → Read standard s p x xs → J (withPictures places p x (timed (x ∷ xs)))
   unfolding withPictures
   with-pictures {p} {x} {xs} g =
-      let l = timed-length xs in
+      let l = timed-length (x ∷ xs) in
       pick-elim J _ (λ z. due.variable-rate g (eqb-true _ _ z)) λ h5.
       pick-elim J _ (λ z. due.unfit g (eqb-false _ _ h5) (not-true _ z)) λ h12.
-      pick-elim J _ (λ z. due.few-places g (eqb-false _ _ h5) (not-false _ h12) (omega (arith, ltb-true places (length (codedOf x ∷ timed xs)) z))) λ h15.
-      ran (record { is-read = g; constant-rate = eqb-false _ _ h5; params-fit = not-false _ h12; places-suffice = omega (arith, ltb-false places (length (codedOf x ∷ timed xs)) h15) }) _
-      (run-due p 0 0 (firstDelivered p (x .«pos_bits») (x .«vbv_delay»)) (codedOf x ∷ timed xs))
+      pick-elim J _ (λ z. due.few-places g (eqb-false _ _ h5) (not-false _ h12) (omega (arith, ltb-true places (length (timed (x ∷ xs))) z))) λ h15.
+      ran (record { is-read = g; constant-rate = eqb-false _ _ h5; params-fit = not-false _ h12; places-suffice = omega (arith, ltb-false places (length (timed (x ∷ xs))) h15) }) _
+      (run-due p 0 0 (firstDelivered p (x .«pos_bits») (x .«vbv_delay»)) (timed (x ∷ xs)))
 
-  by-front : (a : Answer Front) → FrontDue standard s a → J (andThen a (λ f. withPictures places (f .params) (codedOf (f .first)) (timed (f .others))))
-  by-front (refused n k i j) d = due.unread d
-  by-front (value f) (fr.shown g) = with-pictures g
+  by-front : (a : Answer Front) → FrontDue standard s a → J (andThen a (λ f. withPictures places (f .params) (f .first) (timed (f .first ∷ f .others))))
+  by-front (refused n k i j) d = due.by-front d
+  by-front (value f) (fr.all-read g) = with-pictures g
 
   verdict-due : J (verdict standard s places)
   unfolding verdict

@@ -9,7 +9,7 @@ use lib.ListN.{length, set, length-set}
 use lib.Seq.{sets}
 use Rattle.bits.specs.Answers.{over}
 use Rattle.bits.proofs.Over.{over-sets}
-use Rattle.pictures.specs.Sequence.{declared}
+use Rattle.pictures.specs.Front.{opening}
 use Rattle.pictures.specs.declared.VbvStandard.{VbvStandard}
 use Rattle.verify.specs.Answers.{verifiedAnswer}
 use Rattle.verify.specs.Check.{verdict, reported, records}
@@ -49,9 +49,9 @@ laid-over s w (suc i) j ys = rw (records-front s w i) (stored-front s w j i ys �
 
 -- as many as the answer has
 pub stored-is : (standard : VbvStandard) (s : List ℕ) (ys : List VbvPictureRecord) (r : VbvVerified) → verifiedAnswer r ≡ reported (verdict standard s (length ys))
-    → storedOf s (recorderOf standard (declared standard s)) (recordCount r) ys ≡ over (records (verdict standard s (length ys))) ys
+    → storedOf s (recorderOf standard (opening standard s)) (recordCount r) ys ≡ over (records (verdict standard s (length ys))) ys
 stored-is standard s ys r h =
-    let w = recorderOf standard (declared standard s) in
+    let w = recorderOf standard (opening standard s) in
     let k = recorded standard s (length ys) r h in
     from-first s w (recordCount r) ys ∙ laid-over s w (recordCount r) 0 ys ∙ rw (k .each) (over-sets (records (verdict standard s (length ys))) ys (omega (arith, k .few, k .count)))
 

@@ -10,8 +10,9 @@ use Rattle.vbv.specs.Model.{periods}
 use Rattle.bits.specs.Numbers.{Numbered, a-value, by-number, by-all}
 use Rattle.vbv.specs.declared.VbvParams.{VbvParams}
 use Rattle.bits.proofs.Numbering.{and-then, wider}
+use Rattle.pictures.specs.declared.SeenPicture.{SeenPicture}
 use Rattle.pictures.proofs.Numbering.{front-numbers}
-use Rattle.verify.specs.Coded.{codedOf, timed}
+use Rattle.verify.specs.Coded.{timed}
 use Rattle.verify.specs.Run.{removal, run}
 use Rattle.verify.specs.Check.{accepted, withPictures, verdict}
 use Rattle.verify.specs.Numbers.{CheckNumbers}
@@ -48,16 +49,16 @@ accepted-numbered : (p : VbvParams) (rs : List VbvPictureRecord) → Of (accepte
 accepted-numbered p [] = by-number refl
 accepted-numbered p (r ∷ rs) = a-value
 
-pictures-numbered : (places : ℕ) (p : VbvParams) (c : CodedPicture) (cs : List CodedPicture) → Of (withPictures places p c cs)
+pictures-numbered : (places : ℕ) (p : VbvParams) (x : SeenPicture) (cs : List CodedPicture) → Of (withPictures places p x cs)
 unfolding withPictures
-pictures-numbered places p c cs =
+pictures-numbered places p x cs =
     pick-elim Of _ (λ e. by-number refl) λ e.
     pick-elim Of _ (λ e. by-number refl) λ e.
     pick-elim Of _ (λ e. by-number refl) λ e.
-    and-then (accepted p) (run-numbered p 0 0 _ (c ∷ cs)) (accepted-numbered p)
+    and-then (accepted p) (run-numbered p 0 0 _ cs) (accepted-numbered p)
 
 pub check-numbers : CheckNumbers
 unfolding verdict
 check-numbers standard s places =
-    and-then _ (wider refl refl refl (front-numbers standard s)) λ f.
-    pictures-numbered places (f .params) (codedOf (f .first)) (timed (f .others))
+    and-then _ (wider refl refl refl (front-numbers .front-has standard s)) λ f.
+    pictures-numbered places (f .params) (f .first) (timed (f .first ∷ f .others))

@@ -8,13 +8,14 @@ use lib.ListN.{length}
 use Rattle.bits.specs.Refusals.{Answer, value, refused, andThen, orElse}
 use Rattle.vbv.specs.declared.VbvParams.{VbvParams}
 use Rattle.vbv.specs.declared.VbvCbrModel.{VbvCbrModel}
-use Rattle.pictures.specs.Sequence.{declared}
+use Rattle.pictures.specs.Front.{opening}
 use Rattle.pictures.specs.Seen.{nextSeen, nothing, one}
 use Rattle.pictures.specs.Order as walk
 use Rattle.pictures.specs.Order.{Visits}
 use Rattle.pictures.specs.declared.VbvStandard.{VbvStandard}
 use Rattle.pictures.specs.declared.SeenPicture.{SeenPicture}
 use Rattle.pictures.proofs.Order.{steps-give}
+use Rattle.pictures.proofs.Due.{opening-short}
 use Rattle.verify.specs.Coded.{codedOf, timed}
 use Rattle.verify.specs.Check.{Accepted, verdict, reportOf, reported, records}
 use Rattle.verify.specs.Answers.{verifiedAnswer}
@@ -97,7 +98,7 @@ yields {standard} {s} p {i = i} st (walk.went-on {next = k} {x = x} {xs = xs} h 
 
 -- of an accepted stream they are the verdict's, as many as the answer counts, and there are places for them
 pub record Recorded (standard : VbvStandard) (s : List ℕ) (places : ℕ) (r : VbvVerified) : Type 0 where
-  pub each : recordsOf s (recorderOf standard (declared standard s)) (recordCount r) ≡ records (verdict standard s places)
+  pub each : recordsOf s (recorderOf standard (opening standard s)) (recordCount r) ≡ records (verdict standard s places)
   pub count : recordCount r ≡ length (records (verdict standard s places))
   pub few : recordCount r ≤ places
 
@@ -106,17 +107,17 @@ unfolding recordCount recorderOf
 recorded standard s places r h = go r (verdict standard s places) refl h
   where
     go : (r : VbvVerified) (v : Answer Accepted) → verdict standard s places ≡ v → verifiedAnswer r ≡ reported v → Recorded standard s places r
-    go (Refused x) (refused n k c e) z h = record { each = rw (z, records-none s (recorderOf standard (declared standard s))); count = rw z; few = omega arith }
+    go (Refused x) (refused n k c e) z h = record { each = rw (z, records-none s (recorderOf standard (opening standard s))); count = rw z; few = omega arith }
     go (Report x) (refused n k c e) z h = let y : _≡_ {A = ℕ} 0 1 = cc in absurd (omega arith)
     go (Refused x) (value v) z h = let y : _≡_ {A = ℕ} 0 1 = cc in absurd (omega arith)
     go (Report x) (value v) z h =
         let a = passed standard s places z in
         let e : x ≡ reportOf v = cc in
-        let j = judges (v .params) places (codedOf (a .first)) (timed (a .others)) (rw (timed-first (a .first) (a .others)) at (are-rising a)) in
+        let j = judges (v .params) places (a .first) (timed (a .others)) (rw (timed-first (a .first) (a .others)) at (are-rising a)) in
         let l : lastsAll (v .params) Fresh (timed (a .first ∷ a .others)) ≡ v .first ∷ v .others
-        = rw (timed-first (a .first) (a .others)) (j .lasts (v .first) (v .others) (judged-is a)) in
+        = rw (timed-first (a .first) (a .others)) (j .lasts (v .first) (v .others) (rw (timed-first (a .first) (a .others)) at (judged-is a))) in
         let m = timed-length (a .first ∷ a .others) in
         let n = lasts-length (v .params) Fresh (timed (a .first ∷ a .others)) in
         let q : length (a .first ∷ a .others) ≡ length (v .first ∷ v .others) = sym m ∙ sym n ∙ ap length l in
         let y = yields (v .params) Fresh (rw (a .is-read .pictures-are) at (steps-give standard s (a .is-read .short))) in
-        rw e record { each = rw (z, a .is-read .declares, ← q) (y ∙ l); count = rw z; few = omega (arith, q, a .places-suffice) }
+        rw e record { each = rw (z, opening-short standard s (a .is-read .short) ∙ a .is-read .declares, ← q) (y ∙ l); count = rw z; few = omega (arith, q, a .places-suffice) }

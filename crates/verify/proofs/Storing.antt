@@ -12,7 +12,7 @@ use Rattle.bits.proofs.Over.{over-sets, sets-append}
 use Rattle.words.specs.Words.{wordsBytes, laid}
 use Rattle.words.proofs.Bytes.{length-words}
 use Rattle.words.proofs.Laying.{laid-part}
-use Rattle.pictures.specs.Sequence.{declared}
+use Rattle.pictures.specs.Front.{opening}
 use Rattle.pictures.specs.declared.VbvStandard.{VbvStandard}
 use Rattle.verify.specs.Layout.{recordSize, recordBytes, recordsBytes}
 use Rattle.verify.specs.Answers.{verifiedAnswer}
@@ -92,7 +92,7 @@ module _ (standard : VbvStandard) (s out : List ℕ) (r : VbvVerified) (h : veri
   pub count-fits : recordSize * recordCount r ≤ length out
   count-fits = omega (arith, recorded standard s (length out / recordSize) r h .few)
 
-  pub stored-is : {last : List ℕ} → last ≡ sets out 0 (recordsBytes (recordsOf s (recorderOf standard (declared standard s)) (recordCount r)))
+  pub stored-is : {last : List ℕ} → last ≡ sets out 0 (recordsBytes (recordsOf s (recorderOf standard (opening standard s)) (recordCount r)))
       → last ≡ over (recordsBytes (records (verdict standard s (length out / recordSize)))) out
   stored-is e =
       let k = recorded standard s (length out / recordSize) r h in

@@ -36,6 +36,7 @@ use Rattle.pictures.specs.Answers.{unread}
 use Rattle.pictures.specs.Due as fr
 use Rattle.pictures.specs.Due.{FrontDue}
 use Rattle.pictures.specs.declared.Unread.{Unread}
+use Rattle.pictures.specs.declared.SeenPicture.{SeenPicture}
 use Rattle.pictures.specs.declared.Unread.the-variants as un
 use Rattle.pictures.specs.declared.VbvStandard.{VbvStandard}
 use Rattle.pictures.proofs.Due.{front-due}
@@ -157,7 +158,7 @@ unfolding firstRemoved firstMade firstStarted pick
 begins p c v f q =
     let m : VbvCbrModel = record { params = p; whole = 0; rest = 0; «prev_end_bits» = 0; removed = 0; started = false } in
     let a = model-made p m (makes p f) in
-    let e = model-starts m (c .«vbv_delay») (c .«pos_bits») (a .fits) (a .unstarted) (q .position-far) in
+    let e = model-starts m (c .«vbv_delay») (c .«pos_bits») (a .fits) (a .unstarted) (omega (arith, q .ends, q .end-near)) in
     let b = started m (c .«vbv_delay») (c .«pos_bits») _ e in
     record {
       model = atDelivered m (firstDelivered p (c .«pos_bits») (c .«vbv_delay»));
@@ -165,20 +166,20 @@ begins p c v f q =
       at-zero = b .end-kept;
       none-removed = b .count-kept;
       delivers = b .delivered-is;
-      goes = rw (v, makes-named p f, starts-named m (c .«vbv_delay») (c .«pos_bits») (a .fits) (a .unstarted) (q .position-far));
+      goes = rw (v, makes-named p f, starts-named m (c .«vbv_delay») (c .«pos_bits») (a .fits) (a .unstarted) (omega (arith, q .ends, q .end-near)));
     }
 
 -- ---- a list of coded pictures
 
-pub record Judged (p : VbvParams) (places : ℕ) (c : CodedPicture) (cs : List CodedPicture) : Type 0 where
-  pub answer : verifiedAnswer (judgedAs p places (length (c ∷ cs)) (advancedAll p Fresh (c ∷ cs))) ≡ reported (withPictures places p c cs)
-  pub few : length (records (withPictures places p c cs)) ≤ places
-  pub lasts : (r : VbvPictureRecord) (rs : List VbvPictureRecord) → withPictures places p c cs ≡ value (record { params = p; first = r; others = rs })
-      → lastsAll p Fresh (c ∷ cs) ≡ r ∷ rs
+pub record Judged (p : VbvParams) (places : ℕ) (pic : SeenPicture) (cs : List CodedPicture) : Type 0 where
+  pub answer : verifiedAnswer (judgedAs p places (length (codedOf pic ∷ cs)) (advancedAll p Fresh (codedOf pic ∷ cs))) ≡ reported (withPictures places p pic (codedOf pic ∷ cs))
+  pub few : length (records (withPictures places p pic (codedOf pic ∷ cs))) ≤ places
+  pub lasts : (r : VbvPictureRecord) (rs : List VbvPictureRecord) → withPictures places p pic (codedOf pic ∷ cs) ≡ value (record { params = p; first = r; others = rs })
+      → lastsAll p Fresh (codedOf pic ∷ cs) ≡ r ∷ rs
 
-refusing : {p : VbvParams} {places : ℕ} {c : CodedPicture} {cs : List CodedPicture} (e : VbvVerifyError)
-    → judgedAs p places (length (c ∷ cs)) (advancedAll p Fresh (c ∷ cs)) ≡ vf.Refused e → withPictures places p c cs ≡ refusal e → Judged p places c cs
-refusing {p} {places} {c} {cs} e a b =
+refusing : {p : VbvParams} {places : ℕ} {pic : SeenPicture} {cs : List CodedPicture} (e : VbvVerifyError)
+    → judgedAs p places (length (codedOf pic ∷ cs)) (advancedAll p Fresh (codedOf pic ∷ cs)) ≡ vf.Refused e → withPictures places p pic (codedOf pic ∷ cs) ≡ refusal e → Judged p places pic cs
+refusing {p} {places} {pic} {cs} e a b =
     record {
       answer = rw (a, b);
       few = rw b (omega arith);
@@ -188,10 +189,10 @@ refusing {p} {places} {c} {cs} e a b =
 same-records : {a b : Accepted} → _≡_ {A = Answer Accepted} (value a) (value b) → a .first ∷ a .others ≡ b .first ∷ b .others
 same-records {a} {b} h = let e : a ≡ b = cc in rw e
 
-reporting : {p : VbvParams} {places : ℕ} {c : CodedPicture} {cs : List CodedPicture} (r : VbvPictureRecord) (rs : List VbvPictureRecord)
-    → judgedAs p places (length (c ∷ cs)) (advancedAll p Fresh (c ∷ cs)) ≡ vf.Report (reportOf (record { params = p; first = r; others = rs }))
-    → withPictures places p c cs ≡ value (record { params = p; first = r; others = rs })
-    → length (r ∷ rs) ≤ places → lastsAll p Fresh (c ∷ cs) ≡ r ∷ rs → Judged p places c cs
+reporting : {p : VbvParams} {places : ℕ} {pic : SeenPicture} {cs : List CodedPicture} (r : VbvPictureRecord) (rs : List VbvPictureRecord)
+    → judgedAs p places (length (codedOf pic ∷ cs)) (advancedAll p Fresh (codedOf pic ∷ cs)) ≡ vf.Report (reportOf (record { params = p; first = r; others = rs }))
+    → withPictures places p pic (codedOf pic ∷ cs) ≡ value (record { params = p; first = r; others = rs })
+    → length (r ∷ rs) ≤ places → lastsAll p Fresh (codedOf pic ∷ cs) ≡ r ∷ rs → Judged p places pic cs
 reporting {p} r rs a b l k =
     record {
       answer = rw (a, b);
@@ -230,63 +231,63 @@ module _ {p : VbvParams} {c : CodedPicture} (b : Begun p c) (cs : List CodedPict
       subst (λ (o : Answer (List VbvPictureRecord)). Course p (b .model) (c ∷ cs) o) e (course (b .ready) (b .at-zero) t)
 
 -- the verdict where the model runs
-verdict-run : (p : VbvParams) (places : ℕ) (c : CodedPicture) (cs : List CodedPicture) (o : Answer (List VbvPictureRecord))
-    → eqb (c .«vbv_delay») 0xFFFF ≡ false → paramsFit p ≡ true → run p 0 0 (firstDelivered p (c .«pos_bits») (c .«vbv_delay»)) (c ∷ cs) ≡ o
-    → withPictures places p c cs ≡ refuse 15 (ltb places (length (c ∷ cs))) (andThen o (accepted p))
+verdict-run : (p : VbvParams) (places : ℕ) (pic : SeenPicture) (cs : List CodedPicture) (o : Answer (List VbvPictureRecord))
+    → eqb (pic .«vbv_delay») 0xFFFF ≡ false → paramsFit p ≡ true → run p 0 0 (firstDelivered p (pic .«pos_bits») (pic .«vbv_delay»)) (codedOf pic ∷ cs) ≡ o
+    → withPictures places p pic (codedOf pic ∷ cs) ≡ refuse 15 (ltb places (length (codedOf pic ∷ cs))) (andThen o (accepted p))
 unfolding withPictures pick
-verdict-run p places c cs o v f h = rw (v, f, h)
+verdict-run p places pic cs o v f h = rw (v, f, h)
 
 -- a refusal by its number and values
 as-told : {X : Type 0} {n k x y : ℕ} (e : VbvVerifyError) → refusalOf e ≡ record { number = n; picture = k; coded = x; expected = y }
     → _≡_ {A = Answer X} (refused n k x y) (refusal e)
 as-told e h = rw h
 
-runs : (p : VbvParams) (places : ℕ) (c : CodedPicture) (cs : List CodedPicture) (b : Begun p c) (o : Answer (List VbvPictureRecord))
-    → withPictures places p c cs ≡ refuse 15 (ltb places (length (c ∷ cs))) (andThen o (accepted p))
-    → Course p (b .model) (c ∷ cs) o → (t : Bool) → ltb places (length (c ∷ cs)) ≡ t → Judged p places c cs
+runs : (p : VbvParams) (places : ℕ) (pic : SeenPicture) (cs : List CodedPicture) (b : Begun p (codedOf pic)) (o : Answer (List VbvPictureRecord))
+    → withPictures places p pic (codedOf pic ∷ cs) ≡ refuse 15 (ltb places (length (codedOf pic ∷ cs))) (andThen o (accepted p))
+    → Course p (b .model) (codedOf pic ∷ cs) o → (t : Bool) → ltb places (length (codedOf pic ∷ cs)) ≡ t → Judged p places pic cs
 unfolding judgedAs ifPlaced report pick
-runs p places c cs b (refused n i x y) w k false l =
+runs p places pic cs b (refused n i x y) w k false l =
     let u = stopped-course k noRecord (p .«buffer_size_bits») 0 in
-    refusing (u .error) (rw (as-running b cs, u .is-stopped, le-leb (length (c ∷ cs)) places (ltb-false places (length (c ∷ cs)) l))) (w ∙ rw l (as-told (u .error) (u .told)))
-runs p places c cs b (refused n i x y) w k true l =
+    refusing (u .error) (rw (as-running b cs, u .is-stopped, le-leb (length (codedOf pic ∷ cs)) places (ltb-false places (length (codedOf pic ∷ cs)) l))) (w ∙ rw l (as-told (u .error) (u .told)))
+runs p places pic cs b (refused n i x y) w k true l =
     let u = stopped-course k noRecord (p .«buffer_size_bits») 0 in
-    refusing RecordPlaces (rw (as-running b cs, u .is-stopped, lt-leb (length (c ∷ cs)) places (ltb-true places (length (c ∷ cs)) l))) (w ∙ rw l)
-runs p places c cs b (value rs) w k true l =
+    refusing RecordPlaces (rw (as-running b cs, u .is-stopped, lt-leb (length (codedOf pic ∷ cs)) places (ltb-true places (length (codedOf pic ∷ cs)) l))) (w ∙ rw l)
+runs p places pic cs b (value rs) w k true l =
     refusing RecordPlaces
-    (rw (as-running b cs, ran-course k places (length (c ∷ cs)) noRecord (p .«buffer_size_bits») 0, lt-leb (length (c ∷ cs)) places (ltb-true places (length (c ∷ cs)) l)))
+    (rw (as-running b cs, ran-course k places (length (codedOf pic ∷ cs)) noRecord (p .«buffer_size_bits») 0, lt-leb (length (codedOf pic ∷ cs)) places (ltb-true places (length (codedOf pic ∷ cs)) l)))
     (w ∙ rw l)
-runs p places c cs b (value []) w k false l = absurd (omega (arith, ran-length k))
-runs p places c cs b (value (r ∷ rs)) w k false l =
+runs p places pic cs b (value []) w k false l = absurd (omega (arith, ran-length k))
+runs p places pic cs b (value (r ∷ rs)) w k false l =
     let g : greatestOf 0 (r ∷ rs) ≡ greatestBefore (r ∷ rs) = greatest-is 0 (r ∷ rs) ∙ omega arith in
-    let m = ltb-false places (length (c ∷ cs)) l in
+    let m = ltb-false places (length (codedOf pic ∷ cs)) l in
     reporting r rs
-    (rw (as-running b cs, ran-course k places (length (c ∷ cs)) noRecord (p .«buffer_size_bits») 0, le-leb (length (c ∷ cs)) places m, ran-least k, g, ← ran-length k))
+    (rw (as-running b cs, ran-course k places (length (codedOf pic ∷ cs)) noRecord (p .«buffer_size_bits») 0, le-leb (length (codedOf pic ∷ cs)) places m, ran-least k, g, ← ran-length k))
     (w ∙ rw l)
     (omega (arith, m, ran-length k))
     (as-lasts b cs ∙ ran-lasts k noRecord (p .«buffer_size_bits») 0)
 
-verdict-variable : (p : VbvParams) (places : ℕ) (c : CodedPicture) (cs : List CodedPicture) → eqb (c .«vbv_delay») 0xFFFF ≡ true
-    → withPictures places p c cs ≡ refused 5 0 0 0
+verdict-variable : (p : VbvParams) (places : ℕ) (pic : SeenPicture) (cs : List CodedPicture) → eqb (pic .«vbv_delay») 0xFFFF ≡ true
+    → withPictures places p pic (codedOf pic ∷ cs) ≡ refused 5 0 0 0
 unfolding withPictures pick
-verdict-variable p places c cs v = rw v
+verdict-variable p places pic cs v = rw v
 
-verdict-unfit : (p : VbvParams) (places : ℕ) (c : CodedPicture) (cs : List CodedPicture) → eqb (c .«vbv_delay») 0xFFFF ≡ false → paramsFit p ≡ false
-    → withPictures places p c cs ≡ refused 12 0 0 0
+verdict-unfit : (p : VbvParams) (places : ℕ) (pic : SeenPicture) (cs : List CodedPicture) → eqb (pic .«vbv_delay») 0xFFFF ≡ false → paramsFit p ≡ false
+    → withPictures places p pic (codedOf pic ∷ cs) ≡ refused 12 0 0 0
 unfolding withPictures pick
-verdict-unfit p places c cs v f = rw (v, f)
+verdict-unfit p places pic cs v f = rw (v, f)
 
-pub judges : (p : VbvParams) (places : ℕ) (c : CodedPicture) (cs : List CodedPicture) → Rising 0 (c ∷ cs) → Judged p places c cs
-judges p places c cs (next q t) = by-delay (eqb (c .«vbv_delay») 0xFFFF) refl
+pub judges : (p : VbvParams) (places : ℕ) (pic : SeenPicture) (cs : List CodedPicture) → Rising 0 (codedOf pic ∷ cs) → Judged p places pic cs
+judges p places pic cs (next q t) = by-delay (eqb (pic .«vbv_delay») 0xFFFF) refl
   where
-    by-params : eqb (c .«vbv_delay») 0xFFFF ≡ false → (b : Bool) → paramsFit p ≡ b → Judged p places c cs
+    by-params : eqb (pic .«vbv_delay») 0xFFFF ≡ false → (b : Bool) → paramsFit p ≡ b → Judged p places pic cs
     by-params v false f =
-        refusing (Model ParamsError) (unmodelled p places _ c cs _ (first-unfit p c v f)) (verdict-unfit p places c cs v f)
+        refusing (Model ParamsError) (unmodelled p places _ (codedOf pic) cs _ (first-unfit p (codedOf pic) v f)) (verdict-unfit p places pic cs v f)
     by-params v true f =
-        let b = begins p c v f q in
-        runs p places c cs b _ (verdict-run p places c cs _ v f refl) (first-course b cs (next q t)) (ltb places (length (c ∷ cs))) refl
+        let b = begins p (codedOf pic) v f q in
+        runs p places pic cs b _ (verdict-run p places pic cs _ v f refl) (first-course b cs (next q t)) (ltb places (length (codedOf pic ∷ cs))) refl
 
-    by-delay : (b : Bool) → eqb (c .«vbv_delay») 0xFFFF ≡ b → Judged p places c cs
-    by-delay true v = refusing VariableRate (unmodelled p places _ c cs _ (first-variable p c v)) (verdict-variable p places c cs v)
+    by-delay : (b : Bool) → eqb (pic .«vbv_delay») 0xFFFF ≡ b → Judged p places pic cs
+    by-delay true v = refusing VariableRate (unmodelled p places _ (codedOf pic) cs _ (first-variable p (codedOf pic) v)) (verdict-variable p places pic cs v)
     by-delay false v = by-params v (paramsFit p) refl
 
 -- ---- a stream
@@ -310,14 +311,14 @@ module _ (standard : VbvStandard) (s : List ℕ) (places : ℕ) where
   judged-by (wk.Read p n st) = refl
 
   by-front : (a : Answer Front) → FrontDue standard s a → judgedBy (andThen a (λ f. walkedOver (f .params) 0 Fresh (f .first ∷ f .others)))
-      ≡ reported (andThen a (λ f. withPictures places (f .params) (codedOf (f .first)) (timed (f .others))))
+      ≡ reported (andThen a (λ f. withPictures places (f .params) (f .first) (timed (f .first ∷ f .others))))
   unfolding walkedOver pick
   by-front (refused n k x y) d = refl
-  by-front (value f) (fr.shown {p} {x} {xs} r) =
+  by-front (value f) (fr.all-read {p} {x} {xs} r) =
       let e : 0 + suc (length xs) ≡ suc (length (timed xs)) = omega (arith, timed-length xs) in
       let z : eqb (suc (length (timed xs))) 0 ≡ false = ne-eqb (suc (length (timed xs))) 0 (λ (h : suc (length (timed xs)) ≡ 0). omega arith) in
       let t = timed-rising (seen-rising standard s (x ∷ xs) (r .short) (r .pictures-are)) in
-      rw (e, z, timed-first x xs) (judges p places (codedOf x) (timed xs) (rw (timed-first x xs) at t) .answer)
+      rw (e, z, timed-first x xs) (judges p places x (timed xs) (rw (timed-first x xs) at t) .answer)
 
   pub judgement-is : (w : Walked) → walkedAnswer w ≡ andThen (front standard s) (λ f. walkedOver (f .params) 0 Fresh (f .first ∷ f .others))
       → verifiedAnswer (judgement places w) ≡ reported (verdict standard s places)

@@ -11,8 +11,7 @@ use Rattle.bits.specs.Bits.{pick}
 use Rattle.bits.specs.Refusals.{Answer, value, refused, andThen}
 use Rattle.vbv.specs.declared.VbvParams.{VbvParams}
 use Rattle.pictures.specs.Seen.{seenPictures, nextSeen, nothing, one}
-use Rattle.pictures.specs.Front.{Front, front, withFirst}
-use Rattle.pictures.specs.Sequence.{declared}
+use Rattle.pictures.specs.Front.{Front, opening, front, withFirst}
 use Rattle.pictures.specs.Answers.{unread, declaredAnswer}
 use Rattle.pictures.specs.declared.Declared.{Declared}
 use Rattle.pictures.specs.declared.Declared.the-variants.{Params, Refused as NotDeclared}
@@ -20,7 +19,7 @@ use Rattle.pictures.specs.declared.Unread.{Unread}
 use Rattle.pictures.specs.declared.VbvStandard.{VbvStandard}
 use Rattle.pictures.specs.declared.SeenPicture.{SeenPicture}
 use Rattle.pictures.proofs.Seeing.{seenFrom, before, seen-from-first, seen-end, seen-refused, seen-one}
-use Rattle.pictures.proofs.Due.{front-long, front-undeclared, front-declared, first-none, first-some}
+use Rattle.pictures.proofs.Due.{front-unopened, front-opened, first-none, first-some}
 use Rattle.verify.specs.declared.Progress.{Progress}
 use Rattle.verify.specs.declared.Progress.the-variants.{Fresh}
 use Rattle.verify.specs.Coded.{codedOf, timed}
@@ -89,13 +88,12 @@ over-first p (value (x ∷ xs)) = rw (first-some p x xs)
 over-first p (refused n k c e) = refl
 
 module _ (standard : VbvStandard) (s : List ℕ) where
-  pub front-far : farthest < 8 * length s → refused 14 0 0 0 ≡ andThen (front standard s) walkedFront
-  front-far h = rw (front-long standard s (omega arith))
+  pub walked-refused : {r : Declared} {e : Unread} → r ≡ NotDeclared e → declaredAnswer r ≡ opening standard s → unread e ≡ andThen (front standard s) walkedFront
+  walked-refused {r} {e} q d = rw (front-unopened standard s (sym d ∙ ap declaredAnswer q))
 
-  module _ (h : 8 * length s ≤ farthest) where
-    pub front-unread : {r : Declared} {e : Unread} → r ≡ NotDeclared e → declaredAnswer r ≡ declared standard s → unread e ≡ andThen (front standard s) walkedFront
-    front-unread {r} {e} q d = rw (front-undeclared standard s (omega arith) (sym d ∙ ap declaredAnswer q))
+  pub opened : {r : Declared} {p : VbvParams} → r ≡ Params p → declaredAnswer r ≡ opening standard s → opening standard s ≡ value p
+  opened q d = sym d ∙ ap declaredAnswer q
 
-    pub front-walked : {r : Declared} {p : VbvParams} → r ≡ Params p → declaredAnswer r ≡ declared standard s
-        → {a : Answer (VbvParams × (ℕ × Progress))} → a ≡ andThen (seenPictures standard s) (walkedOver p 0 Fresh) → a ≡ andThen (front standard s) walkedFront
-    front-walked {r} {p} q d w = w ∙ rw (front-declared standard s (omega arith) (sym d ∙ ap declaredAnswer q)) (over-first p (seenPictures standard s))
+  pub walked-opened : {p : VbvParams} → opening standard s ≡ value p → {a : Answer (VbvParams × (ℕ × Progress))} → a ≡ andThen (seenPictures standard s) (walkedOver p 0 Fresh)
+      → a ≡ andThen (front standard s) walkedFront
+  walked-opened {p} e w = w ∙ rw (front-opened standard s e) (over-first p (seenPictures standard s))

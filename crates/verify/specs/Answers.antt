@@ -3,7 +3,7 @@
 use Prim.Native.Nat.{ℕ}
 use Rattle.bits.specs.Refusals.{Answer, value, refused, plain}
 use Rattle.headers.specs.Answers.{errorNumber}
-use Rattle.vbv.specs.Answers.{modelNumber, violationNumber, violationPicture, violationCoded, violationExpected}
+use Rattle.vbv.specs.Answers.{modelNumber, violationRefusal}
 use Rattle.verify.specs.declared.VbvVerifyError.{VbvVerifyError}
 use Rattle.verify.specs.declared.VbvVerifyError.the-variants.{Parse, Model, NoSequenceHeader, NoPictures, VariableRate, RecordPlaces, Violation}
 use Rattle.bits.specs.declared.VbvRefusal.{VbvRefusal}
@@ -19,8 +19,7 @@ refusalOf NoSequenceHeader = plain 3
 refusalOf NoPictures = plain 4
 refusalOf VariableRate = plain 5
 refusalOf RecordPlaces = plain 15
-refusalOf (Violation v) =
-    record { number = violationNumber v; picture = violationPicture v; coded = violationCoded v; expected = violationExpected v }
+refusalOf (Violation v) = violationRefusal v
 
 -- each answer by its number and values
 abbrev pub refusal : {X : Type 0} → VbvVerifyError → Answer X

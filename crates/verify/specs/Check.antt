@@ -9,10 +9,11 @@ use Rattle.bits.specs.Refusals.{Answer, value, refused, refuse, andThen}
 use Rattle.vbv.specs.Annex.{firstDelivered}
 use Rattle.vbv.specs.Model.{paramsFit}
 use Rattle.vbv.specs.declared.VbvParams.{VbvParams}
-use Rattle.verify.specs.Coded.{codedOf, timed}
+use Rattle.verify.specs.Coded.{timed}
 use Rattle.verify.specs.Run.{run, leastAfter, greatestBefore}
 use Rattle.pictures.specs.Front.{front}
 use Rattle.pictures.specs.declared.VbvStandard.{VbvStandard}
+use Rattle.pictures.specs.declared.SeenPicture.{SeenPicture}
 use Rattle.verify.specs.declared.VbvPictureRecord.{VbvPictureRecord}
 use Rattle.verify.specs.declared.VbvStreamReport.{VbvStreamReport}
 use Rattle.verify.specs.declared.CodedPicture.{CodedPicture}
@@ -23,22 +24,23 @@ pub record Accepted : Type 0 where
   pub first : VbvPictureRecord
   pub others : List VbvPictureRecord
 
+-- a run over one picture at least has a record
 abbrev pub accepted : VbvParams → List VbvPictureRecord → Answer Accepted
 accepted p [] = refused 4 0 0 0
 accepted p (r ∷ rs) = value (record { params = p; first = r; others = rs })
 
--- after the front: the first picture and the others
-unfoldable pub withPictures : ℕ → VbvParams → CodedPicture → List CodedPicture → Answer Accepted
-withPictures places p c cs =
-    refuse 5 (eqb (c .«vbv_delay») 0xFFFF)
+-- after the front: the first picture as its headers show it, and all of them as the model sees them
+unfoldable pub withPictures : ℕ → VbvParams → SeenPicture → List CodedPicture → Answer Accepted
+withPictures places p x cs =
+    refuse 5 (eqb (x .«vbv_delay») 0xFFFF)
     (refuse 12 (not (paramsFit p))
-    (refuse 15 (ltb places (length (c ∷ cs)))
-    (andThen (run p 0 0 (firstDelivered p (c .«pos_bits») (c .«vbv_delay»)) (c ∷ cs)) (accepted p))))
+    (refuse 15 (ltb places (length cs))
+    (andThen (run p 0 0 (firstDelivered p (x .«pos_bits») (x .«vbv_delay»)) cs) (accepted p))))
 
 unfoldable pub verdict : VbvStandard → List ℕ → ℕ → Answer Accepted
 verdict standard s places =
     andThen (front standard s) (λ f.
-    withPictures places (f .params) (codedOf (f .first)) (timed (f .others)))
+    withPictures places (f .params) (f .first) (timed (f .first ∷ f .others)))
 
 -- the report, and the records
 abbrev pub reportOf : Accepted → VbvStreamReport

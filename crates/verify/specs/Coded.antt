@@ -1,7 +1,7 @@
 -- The pictures as the model sees them: where each is, its coded delay and the interval up to the next removal.
 -- Assumes nothing.
 use mathlib.Core.List.{List, [], _∷_}
-use Rattle.pictures.specs.Seen.{intervalOf}
+use Rattle.vbv.specs.Model.{intervalOf}
 use Rattle.pictures.specs.declared.SeenPicture.{SeenPicture}
 use Rattle.verify.specs.declared.CodedPicture.{CodedPicture}
 

@@ -63,7 +63,7 @@ pub record Modelled (standard : VbvStandard) (s : List ℕ) (places : ℕ) (p : 
   pub places-suffice : length (x ∷ xs) ≤ places
 
 pub data VerdictDue (standard : VbvStandard) (s : List ℕ) (places : ℕ) : Answer Accepted → Type 0 where
-  unread : {n k i j : ℕ} → FrontDue standard s (refused n k i j) → VerdictDue standard s places (refused n k i j)
+  by-front : {n k i j : ℕ} → FrontDue standard s (refused n k i j) → VerdictDue standard s places (refused n k i j)
   variable-rate : {p : VbvParams} {x : SeenPicture} {xs : List SeenPicture} → Read standard s p x xs → x .«vbv_delay» ≡ 0xFFFF
       → VerdictDue standard s places (refused 5 0 0 0)
   unfit : {p : VbvParams} {x : SeenPicture} {xs : List SeenPicture} → Read standard s p x xs → (x .«vbv_delay» ≡ 0xFFFF → ⊥) → paramsFit p ≡ false

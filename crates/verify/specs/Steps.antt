@@ -155,7 +155,7 @@ unfoldable pub recordCount : VbvVerified → ℕ
 recordCount (vf.Report x) = x .pictures
 recordCount (vf.Refused e) = 0
 
--- before the first picture; where the sequence header is refused (3, 1, 2, 6) the recorder gives no record
+-- before the first picture; where the opening is refused (14, 3, 1, 2, 6) no record is asked of it
 unfoldable pub recorderOf : VbvStandard → Answer VbvParams → VbvRecorder
 recorderOf standard (value p) = record { standard = standard; params = p; at = 0; progress = Fresh }
 recorderOf standard (refused n k c e) =

@@ -1,7 +1,6 @@
 // The buffer report of a constant-rate stream: the check of Annex C over the pictures that its headers show.
 ghost use mathlib.Core.Path.{_≡_};
 ghost use Rattle.verify.specs.Answers.{refusalOf};
-ghost use Rattle.verify.specs.declared.VbvVerifyError.the-variants.{Violation};
 
 pub mod lent; // the check with records in a lent slice of structs
 mod records; // records as bytes
@@ -113,44 +112,7 @@ impl VbvVerifyError {
             VbvVerifyError::NoPictures => plain(4),
             VbvVerifyError::VariableRate => plain(5),
             VbvVerifyError::RecordPlaces => plain(15),
-            VbvVerifyError::Violation(v) => violation(v),
+            VbvVerifyError::Violation(v) => v.refusal(),
         }
-    }
-}
-
-fn violation(v: VbvViolation) -> VbvRefusal
-    ensures { λ r. ⌜ r ≡ refusalOf (Violation v) ⌝ }
-{
-    match v {
-        VbvViolation::Overflow {
-            picture,
-            coded,
-            expected,
-        } => VbvRefusal {
-            number: 9,
-            picture,
-            coded,
-            expected,
-        },
-        VbvViolation::Underflow {
-            picture,
-            coded,
-            expected,
-        } => VbvRefusal {
-            number: 10,
-            picture,
-            coded,
-            expected,
-        },
-        VbvViolation::DelayMismatch {
-            picture,
-            coded,
-            expected,
-        } => VbvRefusal {
-            number: 11,
-            picture,
-            coded,
-            expected,
-        },
     }
 }

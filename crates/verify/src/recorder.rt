@@ -1,6 +1,6 @@
 // The records of a stream one by one.
 ghost use mathlib.Core.Path.{_≡_};
-ghost use Rattle.pictures.specs.Sequence.{declared};
+ghost use Rattle.pictures.specs.Front.{opening as openingOf};
 ghost use Rattle.verify.specs.Steps.{recorderOf, recordCount, noRecord, lastOf, stayed, wentOn, nextRecord};
 use crate::Progress;
 use crate::VbvPictureRecord;
@@ -10,7 +10,7 @@ use crate::run::advance;
 use pictures::Declared;
 use pictures::NextSeen;
 use pictures::VbvStandard;
-use pictures::declared_params;
+use pictures::opening;
 use pictures::next_seen;
 use vbv::VbvParams;
 
@@ -67,9 +67,9 @@ fn last_of(progress: Progress) -> VbvPictureRecord
 impl VbvRecorder {
     // Before the first picture.
     pub(crate) fn new(stream: &[u8], standard: VbvStandard) -> VbvRecorder
-        ensures { λ r. ⌜ r ≡ recorderOf standard (declared standard (now (stream .entry))) ⌝ }
+        ensures { λ r. ⌜ r ≡ recorderOf standard (openingOf standard (now (stream .entry))) ⌝ }
     {
-        match declared_params(stream, standard) {
+        match opening(stream, standard) {
             Declared::Params(params) => VbvRecorder {
                 standard,
                 params,

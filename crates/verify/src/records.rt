@@ -3,7 +3,7 @@ ghost use mathlib.Core.Path.{_≡_};
 ghost use Prim.Native.Nat.{_+_, _*_, _≤_};
 ghost use lib.ListN.{length};
 ghost use lib.Seq.{sets};
-ghost use Rattle.pictures.specs.Sequence.{declared};
+ghost use Rattle.pictures.specs.Front.{opening};
 ghost use Rattle.verify.specs.Layout.{recordSize, recordBytes, recordsBytes};
 ghost use Rattle.verify.specs.Steps.{recorderOf, recordsOf};
 use crate::RECORD_BYTES;
@@ -29,7 +29,7 @@ fn put_record(out: &mut [u8], at: usize, record: VbvPictureRecord)
 // The first `count` records of a stream, each at its place.
 pub(crate) fn store(stream: &[u8], standard: VbvStandard, count: usize, out: &mut [u8])
     requires { ⌜ recordSize * count ≤ length (now out) ⌝ }
-    ensures { λ r. ⌜ now (out .exit) ≡ sets (now (out .entry)) 0 (recordsBytes (recordsOf (now (stream .entry)) (recorderOf standard (declared standard (now (stream .entry)))) count)) ⌝ }
+    ensures { λ r. ⌜ now (out .exit) ≡ sets (now (out .entry)) 0 (recordsBytes (recordsOf (now (stream .entry)) (recorderOf standard (opening standard (now (stream .entry)))) count)) ⌝ }
 {
     let mut recorder = VbvRecorder::new(stream, standard);
     let mut i: usize = 0;

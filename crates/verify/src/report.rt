@@ -7,7 +7,7 @@ ghost use lib.ListN.{length};
 ghost use Rattle.vbv.specs.Model.{farthest};
 ghost use Rattle.bits.specs.Refusals.{andThen, value};
 ghost use Rattle.bits.specs.Answers.{over};
-ghost use Rattle.pictures.specs.Front.{front as frontOf};
+ghost use Rattle.pictures.specs.Front.{front};
 ghost use Rattle.pictures.specs.Seen.{seenPictures};
 ghost use Rattle.verify.specs.Answers.{verifiedAnswer};
 ghost use Rattle.verify.specs.Check.{verdict, reported, records as recordsOf};
@@ -27,10 +27,8 @@ use pictures::Declared;
 use pictures::NextSeen;
 use pictures::Unread;
 use pictures::VbvStandard;
-use pictures::declared_params;
 use pictures::next_seen;
-use vbv::FARTHEST;
-use vbv::VbvError;
+use pictures::opening;
 use vbv::VbvParams;
 
 // Walks over the pictures and runs the model over them, as long as their headers can be read; there must be one.
@@ -59,15 +57,12 @@ fn walk(stream: &[u8], standard: VbvStandard, params: VbvParams) -> Walked
     }
 }
 
-// What every report asks first: 14, 3, sequence header, extension, 6, every picture header in stream order, 4. The model
-// runs along, so that the stream is walked over once.
-fn front(stream: &[u8], standard: VbvStandard) -> Walked
-    ensures { λ r. ⌜ walkedAnswer r ≡ andThen (frontOf standard (now (stream .entry))) (λ f. walkedOver (f .params) 0 Fresh (f .first ∷ f .others)) ⌝ }
+// The front: 14, 3, sequence header, extension, 6, every picture header in stream order, 4. The model runs along, so that
+// the stream is walked over once.
+fn walk_front(stream: &[u8], standard: VbvStandard) -> Walked
+    ensures { λ r. ⌜ walkedAnswer r ≡ andThen (front standard (now (stream .entry))) (λ f. walkedOver (f .params) 0 Fresh (f .first ∷ f .others)) ⌝ }
 {
-    if FARTHEST / 8 < stream.len() as u64 {
-        return Walked::Refused(Unread::Model(VbvError::Range));
-    }
-    match declared_params(stream, standard) {
+    match opening(stream, standard) {
         Declared::Refused(error) => Walked::Refused(error),
         Declared::Params(params) => walk(stream, standard, params),
     }
@@ -128,7 +123,7 @@ fn judge(walked: Walked, places: usize) -> VbvVerified
 pub fn check_stream(stream: &[u8], standard: VbvStandard, places: usize) -> VbvVerified
     ensures { λ r. ⌜ verifiedAnswer r ≡ reported (verdict standard (now (stream .entry)) places) ⌝ }
 {
-    judge(front(stream, standard), places)
+    judge(walk_front(stream, standard), places)
 }
 
 // The buffer report of a stream with its records, or why it is refused. A place has the bytes of a record.

@@ -12,7 +12,6 @@ use crate::Removed;
 use crate::VbvPictureRecord;
 use crate::VbvVerifyError;
 use pictures::SeenPicture;
-use pictures::interval;
 use vbv::VbvBits;
 use vbv::VbvCbrModel;
 use vbv::VbvDelay;
@@ -20,6 +19,7 @@ use vbv::VbvModel;
 use vbv::VbvParams;
 use vbv::VbvRemoval;
 use vbv::VbvViolation;
+use vbv::interval;
 
 // The difference, or 0.
 fn less(a: u64, b: u64) -> u64

@@ -1,4 +1,5 @@
-use Rattle.pictures.specs.Seen.{shown, factsOf}
+use Rattle.picture_header.proofs.FactLaws.{facts-by}
+use Rattle.pictures.specs.Seen.{shown}
 use borrow.Author.Needs.{needs}
 use Rattle.pictures.proofs.seen.shown_at.Statement.{statement}
 use Rattle.pictures.proofs.seen.shown_at.Tie as tie
@@ -42,8 +43,8 @@ unfolding shown
 returns-2 c = rw (c .before .before .before .before .enum-told .given .1, ← c .before .before .before .parse .ensures, c .before .error .given .1)
 
 returns-3 : tie.Need-returns-3
-unfolding shown factsOf
-returns-3 c = rw (c .before .before .before .before .before .enum-told2 .given .1, ← c .before .before .before .before .parse-with-extension .ensures, c .before .before .header2 .given .1, c .facts2 .ensures)
+unfolding shown
+returns-3 c = rw (c .before .before .before .before .before .enum-told2 .given .1, ← c .before .before .before .before .parse-with-extension .ensures, c .before .before .header2 .given .1, facts-by, c .facts2 .ensures)
 
 returns-4 : tie.Need-returns-4
 unfolding shown

@@ -47,8 +47,8 @@ plain-requires-6 c κs = search needs
 enum-known-self-3 : tie.Need-enum-known-self-3
 enum-known-self-3 c = search needs
 
-violation-requires : tie.Need-violation-requires
-violation-requires c κs = search needs
+refusal-requires : tie.Need-refusal-requires
+refusal-requires c κs = search needs
 
 returns : tie.Need-returns
 returns c = rw (c .plain .ensures, c .before .number .ensures, c .before .before .before .self .given .1)
@@ -69,7 +69,7 @@ returns-6 : tie.Need-returns-6
 returns-6 c = rw (c .plain6 .ensures, c .before .enum-told4 .given .1)
 
 returns-7 : tie.Need-returns-7
-returns-7 c = rw (c .violation .ensures, c .before .before .self3 .given .1)
+returns-7 c = rw (c .refusal .ensures, c .before .before .self3 .given .1)
 
 pub refusal-spec : {M : Type 1} → statement M
 refusal-spec =
@@ -90,7 +90,7 @@ refusal-spec =
     enum-told-4
     plain-requires-6
     enum-known-self-3
-    violation-requires
+    refusal-requires
     returns
     returns-2
     returns-3

@@ -51,7 +51,7 @@ use denote.Triple.Spec.{Meets, tripleOf}
 use denote.Triple.Table.{entered, cited}
 use denote.Triple.Walked.{says, Stays, stay-slice, stay-none, stay-none-slice, walkOf, AllGo, goes-none, goes-none-slice, goes-slice, Walks, ends-at, walked, walk-meets}
 use denote.Exit.{yes}
-use Rattle.pictures.specs.Sequence.{declared}
+use Rattle.pictures.specs.Front.{opening}
 use Rattle.verify.specs.Answers.{verifiedAnswer}
 use Rattle.verify.specs.Check.{verdict, reported}
 use Rattle.verify.specs.Steps.{recordCount, recorderOf, nextRecord}
@@ -156,7 +156,7 @@ module _ {M : Type 1} (𝓤 : URA M) (H : Heap 𝓤) (A : Atoms 𝓤) (W : Given
   svals = sliceVal (s .ptr) (length xs) ∷ []
 
   abbrev w₀ : VbvRecorder
-  w₀ = recorderOf standard (declared standard xs)
+  w₀ = recorderOf standard (opening standard xs)
 
   -- what the slice holds once i records are stored, the walk over the pictures then, and what the call gives there
   abbrev zs : ℕ → List VbvPictureRecord

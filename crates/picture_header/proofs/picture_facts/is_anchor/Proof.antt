@@ -1,7 +1,7 @@
-use Rattle.pictures.specs.Seen.{isAnchor}
+use Rattle.picture_header.specs.Facts.{isAnchor}
 use borrow.Author.Needs.{needs}
-use Rattle.pictures.proofs.seen.is_anchor.Statement.{statement}
-use Rattle.pictures.proofs.seen.is_anchor.Tie as tie
+use Rattle.picture_header.proofs.picture_facts.is_anchor.Statement.{statement}
+use Rattle.picture_header.proofs.picture_facts.is_anchor.Tie as tie
 
 enum-told : tie.Need-enum-told
 enum-told c = search needs

@@ -1,7 +1,7 @@
-use Rattle.pictures.specs.Seen.{isField}
+use Rattle.picture_header.specs.Facts.{isField}
 use borrow.Author.Needs.{needs}
-use Rattle.pictures.proofs.seen.is_field.Statement.{statement}
-use Rattle.pictures.proofs.seen.is_field.Tie as tie
+use Rattle.picture_header.proofs.picture_facts.is_field.Statement.{statement}
+use Rattle.picture_header.proofs.picture_facts.is_field.Tie as tie
 
 enum-told : tie.Need-enum-told
 enum-told c = search needs

@@ -1,6 +1,6 @@
-use Rattle.pictures.specs.Seen.{intervalOf}
-use Rattle.pictures.proofs.seen.interval.Statement.{statement}
-use Rattle.pictures.proofs.seen.interval.Tie as tie
+use Rattle.vbv.specs.Model.{intervalOf}
+use Rattle.vbv.proofs.interval.Statement.{statement}
+use Rattle.vbv.proofs.interval.Tie as tie
 
 returns : tie.Need-returns
 unfolding intervalOf

@@ -1,7 +1,7 @@
-use Rattle.pictures.specs.Seen.{factsBy}
+use Rattle.picture_header.specs.Facts.{factsBy}
 use borrow.Author.Needs.{needs}
-use Rattle.pictures.proofs.seen.facts.Statement.{statement}
-use Rattle.pictures.proofs.seen.facts.Tie as tie
+use Rattle.picture_header.proofs.picture_facts.facts.Statement.{statement}
+use Rattle.picture_header.proofs.picture_facts.facts.Tie as tie
 
 is-anchor-requires : tie.Need-is-anchor-requires
 is-anchor-requires c κs = search needs
