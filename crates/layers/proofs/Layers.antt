@@ -10,6 +10,8 @@ use lib.Dec.{eqb}
 use lib.ListN.{length, take, drop}
 use lib.Seq.{getD-drop}
 use borrow.Author.Tests.{not-true, leb-true, eqb-true}
+use Rattle.vbv.specs.Model.{intervalOf}
+use Rattle.picture_header.specs.Facts.{isAnchor, isField, factsOf}
 use Rattle.bits.specs.Bits.{bitsAt}
 use Rattle.bits.specs.Refusals.{Answer, value, refused, andThen, orElse}
 use Rattle.bits.proofs.Laws.{bits-bound, bits-split}
@@ -34,7 +36,6 @@ use Rattle.picture_header.proofs.OtherDelay.{withDelay, delayed-type, forward-c
 use Rattle.vbv.specs.declared.RemovalInterval.{RemovalInterval}
 use Rattle.vbv.specs.declared.RemovalInterval.the-variants.{Frame, Field}
 use Rattle.picture_header.proofs.FactLaws.{facts-are}
-use Rattle.pictures.specs.Seen.{isAnchor, isField, factsOf, intervalOf}
 use Rattle.picture_header.specs.declared.PictureFacts.{PictureFacts}
 use Rattle.scan.specs.Codes.{codes, endsPrefix}
 use Rattle.scan.proofs.PictureCodes.{PictureHead}

@@ -7,6 +7,7 @@ use mathlib.Core.Bool.{Bool, true, false}
 use native.Mathlib.Nat.{add-zero}
 use lib.ListN.{length, replicate, drop, length-append}
 use lib.Seq.{drop-append-add, drop-append-seam}
+use Rattle.vbv.specs.Model.{intervalOf}
 use Rattle.bits.proofs.Appending.{Below}
 use Rattle.vbv.specs.Patch.{patched}
 use Rattle.vbv.specs.declared.RemovalInterval.{RemovalInterval}
@@ -16,7 +17,7 @@ use Rattle.scan.proofs.Laid.{Tail, laid-pictures}
 use Rattle.scan.proofs.Laying.{Piece, Pieces, none, more, laidPieces, laidPics, laid-none, laid-more, pics-none, pics-last, pics-more}
 use Rattle.scan.proofs.Pieces.{piece-zeros}
 use Rattle.bits.specs.Refusals.{value}
-use Rattle.pictures.specs.Seen.{intervalOf, shown, seenEach, seenPictures}
+use Rattle.pictures.specs.Seen.{shown, seenEach, seenPictures}
 use Rattle.pictures.specs.Sequence.{declared}
 use Rattle.pictures.specs.declared.VbvStandard.the-variants.{Mpeg2}
 use Rattle.pictures.specs.declared.SeenPicture.{SeenPicture}

@@ -8,6 +8,8 @@ use native.Mathlib.Omega.{arith}
 use lib.Dec.{eqb, leb}
 use lib.ListN.{length, getD, take, drop}
 use borrow.Author.Tests.{le-leb, lt-leb, leb-true, leb-false}
+use Rattle.vbv.specs.Model.{intervalOf}
+use Rattle.picture_header.specs.Facts.{isField}
 use Rattle.bits.specs.StartCodes.{sequenceHeaderCode}
 use Rattle.bits.specs.Bits.{there}
 use Rattle.bits.specs.Answers.{readBits}
@@ -23,7 +25,6 @@ use Rattle.headers.proofs.StartCode.{zeros-past, zeros-none, zeros-more, prefix
 use Rattle.picture_header.proofs.PictureHeader.{picture-header-parsed}
 use Rattle.picture_header.proofs.Extent.{header-bits, header-bytes}
 use Rattle.vbv.specs.declared.RemovalInterval.{RemovalInterval}
-use Rattle.pictures.specs.Seen.{isField, intervalOf}
 use Rattle.scan.specs.declared.Found.the-variants.{At, Nothing}
 use Rattle.scan.specs.Codes.{codes, codesAt, every, nextCode, endsPrefix, found}
 use Rattle.scan.specs.Pictures.{isSlice, notSequence, skip}

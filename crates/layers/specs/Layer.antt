@@ -5,6 +5,8 @@ use mathlib.Core.List.{List, [], _∷_}
 use mathlib.Core.Bool.{Bool, true, false, not, _&&_, _||_}
 use lib.Dec.{eqb, leb}
 use lib.ListN.{drop}
+use Rattle.vbv.specs.Model.{intervalOf}
+use Rattle.picture_header.specs.Facts.{isField}
 use Rattle.bits.specs.StartCodes.{userDataStartCode, extensionStartCode}
 use Rattle.bits.specs.Bits.{bitsAt}
 use Rattle.bits.specs.Refusals.{value, andThen, orElse}
@@ -21,7 +23,6 @@ use Rattle.picture_header.specs.declared.Mpeg2PictureHeader.{Mpeg2PictureHeader
 use Rattle.picture_header.specs.declared.PictureCodingExtension.{PictureCodingExtension}
 use Rattle.vbv.specs.declared.RemovalInterval.{RemovalInterval}
 use Rattle.vbv.specs.declared.RemovalInterval.the-variants.{Frame, Field}
-use Rattle.pictures.specs.Seen.{isField, intervalOf}
 use Rattle.scan.specs.Codes.{Code, codes, every, endsPrefix}
 use Rattle.scan.specs.Pictures.{isSlice, skip}
 use Rattle.layers.specs.declared.PictureKind.{PictureKind}

@@ -309,7 +309,7 @@ fn header_fits(layer: &[u8], kind: PictureKind, interval: RemovalInterval) -> bo
             let coded = header.picture_coding_type;
             let structure = extension.picture_structure;
             same_kind(kind, coded)
-                & (same_interval(interval, pictures::interval(pictures::is_field(structure)))
+                & (same_interval(interval, vbv::interval(picture_header::is_field(structure)))
                     & (!extension.repeat_first_field
                         & (vectors_fit(header)
                             & (padding_clear(layer, header) & zeros_behind(layer, header)))))

@@ -17,7 +17,6 @@ use layers::PictureKind;
 use vbv::VbvCbrModel;
 use vbv::VbvError;
 use vbv::VbvViolation;
-use verify::VbvVerifyError;
 
 // What a writer is created with: the sequence header's fields, the quantiser that every kind starts from, B pictures between
 // anchors and anchors in a group.
