@@ -30,7 +30,7 @@ enum {
     VBV_EARLY = 7,          /* a picture's start code lies beyond the bits delivered at its removal */
     VBV_DELAY_TOO_LONG = 8, /* an expected delay above 0xFFFE */
     VBV_OVERFLOW = 9,       /* the buffer overflows */
-    VBV_UNDERFLOW = 10,     /* a picture is not already delivered at its removal */
+    VBV_UNDERFLOW = 10,     /* a picture is not yet all delivered at its removal */
     VBV_DELAY_MISMATCH = 11, /* coded and expected delay are more than a tick apart */
     VBV_PARAMETER = 12,     /* a parameter out of its range, a buffer of above 65,534 ticks, or state bytes that hold no writer */
     VBV_TOO_FAR = 14,       /* the stream passes 2^48 bits */

@@ -71,7 +71,7 @@ size_t find_code(const struct stream *s, int code)
 
 int is_slice(int code)
 {
-    return 0x01 <= code && code <= 0xAF;
+    return FIRST_SLICE <= code && code <= LAST_SLICE;
 }
 
 size_t picture_codes(const struct stream *s)

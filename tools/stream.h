@@ -11,9 +11,9 @@ struct stream {
     size_t length;
 };
 
-/* Codes of ISO/IEC 13818-2, Table 6-1; slices are 01 to AF, and from SYSTEM on codes are of system streams. */
-enum { PICTURE = 0x00, USER_DATA = 0xB2, SEQUENCE = 0xB3, SEQUENCE_ERROR = 0xB4, EXTENSION = 0xB5, SEQUENCE_END = 0xB7,
-       GROUP = 0xB8, SYSTEM = 0xB9 };
+/* Codes of ISO/IEC 13818-2, Table 6-1; from SYSTEM on codes are of system streams. */
+enum { PICTURE = 0x00, FIRST_SLICE = 0x01, LAST_SLICE = 0xAF, USER_DATA = 0xB2, SEQUENCE = 0xB3, SEQUENCE_ERROR = 0xB4,
+       EXTENSION = 0xB5, SEQUENCE_END = 0xB7, GROUP = 0xB8, SYSTEM = 0xB9 };
 
 /* Extensions (Table 6-2), picture types (Table 6-12) and structures (Table 6-14). */
 enum { SEQUENCE_EXTENSION = 1, QUANT_MATRIX_EXTENSION = 3, PICTURE_CODING_EXTENSION = 8 };

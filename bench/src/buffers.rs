@@ -1,6 +1,7 @@
 //! The buffers that both are timed on.
 
-use crate::spans::spans;
+use oracle::model::{BUFFER_UNIT, RATE_UNIT};
+use oracle::spans::spans;
 use original::picture_header::{Mpeg2PictureHeader, PictureStructure};
 use original::sequence_header::Mpeg2SequenceHeader;
 use original::vbv::{
@@ -34,7 +35,8 @@ fn interval(standard: VbvStandard, picture: &[u8]) -> RemovalInterval {
 fn stamp(standard: VbvStandard, stream: &mut [u8], first: u16) {
     let header = Mpeg2SequenceHeader::parse(stream).unwrap();
     let frame_rate = frame_rate_value(header.frame_rate_code).unwrap();
-    let (rate, buffer) = (400 * u64::from(header.bit_rate), 16_384 * u64::from(header.vbv_buffer_size));
+    let rate = RATE_UNIT * u64::from(header.bit_rate);
+    let buffer = BUFFER_UNIT * u64::from(header.vbv_buffer_size);
     let mut model = VbvCbrModel::new(&VbvParams::new(rate, buffer, frame_rate)).unwrap();
     for (n, p) in pictures(standard, stream).iter().enumerate() {
         let position = 8 * (p.at as u64 + 4);
@@ -61,7 +63,7 @@ pub fn repeated(standard: VbvStandard, stream: &[u8], size: usize) -> Vec<u8> {
     long[9] = (rate >> 2) as u8;
     long[10] = (rate << 6) as u8 | (long[10] & 0x3F);
     let header = Mpeg2SequenceHeader::parse(&long).unwrap();
-    let full = 90_000 * 16_384 * u64::from(header.vbv_buffer_size) / (400 * rate as u64);
+    let full = 90_000 * BUFFER_UNIT * u64::from(header.vbv_buffer_size) / (RATE_UNIT * rate as u64);
     stamp(standard, &mut long, (full * 3 / 4) as u16);
     long
 }

@@ -6,14 +6,10 @@ mod buffers;
 #[path = "../../oracle/src/entries/entry.rs"]
 #[allow(dead_code)] // no patch here
 mod entry;
-#[path = "../../oracle/src/layout.rs"]
-#[allow(dead_code)] // not all of them here
-mod layout;
 mod offers;
-#[path = "../../oracle/src/spans.rs"]
-mod spans;
 
-use layout::{VBV_MPEG1, VBV_MPEG2, VBV_RECORD_BYTES, VBV_REFUSAL_BYTES, VBV_REPORT_BYTES};
+use oracle::layout::{VBV_MPEG1, VBV_MPEG2, VBV_RECORD_BYTES, VBV_REFUSAL_BYTES, VBV_REPORT_BYTES};
+use oracle::spans::picture_codes;
 use original::vbv::{VbvStandard, VbvVerifyError, verify_cbr_stream};
 use std::alloc::{GlobalAlloc, Layout, System};
 use std::ffi::c_void;
@@ -74,7 +70,7 @@ struct Work {
 
 impl Work {
     fn new(standard: VbvStandard, stream: Vec<u8>) -> Self {
-        let records = vec![1; VBV_RECORD_BYTES * spans::picture_codes(&stream)];
+        let records = vec![1; VBV_RECORD_BYTES * picture_codes(&stream)];
         Self { stream, standard, records }
     }
 

@@ -2,8 +2,9 @@
 //! check of what was handed out.
 
 use crate::entry::{cbr_create, cbr_offer, cbr_withdraw};
-use crate::layout::{CBR_ANSWER_BYTES, CBR_FRAME, CBR_STATE_BYTES, VBV_RECORD_BYTES};
 use crate::{buffers, check, run_nothing, seconds, stack_used};
+use oracle::layout::{CBR_ANSWER_BYTES, CBR_FRAME, CBR_STATE_BYTES, VBV_RECORD_BYTES};
+use oracle::model::{BUFFER_UNIT, RATE_UNIT};
 use original::rate_control::OracleWriter;
 use original::vbv::{RemovalInterval, VbvStandard, verify_cbr_stream};
 use std::ffi::c_void;
@@ -59,7 +60,7 @@ impl Work {
     /// buffer is of so many pictures.
     fn new(from: &[u8], count: usize, kinds: &[usize], size: usize, before: &[usize], pictures: usize) -> Self {
         let rate = (size as u32 + 16) / 2; // in 400 bits a second, which is two bytes a frame
-        let buffer = (8 * pictures * size / 16_384) as u16;
+        let buffer = (8 * pictures * size / BUFFER_UNIT as usize) as u16;
         let mut data = buffers::slice_data(from).into_iter().cycle();
         let mut sequence = vec![];
         for (n, &kind) in kinds.iter().enumerate() {
@@ -83,7 +84,8 @@ impl Work {
     /// The original's bytes of each sequence, put into memory that is at hand; it takes the layers, so that none is copied.
     fn emit(self, outs: &mut [Vec<u8>], checked: bool) {
         for (sequence, out) in self.sequences.into_iter().zip(outs) {
-            let mut w = OracleWriter::new(self.rate, self.buffer, 3, 1, 2, 4).with_room(std::mem::take(out));
+            let (rate, buffer) = (RATE_UNIT * u64::from(self.rate), BUFFER_UNIT * u64::from(self.buffer));
+            let mut w = OracleWriter::new(rate, buffer, 3, 1, 2, 4).with_room(std::mem::take(out));
             for p in sequence {
                 let mut layers = p.layers.into_iter();
                 assert!(w.emit(&p.headers, p.kind, RemovalInterval::Frame, p.last, |_| layers.next()));

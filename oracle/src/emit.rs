@@ -4,9 +4,8 @@ pub struct OracleWriter(CbrWriter);
 
 impl OracleWriter {
     /// As `encode_cbr_gop_sequence` makes it, of parameters that creation accepts, with nothing put out yet.
-    pub fn new(rate: u32, buffer: u16, rate_code: u8, q: u8, between: u8, anchors: u8) -> Self {
+    pub fn new(bit_rate: u64, buffer_bits: u64, rate_code: u8, q: u8, between: u8, anchors: u8) -> Self {
         let frame_rate = frame_rate_value(rate_code).unwrap();
-        let (bit_rate, buffer_bits) = (u64::from(rate) * 400, u64::from(buffer) * 16 * 1024);
         Self(CbrWriter {
             out: vec![],
             model: VbvCbrModel::new(&VbvParams::new(bit_rate, buffer_bits, frame_rate)).unwrap(),

@@ -1,4 +1,4 @@
-//! The sizes and codes that include/hipokuta.h names, by their names there; the benchmark has this file too.
+//! The sizes and codes that include/hipokuta.h names, by their names there, for the benchmark too.
 
 pub const VBV_MPEG1: u8 = 1;
 pub const VBV_MPEG2: u8 = 2;

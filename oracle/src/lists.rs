@@ -2,7 +2,7 @@
 //! runs beside it, and then the original's check over what was handed out.
 
 use crate::format::{ACCEPTED, Answer, Met, number, pattern, words};
-use crate::model::interval;
+use crate::model::{BUFFER_UNIT, RATE_UNIT, interval};
 use crate::writer::{Config, Offer, Told, Writer};
 use original::rate_control::OracleWriter;
 use original::vbv::{VbvStandard, verify_cbr_stream};
@@ -266,7 +266,8 @@ pub fn answer(input: &[u8]) -> Answer {
         Ok(w) => w,
         Err(n) => return Answer::of(met(n)),
     };
-    let original = OracleWriter::new(c.rate, c.buffer, c.rate_code, c.q, c.between, c.anchors);
+    let (rate, buffer) = (RATE_UNIT * u64::from(c.rate), BUFFER_UNIT * u64::from(c.buffer));
+    let original = OracleWriter::new(rate, buffer, c.rate_code, c.q, c.between, c.anchors);
     assert_eq!(original.targets(), w.targets);
     let mut beside = Beside::new(original);
     let mut answer = Answer { bytes: vec![0], met: vec![] };

@@ -1,4 +1,4 @@
-//! Where the pictures of a stream lie among its start codes; the benchmark has this file too.
+//! Where the pictures of a stream lie among its start codes, for the benchmark too.
 
 /// How many picture start codes there are: no fewer than pictures.
 pub fn picture_codes(stream: &[u8]) -> usize {

@@ -1,5 +1,6 @@
 //! The constant-rate writer as paper 01 tells it ('A placed picture'): a model of the paper's rules in plain numbers of 128 bits.
-//! It parses with the original's functions; everything else is its own.
+//! It parses with the original's functions; everything else is its own, its numbers (400, 16,384, 2^48) too: so it is
+//! independent of what it is compared with.
 
 use original::picture_header::{Mpeg2PictureHeader, PictureCodingType, PictureStructure};
 use original::sequence_extension::Mpeg2Sequence;
