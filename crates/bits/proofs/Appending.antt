@@ -149,10 +149,10 @@ pack-eight xs bs e =
     let n : (length (xs ++ bs) + 7) / 8 ≡ suc ((length bs + 7) / 8) = simp length-append (omega arith) in
     let b : num (λ i. getD (xs ++ bs) i 0) 0 8 ≡ num (λ i. getD xs i 0) 0 8 =
     num-same _ _ 0 0 8 (λ k h. List·getD-append xs bs 0 (0 + k) (omega arith)) in
-    rw (n, b) (ap (λ (l : List ℕ). num (λ i. getD xs i 0) 0 8 ∷ l) (bytes-same _ _ 1 0 ((length bs + 7) / 8) behind))
+    rw (n, b) (ap (λ (l : List ℕ). num (λ i. getD xs i 0) 0 8 ∷ l) (bytes-same _ _ 1 0 ((length bs + 7) / 8) follows))
   where
-    behind : (i : ℕ) → getD (xs ++ bs) (8 * 1 + i) 0 ≡ getD bs (8 * 0 + i) 0
-    behind i =
+    follows : (i : ℕ) → getD (xs ++ bs) (8 * 1 + i) 0 ≡ getD bs (8 * 0 + i) 0
+    follows i =
         let d : 8 * 1 + i ≡ length xs + i = omega arith in
         let z : 8 * 0 + i ≡ i = omega arith in
         rw (d, z) (getD-append-add xs bs i 0)
@@ -226,9 +226,9 @@ module _ (s : List ℕ) (i : ℕ) (bs : List ℕ) where
         simp (length-append, length-drop, length-packed) (omega arith)
 
     -- the bytes after stay
-    pub append-behind : (m : ℕ) → (i + length bs + 7) / 8 ≤ m → drop m (appendBits s i bs) ≡ drop m s
+    pub append-past : (m : ℕ) → (i + length bs + 7) / 8 ≤ m → drop m (appendBits s i bs) ≡ drop m s
     unfolding appendBits
-    append-behind m l =
+    append-past m l =
         let e : m ≡ length (pack (front s i bs)) + (m - (i + length bs + 7) / 8) = omega (arith, length-packed) in
         let d : (i + length bs + 7) / 8 + (m - (i + length bs + 7) / 8) ≡ m = omega arith in
         ap (λ (x : ℕ). drop x (appendBits s i bs)) e
@@ -280,7 +280,7 @@ append-append s i bs cs b h =
     ap (take (i + length bs)) (bit-list-append (pack xs) _)
     ∙ take-append-le (i + length bs) (bitList (pack xs)) _ (omega (arith, bit-list-length (pack xs), length-pack xs))
     ∙ ap (λ (n : ℕ). take n (bitList (pack xs))) (sym l) ∙ pack-front xs (front-bound s i bs b) in
-    rw (e, append-behind s i bs (omega arith) ((i + length bs + length cs + 7) / 8) (omega arith), length-append bs cs, add-assoc i (length bs) (length cs), append-assoc)
+    rw (e, append-past s i bs (omega arith) ((i + length bs + length cs + 7) / 8) (omega arith), length-append bs cs, add-assoc i (length bs) (length cs), append-assoc)
 
 pub append-zero : (s bs : List ℕ) → appendBits s 0 bs ≡ over (pack bs) s
 unfolding appendBits over
@@ -297,4 +297,4 @@ pub append-none : (s : List ℕ) (m : ℕ) → m ≤ length s → Below 256 s �
 append-none s m h b =
     let g : 8 * m + 0 ≤ 8 * length s = omega arith in
     sym (take-append-drop m (appendBits s (8 * m) []))
-    ∙ rw (append-before s (8 * m) [] g m (omega arith) b, append-behind s (8 * m) [] g m (omega arith)) (take-append-drop m s)
+    ∙ rw (append-before s (8 * m) [] g m (omega arith) b, append-past s (8 * m) [] g m (omega arith)) (take-append-drop m s)

@@ -52,8 +52,8 @@ module _ (s : List ℕ) (i : ℕ) (bs : List ℕ) (h : i + length bs ≤ 8 * len
         set-bit (i + k) (omega arith) ∙ ap (λ (x : ℕ). getD (around s i bs) (x + k) 0) (sym (length-before s i bs h))
         ∙ getD-append-add (take i (bitList s)) _ k 0 ∙ List·getD-append bs _ 0 k l
 
-    bit-behind : (j : ℕ) → i + length bs ≤ j → bitAt (setBits s i bs) j ≡ bitAt s j
-    bit-behind j l =
+    bit-after : (j : ℕ) → i + length bs ≤ j → bitAt (setBits s i bs) j ≡ bitAt s j
+    bit-after j l =
         ⊎-elim
         (λ (g : j < 8 * length s).
         let k = j - (i + length bs) in
@@ -69,9 +69,9 @@ module _ (s : List ℕ) (i : ℕ) (bs : List ℕ) (h : i + length bs ≤ 8 * len
     unfolding bitsAt
     set-before k n l = num-same (bitAt (setBits s i bs)) (bitAt s) k k n (λ j g. bit-before (k + j) (omega arith))
 
-    pub set-behind : (k n : ℕ) → i + length bs ≤ k → bitsAt (setBits s i bs) k n ≡ bitsAt s k n
+    pub set-after : (k n : ℕ) → i + length bs ≤ k → bitsAt (setBits s i bs) k n ≡ bitsAt s k n
     unfolding bitsAt
-    set-behind k n l = num-same (bitAt (setBits s i bs)) (bitAt s) k k n (λ j g. bit-behind (k + j) (omega arith))
+    set-after k n l = num-same (bitAt (setBits s i bs)) (bitAt s) k k n (λ j g. bit-after (k + j) (omega arith))
 
 -- a number set is read again, less what is above its bits
 pub set-digits : (s : List ℕ) (i n v : ℕ) → i + n ≤ 8 * length s → bitsAt (setBits s i (digits n v)) i n ≡ v % 2 ^ n

@@ -13,7 +13,7 @@ use borrow.Author.Tests.{le-leb, lt-leb}
 use Rattle.bits.specs.Bits.{pick, num, bitAt, bitsAt, there, digits, appendBits}
 use Rattle.bits.specs.Answers.{wroteBits}
 use Rattle.bits.proofs.Laws.{bits-none, bit-bound, num-bound, num-same, num-split, length-digits, digits-num, byte-num, bytes-number}
-use Rattle.bits.proofs.Appending.{Below, digit-bound, num-zero, append-length, append-behind, append-before, append-old, append-new, append-zeros, append-below}
+use Rattle.bits.proofs.Appending.{Below, digit-bound, num-zero, append-length, append-past, append-before, append-old, append-new, append-zeros, append-below}
 
 -- the first o bits of a byte
 pub byte-high : (s : List ℕ) (m o : ℕ) → getD s m 0 < 256 → o ≤ 8 → getD s m 0 / 2 ^ (8 - o) ≡ bitsAt s (8 * m) o
@@ -99,7 +99,7 @@ module _ (s : List ℕ) (i n v : ℕ) where
           same = append-length s i (digits n v) room;
           bytes = append-below s i (digits n v) f (digit-bound n v);
           out-is = sym (ap (λ (l : List ℕ). take (i / 8 + byteCount i n) s ++ l)
-              (append-behind s i (digits n v) room (i / 8 + byteCount i n) (omega (arith, length-digits n v)))
+              (append-past s i (digits n v) room (i / 8 + byteCount i n) (omega (arith, length-digits n v)))
               ∙ take-append-drop (i / 8 + byteCount i n) s);
           waits = whole;
         }

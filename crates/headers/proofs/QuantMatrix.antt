@@ -25,19 +25,19 @@ module _ (s : List ℕ) (i : ℕ) where
   unfolding readMatrix
   none-there e = rw (any-missed 1 [] s i e)
 
-  behind-flag : (v : ℕ) → value v ≡ readBits s i 1 → readMatrix s i ≡ prepended (v ∷ []) (readFields (matrixBytes v) s (i + 1))
+  after-flag : (v : ℕ) → value v ≡ readBits s i 1 → readMatrix s i ≡ prepended (v ∷ []) (readFields (matrixBytes v) s (i + 1))
   unfolding readMatrix
-  behind-flag v e = rw (any-found 1 [] s i v e, read-none s (i + 1))
+  after-flag v e = rw (any-found 1 [] s i v e, read-none s (i + 1))
 
   flag-table : (v : ℕ) → value v ≡ readBits s i 1 → readMatrix s i ≡ readFields (anyValue 1 ∷ matrixBytes v) s i
-  flag-table v e = behind-flag v e ∙ sym (any-found 1 (matrixBytes v) s i v e)
+  flag-table v e = after-flag v e ∙ sym (any-found 1 (matrixBytes v) s i v e)
 
   pub none-loaded : value 0 ≡ readBits s i 1 → readMatrix s i ≡ value (0 ∷ [])
   unfolding matrixBytes
-  none-loaded e = behind-flag 0 e ∙ rw (read-none s (i + 1))
+  none-loaded e = after-flag 0 e ∙ rw (read-none s (i + 1))
 
   pub one-loaded : value 1 ≡ readBits s i 1 → readMatrix s i ≡ prepended (1 ∷ []) (readFields (matrixBytes 1) s (i + 1))
-  one-loaded e = behind-flag 1 e
+  one-loaded e = after-flag 1 e
 
   -- the three ways of read_matrix
   pub flag-missed : refused 1 0 0 0 ≡ readBits s i 1 → matrixAt s i ≡ refused 1 0 0 0
@@ -51,11 +51,11 @@ module _ (s : List ℕ) (i : ℕ) where
   unfolding matrixOf pick
   flag-set v e n =
       let z : v ≡ 1 = omega (arith, n, found-bound s i 1 v e) in
-      rw (one-loaded (rw z at (e))) (behind (readFields (matrixBytes 1) s (i + 1)))
+      rw (one-loaded (rw z at (e))) (follows (readFields (matrixBytes 1) s (i + 1)))
     where
-      behind : (p : Answer (List ℕ)) → andThen (prepended (1 ∷ []) p) (λ vs. value (matrixOf vs)) ≡ andThen p (λ bytes. value (loaded bytes))
-      behind (value vs) = refl
-      behind (refused m p c x) = refl
+      follows : (p : Answer (List ℕ)) → andThen (prepended (1 ∷ []) p) (λ vs. value (matrixOf vs)) ≡ andThen p (λ bytes. value (loaded bytes))
+      follows (value vs) = refl
+      follows (refused m p c x) = refl
 
 -- what the code answers: its number, and the matrix or none
 abbrev MatrixTold : MatrixRead → Answer QuantiserMatrix → Type 0

@@ -37,8 +37,8 @@ pub record Writable (p : SequenceHeaderParams) : Type 0 where
 
 -- a written sequence header parses to the fields given, whatever stands after it
 abbrev pub WrittenReads : Type 0
-WrittenReads = (p : SequenceHeaderParams) (behind : List ℕ) → Writable p
-    → sequenceHeader (sequenceWritten p ++ behind) ≡ value (headerOfParams p)
+WrittenReads = (p : SequenceHeaderParams) (follows : List ℕ) → Writable p
+    → sequenceHeader (sequenceWritten p ++ follows) ≡ value (headerOfParams p)
 
 -- a parsed one with constrained_parameters_flag 0 is not refused, and writes back to its own bytes
 abbrev pub ReadWrites : Type 0
@@ -47,8 +47,8 @@ ReadWrites = (s : List ℕ) (h : Mpeg2SequenceHeader) → Bytes s → sequenceHe
 
 -- both of the extension, which has 10 bytes
 abbrev pub ExtensionWrittenReads : Type 0
-ExtensionWrittenReads = (e : Mpeg2SequenceExtension) (behind : List ℕ) → fitsAll sequenceExtensionFields (extensionValues e) ≡ true
-    → sequenceExtension (extensionWritten e ++ behind) ≡ value e
+ExtensionWrittenReads = (e : Mpeg2SequenceExtension) (follows : List ℕ) → fitsAll sequenceExtensionFields (extensionValues e) ≡ true
+    → sequenceExtension (extensionWritten e ++ follows) ≡ value e
 
 abbrev pub ExtensionReadWrites : Type 0
 ExtensionReadWrites = (s : List ℕ) (e : Mpeg2SequenceExtension) → Bytes s → sequenceExtension s ≡ value e
@@ -56,24 +56,24 @@ ExtensionReadWrites = (s : List ℕ) (e : Mpeg2SequenceExtension) → Bytes s �
 
 -- what `write_sequence_extension` writes is never refused with 16, and parses to what it was given
 abbrev pub PlainWrittenReads : Type 0
-PlainWrittenReads = (c : ChromaFormat) (progressive : Bool) (behind : List ℕ)
+PlainWrittenReads = (c : ChromaFormat) (progressive : Bool) (follows : List ℕ)
     → (fitsAll sequenceExtensionFields (extensionValues (plainExtension c progressive)) ≡ true)
-    × (sequenceExtension (extensionWritten (plainExtension c progressive) ++ behind) ≡ value (plainExtension c progressive))
+    × (sequenceExtension (extensionWritten (plainExtension c progressive) ++ follows) ≡ value (plainExtension c progressive))
 
 -- more bytes after a header change its answer only where that is 1
 abbrev pub SequenceHeaderStays : Type 0
-SequenceHeaderStays = (s behind : List ℕ) → (sequenceHeader s ≡ refused 1 0 0 0 → ⊥) → sequenceHeader (s ++ behind) ≡ sequenceHeader s
+SequenceHeaderStays = (s follows : List ℕ) → (sequenceHeader s ≡ refused 1 0 0 0 → ⊥) → sequenceHeader (s ++ follows) ≡ sequenceHeader s
 
 abbrev pub ExtensionStays : Type 0
-ExtensionStays = (s behind : List ℕ) → (sequenceExtension s ≡ refused 1 0 0 0 → ⊥) → sequenceExtension (s ++ behind) ≡ sequenceExtension s
+ExtensionStays = (s follows : List ℕ) → (sequenceExtension s ≡ refused 1 0 0 0 → ⊥) → sequenceExtension (s ++ follows) ≡ sequenceExtension s
 
 -- and what is too short with more bytes after it (1) is too short without them
 abbrev pub SequenceHeaderCut : Type 0
-SequenceHeaderCut = (s behind : List ℕ) → sequenceHeader (s ++ behind) ≡ refused 1 0 0 0 → sequenceHeader s ≡ refused 1 0 0 0
+SequenceHeaderCut = (s follows : List ℕ) → sequenceHeader (s ++ follows) ≡ refused 1 0 0 0 → sequenceHeader s ≡ refused 1 0 0 0
 
 abbrev pub ExtensionCut : Type 0
-ExtensionCut = (s behind : List ℕ) → sequenceExtension (s ++ behind) ≡ refused 1 0 0 0 → sequenceExtension s ≡ refused 1 0 0 0
+ExtensionCut = (s follows : List ℕ) → sequenceExtension (s ++ follows) ≡ refused 1 0 0 0 → sequenceExtension s ≡ refused 1 0 0 0
 
 -- a sequence that parses does so with more bytes after it; a missing prefix (2) may come with them
 abbrev pub SequenceStays : Type 0
-SequenceStays = (s behind : List ℕ) (q : Mpeg2Sequence) → sequence s ≡ value q → sequence (s ++ behind) ≡ value q
+SequenceStays = (s follows : List ℕ) (q : Mpeg2Sequence) → sequence s ≡ value q → sequence (s ++ follows) ≡ value q

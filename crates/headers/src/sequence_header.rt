@@ -90,7 +90,7 @@ pub(crate) fn refused(error: Error) -> SequenceHeaderRead
 }
 
 // The bit after the intra matrix.
-fn behind(load: bool) -> u32
+fn after_matrix(load: bool) -> u32
     ensures { λ r. ⌜ r ≡ 95 + 512 * flagOf load ⌝ }
 {
     if load { 607 } else { 95 }
@@ -110,7 +110,7 @@ impl Mpeg2SequenceHeader {
             Outcome::Done => {
                 let first = read_matrix(buf, 94);
                 let intra_quant = first.matrix;
-                let second = read_matrix(buf, behind(intra_quant.load));
+                let second = read_matrix(buf, after_matrix(intra_quant.load));
                 let non_intra_quant = second.matrix;
                 if first.there & second.there {
                     let v = read.values;

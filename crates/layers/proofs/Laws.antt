@@ -32,11 +32,11 @@ use Rattle.vbv.specs.Answers.{frameRate}
 use Rattle.vbv.proofs.Params.{params-are as fields-are}
 use Rattle.vbv.specs.declared.VbvParams.{VbvParams}
 use Rattle.vbv.specs.declared.RemovalInterval.{RemovalInterval}
-use Rattle.vbv.proofs.Patching.{starts-picture-is, patched-length, patched-front, patched-rest, patched-below, patched-delay, patched-before, patched-behind}
+use Rattle.vbv.proofs.Patching.{starts-picture-is, patched-length, patched-front, patched-rest, patched-below, patched-delay, patched-before, patched-after}
 use Rattle.scan.specs.Codes.{Code, codes, codesFrom, every, endsPrefix}
 use Rattle.scan.specs.Pictures.{isSlice, notSlice, notPicture, skip}
 use Rattle.scan.proofs.Laying.{OnePicture, Opened, Piece}
-use Rattle.scan.proofs.Pieces.{piece-behind}
+use Rattle.scan.proofs.Pieces.{piece-after}
 use Rattle.scan.proofs.PictureCodes.{PictureHead, codes-picture, codes-none, codes-opened}
 use Rattle.scan.proofs.Prefix.{ends-drop, ends-prefix}
 use Rattle.scan.proofs.Search.{every-more}
@@ -118,7 +118,7 @@ module _ (k : PictureKind) (i : RemovalInterval) (s : List ℕ) (fits : layerFit
           same-length = layer-length d;
           same-code = sym (take-take 4 5 (patched s d) (lit≤ tt)) ∙ ap (take 4) e ∙ take-take 4 5 s (lit≤ tt);
           same-before = patched-before s d layer-starts;
-          same-behind = patched-behind s d layer-starts;
+          same-after = patched-after s d layer-starts;
           same-rest = patched-rest s d layer-starts bytes small;
         }
 
@@ -131,7 +131,7 @@ module _ (k : PictureKind) (i : RemovalInterval) (s : List ℕ) (fits : layerFit
     patched-low : LowBits (patched s d)
     patched-low =
         ⊎-elim
-        (λ (v : 1 ≤ bitsAt s 61 3). inl (rw (other .same-behind 61 3 (lit≤ tt)) v))
+        (λ (v : 1 ≤ bitsAt s 61 3). inl (rw (other .same-after 61 3 (lit≤ tt)) v))
         (λ (v : 2 ≤ leadingZeros (drop 8 s)). inr (rw (other .same-rest) v))
         (layer-low f)
 
@@ -173,7 +173,7 @@ module _ (k : PictureKind) (i : RemovalInterval) (s : List ℕ) (fits : layerFit
     layer-shown t =
         let h = withDelay (f .header) (bitsAt (patched s d) 45 16) in
         let p : picture (patched s d ++ t) ≡ value (h, f .extension) =
-        picture-append (patched s d) t h (f .extension) (picture-delayed s (patched s d) other (f .header) (f .extension) (f .parsed) (f .zeros-behind)) in
+        picture-append (patched s d) t h (f .extension) (picture-delayed s (patched s d) other (f .header) (f .extension) (f .parsed) (f .zeros-after)) in
         shown-parsed (patched s d ++ t) h (f .extension) p
         ∙ rw (facts-delayed f (bitsAt (patched s d) 45 16), delayed-delay (f .header) (bitsAt (patched s d) 45 16), patched-delay s d layer-starts small)
 
@@ -248,7 +248,7 @@ module _ (p : VbvParams) (placed : Bool) where
   headers-piece [] e x at q = rw zero-add q
   headers-piece (b ∷ s) e x at q =
       let f = fit-of b s e in
-      piece-behind (b ∷ s) x at (headers-open f) (every-by headerCode notPicture header-no-picture (codes (b ∷ s)) (f .all-codes)) q
+      piece-after (b ∷ s) x at (headers-open f) (every-by headerCode notPicture header-no-picture (codes (b ∷ s)) (f .all-codes)) q
 
 -- the first headers declare the parameters
 rate-is : (p : VbvParams) (code : ℕ) → sameRate p code ≡ true → frameRate code ≡ value (p .frn, p .frd)

@@ -48,7 +48,7 @@ pub record LayerFits (k : PictureKind) (i : RemovalInterval) (s : List ℕ) : Ty
   pub parsed : picture s ≡ value (header, extension)
   pub interval : intervalOf (isField (extension .«picture_structure»)) ≡ i
   pub seven : codeSeven (header .«fwd_f_code») ≡ true
-  pub zeros-behind : 2 ≤ leadingZeros (drop (pictureHeaderBytes header) s)
+  pub zeros-after : 2 ≤ leadingZeros (drop (pictureHeaderBytes header) s)
   pub codes-fit : layerCodes (codes s) ≡ true
   pub closed : endsPrefix s ≡ false
 
@@ -89,7 +89,7 @@ layer-fits k i s f = case (picture s) refl (a .0)
           parsed = p;
           interval = interval-is i (intervalOf (isField (x .«picture_structure»))) (c2 .0);
           seven = c5 .0;
-          zeros-behind = leb-true _ _ (c8 .1);
+          zeros-after = leb-true _ _ (c8 .1);
           codes-fit = b .0;
           closed = not-true (endsPrefix s) (b .1);
         }
@@ -182,9 +182,9 @@ module _ {k : PictureKind} {i : RemovalInterval} {s : List ℕ} (f : LayerFits k
   pub layer-twelve : 12 ≤ length s
   layer-twelve =
       let r = picture-parsed s (f .header) (f .extension) (f .parsed) in
-      omega (arith, extension-placed r .room, next-found s _ _ (r .next) .ends, header-least layer-header, f .zeros-behind)
+      omega (arith, extension-placed r .room, next-found s _ _ (r .next) .ends, header-least layer-header, f .zeros-after)
 
   pub layer-low : LowBits s
   layer-low =
       let r = picture-parsed s (f .header) (f .extension) (f .parsed) in
-      low-bits s (f .header) (r .header) (r .not-dc) (f .seven) (f .zeros-behind)
+      low-bits s (f .header) (r .header) (r .not-dc) (f .seven) (f .zeros-after)

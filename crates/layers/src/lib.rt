@@ -279,7 +279,7 @@ fn two_zeros(s: &[u8], at: usize) -> bool
 }
 
 // Whether two zero bytes follow a picture header.
-fn zeros_behind(layer: &[u8], header: Mpeg2PictureHeader) -> bool
+fn zeros_after(layer: &[u8], header: Mpeg2PictureHeader) -> bool
     requires { ⌜ pictureHeader (now layer) ≡ value header ⌝ }
     ensures { λ r. ⌜ r ≡ leb 2 (leadingZeros (drop (pictureHeaderBytes header) (now (layer .entry)))) ⌝ }
 {
@@ -312,13 +312,13 @@ fn header_fits(layer: &[u8], kind: PictureKind, interval: RemovalInterval) -> bo
                 & (same_interval(interval, vbv::interval(picture_header::is_field(structure)))
                     & (!extension.repeat_first_field
                         & (vectors_fit(header)
-                            & (padding_clear(layer, header) & zeros_behind(layer, header)))))
+                            & (padding_clear(layer, header) & zeros_after(layer, header)))))
         }
     }
 }
 
 // Any of B5 and B2, then at least one slice and only slices, of the codes that a scan from `from` finds.
-fn slices_behind(layer: &[u8], from: usize) -> bool
+fn slices_after(layer: &[u8], from: usize) -> bool
     ensures { λ r. ⌜ r ≡ slices (skip isExtension (codesAt (now (layer .entry)) from)) ⌝ }
 {
     match past(layer, from, CodeSet::Extensions) {
@@ -333,7 +333,7 @@ fn layer_codes(layer: &[u8]) -> bool
 {
     match scan::next_code(layer, 0) {
         Found::At { offset, code } => {
-            (offset == 0) & ((code == 0) & slices_behind(layer, offset + 4))
+            (offset == 0) & ((code == 0) & slices_after(layer, offset + 4))
         }
         Found::Nothing => false,
     }

@@ -20,7 +20,7 @@ use Rattle.picture_header.specs.CodingExtension.{
   motionCodesFit,
   codingFields,
   codingExtensionOf,
-  behindCodes,
+  afterCodes,
   pictureCodingExtension,
 }
 use Rattle.picture_header.specs.Stability.{CodingStays, CodingCut}
@@ -38,23 +38,23 @@ codes-same : (h k : List ℕ) → ((i : ℕ) → getD h i 0 ≡ getD k i 0) → 
 unfolding motionCodesFit
 codes-same h k e = simp e
 
-behind-codes-same : (s h k : List ℕ) → ((i : ℕ) → getD h i 0 ≡ getD k i 0) → behindCodes s h ≡ behindCodes s k
-unfolding behindCodes codingExtensionOf
-behind-codes-same s h k e = rw (e 1, e 2, e 3, e 4)
+after-codes-same : (s h k : List ℕ) → ((i : ℕ) → getD h i 0 ≡ getD k i 0) → afterCodes s h ≡ afterCodes s k
+unfolding afterCodes codingExtensionOf
+after-codes-same s h k e = rw (e 1, e 2, e 3, e 4)
 
 -- the ways after the f_codes
 module _ (r : Fields) (s h : List ℕ) (e : fieldsAnswer r ≡ inPlaces (readFields codingFields s 52)) where
-  pub behind-short : r .outcome ≡ Short → refused 1 0 0 0 ≡ behindCodes s h
-  unfolding behindCodes
-  behind-short o = rw (answer-short r (readFields codingFields s 52) e o)
+  pub after-short : r .outcome ≡ Short → refused 1 0 0 0 ≡ afterCodes s h
+  unfolding afterCodes
+  after-short o = rw (answer-short r (readFields codingFields s 52) e o)
 
-  pub behind-bad : r .outcome ≡ Bad → refused 2 0 0 0 ≡ behindCodes s h
-  unfolding behindCodes
-  behind-bad o = rw (answer-bad r (readFields codingFields s 52) e o)
+  pub after-bad : r .outcome ≡ Bad → refused 2 0 0 0 ≡ afterCodes s h
+  unfolding afterCodes
+  after-bad o = rw (answer-bad r (readFields codingFields s 52) e o)
 
-  pub behind-done : r .outcome ≡ Done → value (codingExtensionOf h (r .values)) ≡ behindCodes s h
-  unfolding behindCodes
-  behind-done o =
+  pub after-done : r .outcome ≡ Done → value (codingExtensionOf h (r .values)) ≡ afterCodes s h
+  unfolding afterCodes
+  after-done o =
       let d = fields-done r codingFields s 52 e o in
       rw (d .parsed) (ap value (coding-same h h (r .values) (d .vs) (λ i. refl) (d .same)))
 
@@ -74,11 +74,11 @@ module _ (r : Fields) (s : List ℕ) (e : fieldsAnswer r ≡ inPlaces (readHeade
       let d = header-done r (startCode extensionStartCode) motionCodeFields s e o in
       rw (d .parsed, ← codes-same (r .values) (d .vs) (d .same), f)
 
-  pub coding-fit : r .outcome ≡ Done → motionCodesFit (r .values) ≡ true → behindCodes s (r .values) ≡ pictureCodingExtension s
+  pub coding-fit : r .outcome ≡ Done → motionCodesFit (r .values) ≡ true → afterCodes s (r .values) ≡ pictureCodingExtension s
   unfolding pictureCodingExtension pick
   coding-fit o f =
       let d = header-done r (startCode extensionStartCode) motionCodeFields s e o in
-      rw (d .parsed, ← codes-same (r .values) (d .vs) (d .same), f) (behind-codes-same s (r .values) (d .vs) (d .same))
+      rw (d .parsed, ← codes-same (r .values) (d .vs) (d .same), f) (after-codes-same s (r .values) (d .vs) (d .same))
 
 -- what was read of a parsed one
 pub record CodingParsed (s : List ℕ) (x : PictureCodingExtension) : Type 0 where
@@ -90,7 +90,7 @@ pub record CodingParsed (s : List ℕ) (x : PictureCodingExtension) : Type 0 whe
   pub made : x ≡ codingExtensionOf h vs
 
 pub coding-parsed : (s : List ℕ) (x : PictureCodingExtension) → pictureCodingExtension s ≡ value x → CodingParsed s x
-unfolding pictureCodingExtension behindCodes
+unfolding pictureCodingExtension afterCodes
 coding-parsed s x e =
     let a = then-value (readHeader (startCode extensionStartCode) motionCodeFields s) e in
     let f = past-value 2 (not (motionCodesFit (a .0))) (a .2) in
@@ -110,14 +110,14 @@ coding-code s x e =
 
 -- what stands after the bytes does not matter, unless they are too short
 pub coding-append : CodingStays
-unfolding pictureCodingExtension behindCodes
+unfolding pictureCodingExtension afterCodes
 coding-append s t =
     then-stays (readHeader (startCode extensionStartCode) motionCodeFields s) _ _ _ (header-append (startCode extensionStartCode) motionCodeFields s t) (λ h.
     past-stays 2 (not (motionCodesFit h))
     (then-stays (readFields codingFields s 52) _ _ _ (read-append codingFields s t 52) (λ vs n. refl)))
 
 pub coding-seen : (s : List ℕ) → ParseOutcome (pictureCodingExtension s)
-unfolding pictureCodingExtension behindCodes
+unfolding pictureCodingExtension afterCodes
 coding-seen s =
     then-seen (header-seen (startCode extensionStartCode) motionCodeFields s) (λ h.
     pick-elim ParseOutcome (not (motionCodesFit h)) (λ f. broken) (λ f.

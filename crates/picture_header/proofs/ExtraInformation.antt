@@ -60,22 +60,22 @@ module _ (bs : List ℕ) (p : ℕ) where
 unfoldable pub countedOn : ℕ → Answer ℕ → Answer ℕ
 countedOn n a = andThen a (λ k. value (n + k))
 
-behind-none : (a : Answer ℕ) → a ≡ countedOn 0 a
+after-none : (a : Answer ℕ) → a ≡ countedOn 0 a
 unfolding countedOn
-behind-none (refused n p c e) = refl
-behind-none (value k) = ap value (omega arith)
+after-none (refused n p c e) = refl
+after-none (value k) = ap value (omega arith)
 
-behind-more : (n : ℕ) (a : Answer ℕ) → countedOn n (oneMore a) ≡ countedOn (n + 1) a
+after-more : (n : ℕ) (a : Answer ℕ) → countedOn n (oneMore a) ≡ countedOn (n + 1) a
 unfolding countedOn
-behind-more n (refused m p c e) = refl
-behind-more n (value k) = ap value (omega arith)
+after-more n (refused m p c e) = refl
+after-more n (value k) = ap value (omega arith)
 
 -- the walk over the flags of the bytes s, the first at bit f: n of them are 1, and the next is at bit f + 9 * n
 pub record Walk (s : List ℕ) (f n : ℕ) : Type 0 where
   pub so-far : extraAt s f ≡ countedOn n (extraAt s (f + 9 * n))
 
 pub walk-none : (s : List ℕ) (f : ℕ) → Walk s f 0
-walk-none s f = record { so-far = rw (add-zero f) (behind-none _) }
+walk-none s f = record { so-far = rw (add-zero f) (after-none _) }
 
 module _ {s : List ℕ} {f n : ℕ} (w : Walk s f n) where
   pub walk-cut : 8 * length s ≤ f + 9 * n → refused 1 0 0 0 ≡ extraAt s f
@@ -94,7 +94,7 @@ module _ {s : List ℕ} {f n : ℕ} (w : Walk s f n) where
         so-far =
             w .so-far
             ∙ ap (countedOn n) (flag-more (bitList s) (f + 9 * n) (omega (arith, bit-list-length s)) (λ y. z (sym (bit-list-at s (f + 9 * n)) ∙ y)))
-            ∙ behind-more n _ ∙ ap (λ (p : ℕ). countedOn (n + 1) (extraAt s p)) e;
+            ∙ after-more n _ ∙ ap (λ (p : ℕ). countedOn (n + 1) (extraAt s p)) e;
       }
 
 -- flag n as it is read, from byte n on

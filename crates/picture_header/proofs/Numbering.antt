@@ -8,8 +8,8 @@ use Rattle.bits.specs.Numbers.{a-value, by-number}
 use Rattle.bits.proofs.Flags.{pick-elim}
 use Rattle.bits.proofs.Numbering.{and-then, Header, fields-numbered, header-numbered}
 use Rattle.headers.proofs.Numbering.{next-numbered}
-use Rattle.picture_header.specs.PictureHeader.{extra, behindDelay, pictureHeader, headerLength}
-use Rattle.picture_header.specs.CodingExtension.{behindCodes, pictureCodingExtension}
+use Rattle.picture_header.specs.PictureHeader.{extra, afterDelay, pictureHeader, headerLength}
+use Rattle.picture_header.specs.CodingExtension.{afterCodes, pictureCodingExtension}
 use Rattle.picture_header.specs.Picture.{picture}
 use Rattle.picture_header.specs.Numbers.{PictureNumbers}
 
@@ -21,7 +21,7 @@ extra-numbered zero (zero ∷ bs) = a-value
 extra-numbered zero (suc b ∷ bs) = and-then _ (extra-numbered 8 bs) λ n. a-value
 
 picture-header-numbered : (s : List ℕ) → Header (pictureHeader s)
-unfolding pictureHeader behindDelay
+unfolding pictureHeader afterDelay
 picture-header-numbered s =
     and-then _ (header-numbered _ _ s) λ h.
     and-then _ (fields-numbered _ s 61) λ m.
@@ -33,7 +33,7 @@ unfolding headerLength
 length-numbered s = and-then _ (picture-header-numbered s) λ h. a-value
 
 coding-numbered : (s : List ℕ) → Header (pictureCodingExtension s)
-unfolding pictureCodingExtension behindCodes
+unfolding pictureCodingExtension afterCodes
 coding-numbered s =
     and-then _ (header-numbered _ _ s) λ h.
     pick-elim Header _ (λ e. by-number refl) λ e.

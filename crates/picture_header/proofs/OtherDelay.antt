@@ -19,9 +19,9 @@ use Rattle.bits.proofs.Reading.{read-field, there-is, obeys-is, read-none, read
 use Rattle.bits.proofs.Same.{bits-one, read-same, bit-list-same}
 use Rattle.bits.proofs.Flags.{clash}
 use Rattle.headers.specs.StartCode.{leadingZeros}
-use Rattle.picture_header.specs.PictureHeader.{pictureFields, forward, backward, vectorFields, motionFields, codingType, codeIf, extra, extraAt, extraBit, pictureOf, behindDelay, pictureHeader, pictureHeaderBits, pictureHeaderBytes}
+use Rattle.picture_header.specs.PictureHeader.{pictureFields, forward, backward, vectorFields, motionFields, codingType, codeIf, extra, extraAt, extraBit, pictureOf, afterDelay, pictureHeader, pictureHeaderBits, pictureHeaderBytes}
 use Rattle.picture_header.specs.Picture.{picture}
-use Rattle.picture_header.specs.Steps.{behindHeader}
+use Rattle.picture_header.specs.Steps.{afterHeader}
 use Rattle.picture_header.specs.declared.PictureCodingType.{PictureCodingType}
 use Rattle.picture_header.specs.declared.PictureCodingType.the-variants.{Intra, Predictive, Bidirectional, DcIntra}
 use Rattle.picture_header.specs.declared.OptionCode.the-variants.{Some as SomeCode}
@@ -29,14 +29,14 @@ use Rattle.picture_header.specs.declared.Mpeg2PictureHeader.{Mpeg2Pictur
 use Rattle.picture_header.specs.declared.PictureCodingExtension.{PictureCodingExtension}
 use Rattle.headers.proofs.StartCode.{next-found, next-same}
 use Rattle.picture_header.proofs.PictureHeader.{picture-header-parsed, header-least, header-inside, extra-bit-type, flag-bit-range, from, fields-are}
-use Rattle.picture_header.proofs.Picture.{picture-parsed, picture-behind}
+use Rattle.picture_header.proofs.Picture.{picture-parsed, picture-after}
 
 -- t is s with another delay: bits 45 to 60
 pub record OtherDelay (s t : List ℕ) : Type 0 where
   pub same-length : length t ≡ length s
   pub same-code : take 4 t ≡ take 4 s
   pub same-before : (k n : ℕ) → k + n ≤ 45 → bitsAt t k n ≡ bitsAt s k n
-  pub same-behind : (k n : ℕ) → 61 ≤ k → bitsAt t k n ≡ bitsAt s k n
+  pub same-after : (k n : ℕ) → 61 ≤ k → bitsAt t k n ≡ bitsAt s k n
   pub same-rest : drop 8 t ≡ drop 8 s
 
 -- the header with the delay d
@@ -82,7 +82,7 @@ three-read t l a b =
 
 module _ (s t : List ℕ) (o : OtherDelay s t) (h : Mpeg2PictureHeader) where
   pub header-delayed : pictureHeader s ≡ value h → pictureHeader t ≡ value (withDelay h (bitsAt t 45 16))
-  unfolding pictureHeader behindDelay pictureOf withDelay
+  unfolding pictureHeader afterDelay pictureOf withDelay
   header-delayed e =
       let w = from s h e in
       let p = picture-header-parsed s h e in
@@ -99,9 +99,9 @@ module _ (s t : List ℕ) (o : OtherDelay s t) (h : Mpeg2PictureHeader) where
       }) in
       let k = extraBit (getD (w .vs) 1 0) in
       let low : 61 ≤ k = rw (extra-bit-type (getD (w .vs) 1 0)) (flag-bit-range (codingType (getD (w .vs) 1 0)) .0) in
-      let m : readFields (motionFields (getD (w .vs) 1 0)) t 61 ≡ value (w .m) = read-same s t (o .same-length) _ 61 (o .same-behind) ∙ w .motion-is in
+      let m : readFields (motionFields (getD (w .vs) 1 0)) t 61 ≡ value (w .m) = read-same s t (o .same-length) _ 61 (o .same-after) ∙ w .motion-is in
       let x : extraAt t k ≡ value (w .n) =
-      ap (extra 0) (bit-list-same s t (o .same-length) k (λ i n q. o .same-behind i n (omega arith))) ∙ w .extra-is in
+      ap (extra 0) (bit-list-same s t (o .same-length) k (λ i n q. o .same-after i n (omega arith))) ∙ w .extra-is in
       rw (r, b, m, x, a) (ap (λ (g : Mpeg2PictureHeader). value (withDelay g (bitsAt t 45 16))) (sym (w .made)))
 
   -- the bytes from byte 8 on are the same
@@ -114,14 +114,14 @@ module _ (s t : List ℕ) (o : OtherDelay s t) (h : Mpeg2PictureHeader) where
   -- with its extension, where that stands after the eight bytes
   pub picture-delayed : (x : PictureCodingExtension) → picture s ≡ value (h, x) → 2 ≤ leadingZeros (drop (pictureHeaderBytes h) s)
       → picture t ≡ value (withDelay h (bitsAt t 45 16), x)
-  unfolding behindHeader
+  unfolding afterHeader
   picture-delayed x e z =
       let r = picture-parsed s h x e in
       let g = header-delayed (r .header) in
       let b : 8 ≤ pictureHeaderBytes h = header-least (picture-header-parsed s h (r .header)) in
       let f = next-found s (pictureHeaderBytes h) (r .place) (r .next) in
       let l : 8 ≤ r .place = omega (arith, f .ends) in
-      sym (picture-behind t (withDelay h (bitsAt t 45 16)) g (rw delayed-type (r .not-dc)))
+      sym (picture-after t (withDelay h (bitsAt t 45 16)) g (rw delayed-type (r .not-dc)))
       ∙ rw (delayed-bytes h (bitsAt t 45 16), next-same s t (pictureHeaderBytes h) (r .place) (drop-same (pictureHeaderBytes h) b) (drop-same (r .place) l) (r .next), drop-same (r .place) l, r .coded)
 
 -- ---- the bits after the delay

@@ -19,7 +19,7 @@ use Rattle.picture_header.specs.declared.PictureRead.{PictureRead}
 use Rattle.picture_header.specs.PictureHeader.{pictureHeader, pictureHeaderBytes}
 use Rattle.picture_header.specs.CodingExtension.{pictureCodingExtension}
 use Rattle.picture_header.specs.Picture.{isDc, picture}
-use Rattle.picture_header.specs.Steps.{behindHeader}
+use Rattle.picture_header.specs.Steps.{afterHeader}
 use Rattle.picture_header.specs.Stability.{PictureStays}
 use Rattle.picture_header.specs.declared.PictureCodingType.{PictureCodingType}
 use Rattle.picture_header.specs.declared.PictureCodingType.the-variants.{Intra, Predictive, Bidirectional, DcIntra}
@@ -49,27 +49,27 @@ was-no-dc t e d = let z : true ≡ false = rw d at (e) in absurd (clash cc)
 
 -- the ways after a header, and of both
 module _ (s : List ℕ) (h : Mpeg2PictureHeader) where
-  pub behind-missing : refused 2 0 0 0 ≡ nextStartCode s (pictureHeaderBytes h) → refused 2 0 0 0 ≡ behindHeader s h
-  unfolding behindHeader
-  behind-missing m = rw (← m)
+  pub after-missing : refused 2 0 0 0 ≡ nextStartCode s (pictureHeaderBytes h) → refused 2 0 0 0 ≡ afterHeader s h
+  unfolding afterHeader
+  after-missing m = rw (← m)
 
-  behind-at : (k : ℕ) → nextStartCode s (pictureHeaderBytes h) ≡ value k
-      → andThen (pictureCodingExtension (drop k s)) (λ (x : PictureCodingExtension). value (h, x)) ≡ behindHeader s h
-  unfolding behindHeader
-  behind-at k m = rw m
+  after-at : (k : ℕ) → nextStartCode s (pictureHeaderBytes h) ≡ value k
+      → andThen (pictureCodingExtension (drop k s)) (λ (x : PictureCodingExtension). value (h, x)) ≡ afterHeader s h
+  unfolding afterHeader
+  after-at k m = rw m
 
   -- with the part from byte k on as the code has it
-  pub behind-part : (k : ℕ) → nextStartCode s (pictureHeaderBytes h) ≡ value k
-      → andThen (pictureCodingExtension (take (length s - k) (drop k s))) (λ (x : PictureCodingExtension). value (h, x)) ≡ behindHeader s h
-  behind-part k m = rw (rest-is s k) (behind-at k m)
+  pub after-part : (k : ℕ) → nextStartCode s (pictureHeaderBytes h) ≡ value k
+      → andThen (pictureCodingExtension (take (length s - k) (drop k s))) (λ (x : PictureCodingExtension). value (h, x)) ≡ afterHeader s h
+  after-part k m = rw (rest-is s k) (after-at k m)
 
   pub picture-dc : pictureHeader s ≡ value h → h .«picture_coding_type» ≡ DcIntra → refused 2 0 0 0 ≡ picture s
   unfolding picture isDc pick
   picture-dc p d = rw (p, d)
 
-  pub picture-behind : pictureHeader s ≡ value h → (h .«picture_coding_type» ≡ DcIntra → ⊥) → behindHeader s h ≡ picture s
-  unfolding picture behindHeader pick
-  picture-behind p n = rw (p, no-dc _ n)
+  pub picture-after : pictureHeader s ≡ value h → (h .«picture_coding_type» ≡ DcIntra → ⊥) → afterHeader s h ≡ picture s
+  unfolding picture afterHeader pick
+  picture-after p n = rw (p, no-dc _ n)
 
 pub picture-refused : (s : List ℕ) (n : ℕ) → refused n 0 0 0 ≡ pictureHeader s → refused n 0 0 0 ≡ picture s
 unfolding picture
@@ -105,7 +105,7 @@ picture-parsed s h x e =
 pub record ExtensionPlaced (s : List ℕ) (h : Mpeg2PictureHeader) (p : ℕ) : Type 0 where
   pub code : take 4 (drop p s) ≡ startCode extensionStartCode
   pub room : p + 4 ≤ length s
-  pub behind : pictureHeaderBytes h ≤ p + 2
+  pub follows : pictureHeaderBytes h ≤ p + 2
   pub zero-between : (k : ℕ) → pictureHeaderBytes h ≤ k → k < p + 2 → getD s k 0 ≡ 0
 
 pub extension-placed : {s : List ℕ} {h : Mpeg2PictureHeader} {x : PictureCodingExtension} (r : PictureParsed s h x) → ExtensionPlaced s h (r .place)
@@ -115,7 +115,7 @@ extension-placed {s} {h} {x} r =
     record {
       code = coding-code (drop (r .place) s) x (r .coded);
       room = omega (arith, coding-long (drop (r .place) s) x (r .coded), length-drop (r .place) s);
-      behind = omega (arith, f .ends);
+      follows = omega (arith, f .ends);
       zero-between = λ k l m. let e : b + (k - b) ≡ k = omega arith in
           sym (getD-drop b s (k - b) 0 ∙ ap (λ (i : ℕ). getD s i 0) e) ∙ zeros-zero (drop b s) (k - b) (omega (arith, f .ends));
     }
@@ -139,6 +139,6 @@ picture-append s t h x e =
     let c = r .coded in
     let b : pictureHeader (s ++ t) ≡ value h =
     picture-header-append s t (λ z. clash cc) ∙ a in
-    sym (picture-behind (s ++ t) h b (r .not-dc))
-    ∙ sym (behind-at (s ++ t) h p (next-append s t (pictureHeaderBytes h) p (r .next)))
+    sym (picture-after (s ++ t) h b (r .not-dc))
+    ∙ sym (after-at (s ++ t) h p (next-append s t (pictureHeaderBytes h) p (r .next)))
     ∙ rw (drop-append-le p s t (omega arith), coding-append (drop p s) t (λ z. clash cc), c)

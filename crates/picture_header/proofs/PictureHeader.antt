@@ -18,7 +18,7 @@ use Rattle.bits.specs.declared.Outcome.the-variants.{Done, Short, Bad}
 use Rattle.bits.specs.StartCodes.{startCode, pictureStartCode}
 use Rattle.bits.proofs.Laws.{bits-bound}
 use Rattle.bits.proofs.Reading.{ParseOutcome, whole, then-seen, Read, fields-seen, header-seen, read-field, obeys-true, read-append, answer-short, answer-bad, fields-done, header-done, header-got, header-append}
-use Rattle.picture_header.specs.PictureHeader.{pictureFields, forward, backward, vectorFields, motionFields, codingType, extraAt, extraBit, pictureOf, behindDelay, pictureHeader, pictureHeaderBytes, headerLength}
+use Rattle.picture_header.specs.PictureHeader.{pictureFields, forward, backward, vectorFields, motionFields, codingType, extraAt, extraBit, pictureOf, afterDelay, pictureHeader, pictureHeaderBytes, headerLength}
 use Rattle.picture_header.specs.Answers.{pictureHeaderAnswer}
 use Rattle.picture_header.specs.Stability.{PictureHeaderStays, PictureHeaderCut}
 use Rattle.picture_header.proofs.ExtraInformation.{extra-inside, extra-seen, extra-append}
@@ -73,9 +73,9 @@ flag-bit-range Bidirectional = (lit≤ tt, lit≤ tt)
 flag-bit-range DcIntra = (lit≤ tt, lit≤ tt)
 
 -- the same values make the same header
-behind-delay-same : (s h k : List ℕ) → ((i : ℕ) → getD h i 0 ≡ getD k i 0) → behindDelay s h ≡ behindDelay s k
-unfolding behindDelay pictureOf
-behind-delay-same s h k e = rw (e 0, e 1, e 2)
+after-delay-same : (s h k : List ℕ) → ((i : ℕ) → getD h i 0 ≡ getD k i 0) → afterDelay s h ≡ afterDelay s k
+unfolding afterDelay pictureOf
+after-delay-same s h k e = rw (e 0, e 1, e 2)
 
 motion-same : (h m k : List ℕ) (n : ℕ) → ((i : ℕ) → getD m i 0 ≡ getD k i 0) → pictureOf h m n ≡ pictureOf h k n
 unfolding pictureOf
@@ -91,20 +91,20 @@ module _ (r : Fields) (s : List ℕ) (e : fieldsAnswer r ≡ inPlaces (readHeade
   unfolding pictureHeader
   header-bad o = rw (answer-bad r (readHeader (startCode pictureStartCode) pictureFields s) e o)
 
-  pub header-behind : r .outcome ≡ Done → behindDelay s (r .values) ≡ pictureHeader s
+  pub header-after : r .outcome ≡ Done → afterDelay s (r .values) ≡ pictureHeader s
   unfolding pictureHeader
-  header-behind o =
+  header-after o =
       let d = header-done r (startCode pictureStartCode) pictureFields s e o in
-      rw (d .parsed) (behind-delay-same s (r .values) (d .vs) (d .same))
+      rw (d .parsed) (after-delay-same s (r .values) (d .vs) (d .same))
 
 -- the ways after the delay
 module _ (r : Fields) (s h : List ℕ) (e : fieldsAnswer r ≡ inPlaces (readFields (motionFields (getD h 1 0)) s 61)) where
-  pub motion-short : r .outcome ≡ Short → refused 1 0 0 0 ≡ behindDelay s h
-  unfolding behindDelay
+  pub motion-short : r .outcome ≡ Short → refused 1 0 0 0 ≡ afterDelay s h
+  unfolding afterDelay
   motion-short o = rw (answer-short r (readFields (motionFields (getD h 1 0)) s 61) e o)
 
-  pub motion-bad : r .outcome ≡ Bad → refused 2 0 0 0 ≡ behindDelay s h
-  unfolding behindDelay
+  pub motion-bad : r .outcome ≡ Bad → refused 2 0 0 0 ≡ afterDelay s h
+  unfolding afterDelay
   motion-bad o = rw (answer-bad r (readFields (motionFields (getD h 1 0)) s 61) e o)
 
   module _ (o : r .outcome ≡ Done) where
@@ -114,12 +114,12 @@ module _ (r : Fields) (s h : List ℕ) (e : fieldsAnswer r ≡ inPlaces (readFie
     pub motion-codes : (getD (r .values) 1 0 ≤ 7) × (getD (r .values) 3 0 ≤ 7)
     motion-codes = (omega (arith, done .high 1, motion-small (getD h 1 0) .0), omega (arith, done .high 3, motion-small (getD h 1 0) .1))
 
-    pub motion-cut : refused 1 0 0 0 ≡ extraAt s (extraBit (getD h 1 0)) → refused 1 0 0 0 ≡ behindDelay s h
-    unfolding behindDelay
+    pub motion-cut : refused 1 0 0 0 ≡ extraAt s (extraBit (getD h 1 0)) → refused 1 0 0 0 ≡ afterDelay s h
+    unfolding afterDelay
     motion-cut q = rw (done .parsed, ← q)
 
-    pub motion-done : (n : ℕ) → value n ≡ extraAt s (extraBit (getD h 1 0)) → value (pictureOf h (r .values) n) ≡ behindDelay s h
-    unfolding behindDelay
+    pub motion-done : (n : ℕ) → value n ≡ extraAt s (extraBit (getD h 1 0)) → value (pictureOf h (r .values) n) ≡ afterDelay s h
+    unfolding afterDelay
     motion-done n q = rw (done .parsed, ← q) (ap value (motion-same h (r .values) (done .vs) n (done .same)))
 
 -- the case, by what is told of it
@@ -146,7 +146,7 @@ pub record From (s : List ℕ) (h : Mpeg2PictureHeader) : Type 0 where
   pub made : h ≡ pictureOf vs m n
 
 pub from : (s : List ℕ) (h : Mpeg2PictureHeader) → pictureHeader s ≡ value h → From s h
-unfolding pictureHeader behindDelay
+unfolding pictureHeader afterDelay
 from s h e =
     let a = then-value (readHeader (startCode pictureStartCode) pictureFields s) e in
     let b = then-value (readFields (motionFields (getD (a .0) 1 0)) s 61) (a .2) in
@@ -209,14 +209,14 @@ module _ {s : List ℕ} {h : Mpeg2PictureHeader} (p : PictureHeaderParsed s h) w
 
 -- bytes after a header do not matter, unless it is too short
 pub picture-header-append : PictureHeaderStays
-unfolding pictureHeader behindDelay
+unfolding pictureHeader afterDelay
 picture-header-append s t =
     then-stays (readHeader (startCode pictureStartCode) pictureFields s) _ _ _ (header-append (startCode pictureStartCode) pictureFields s t) (λ h.
     then-stays (readFields (motionFields (getD h 1 0)) s 61) _ _ _ (read-append (motionFields (getD h 1 0)) s t 61) (λ m.
     then-stays (extraAt s (extraBit (getD h 1 0))) _ _ _ (extra-append s t (extraBit (getD h 1 0))) (λ n g. refl)))
 
 pub picture-header-seen : (s : List ℕ) → ParseOutcome (pictureHeader s)
-unfolding pictureHeader behindDelay
+unfolding pictureHeader afterDelay
 picture-header-seen s =
     then-seen (header-seen (startCode pictureStartCode) pictureFields s) (λ h.
     then-seen (fields-seen (motionFields (getD h 1 0)) s 61) (λ m.

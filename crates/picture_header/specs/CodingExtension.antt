@@ -66,11 +66,11 @@ codingExtensionOf h vs = record {
 }
 
 -- after the f_codes, at bit 52
-unfoldable pub behindCodes : List ℕ → List ℕ → Answer PictureCodingExtension
-behindCodes s h = andThen (readFields codingFields s 52) (λ vs. value (codingExtensionOf h vs))
+unfoldable pub afterCodes : List ℕ → List ℕ → Answer PictureCodingExtension
+afterCodes s h = andThen (readFields codingFields s 52) (λ vs. value (codingExtensionOf h vs))
 
 unfoldable pub pictureCodingExtension : List ℕ → Answer PictureCodingExtension
 pictureCodingExtension s =
     andThen (readHeader (startCode extensionStartCode) motionCodeFields s) (λ h.
     refuse 2 (not (motionCodesFit h))
-    (behindCodes s h))
+    (afterCodes s h))

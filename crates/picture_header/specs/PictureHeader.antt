@@ -81,14 +81,14 @@ pictureOf h m n = record {
 }
 
 -- after vbv_delay: at bit 61 what the type has of motion vectors' fields, and after it the extra information
-unfoldable pub behindDelay : List ℕ → List ℕ → Answer Mpeg2PictureHeader
-behindDelay s h =
+unfoldable pub afterDelay : List ℕ → List ℕ → Answer Mpeg2PictureHeader
+afterDelay s h =
     andThen (readFields (motionFields (getD h 1 0)) s 61) (λ m.
     andThen (extraAt s (extraBit (getD h 1 0))) (λ n.
     value (pictureOf h m n)))
 
 unfoldable pub pictureHeader : List ℕ → Answer Mpeg2PictureHeader
-pictureHeader s = andThen (readHeader (startCode pictureStartCode) pictureFields s) (behindDelay s)
+pictureHeader s = andThen (readHeader (startCode pictureStartCode) pictureFields s) (afterDelay s)
 
 -- its bits: up to the first flag, nine for each extra byte and one for the last flag
 unfoldable pub pictureHeaderBits : Mpeg2PictureHeader → ℕ

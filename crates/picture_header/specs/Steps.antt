@@ -11,8 +11,8 @@ use Rattle.picture_header.specs.declared.Mpeg2PictureHeader.{Mpeg2Pictur
 use Rattle.picture_header.specs.declared.PictureCodingExtension.{PictureCodingExtension}
 
 -- the rest of specs/Picture.antt after a header that is no D picture's
-unfoldable pub behindHeader : List ℕ → Mpeg2PictureHeader → Answer (Mpeg2PictureHeader × PictureCodingExtension)
-behindHeader s h =
+unfoldable pub afterHeader : List ℕ → Mpeg2PictureHeader → Answer (Mpeg2PictureHeader × PictureCodingExtension)
+afterHeader s h =
     andThen (nextStartCode s (pictureHeaderBytes h)) (λ place.
     andThen (pictureCodingExtension (drop place s)) (λ x.
     value (h, x)))

@@ -5,11 +5,12 @@ ghost use lib.ListN.{getD};
 ghost use Rattle.bits.specs.Fields.{readFields};
 ghost use Rattle.bits.specs.Refusals.{value, andThen};
 ghost use Rattle.bits.specs.Answers.{inPlaces, fieldsAnswer};
-ghost use Rattle.picture_header.specs.PictureHeader.{codingType, motionFields, extraBit, extraAt, flagIf, codeIf, pictureOf, behindDelay, pictureHeader, pictureHeaderBytes, headerLength};
-ghost use Rattle.picture_header.specs.CodingExtension.{pictureStructure, behindCodes, pictureCodingExtension};
+ghost use Rattle.picture_header.specs.PictureHeader.{codingType, motionFields, extraBit, extraAt, flagIf, codeIf, pictureOf, afterDelay, pictureHeader, pictureHeaderBytes, headerLength};
+ghost use Rattle.picture_header.specs.CodingExtension.{pictureStructure, afterCodes, pictureCodingExtension};
 ghost use Rattle.picture_header.specs.Picture.{picture};
-ghost use Rattle.picture_header.specs.Steps.{behindHeader};
+ghost use Rattle.picture_header.specs.Steps.{afterHeader};
 ghost use Rattle.picture_header.specs.Answers.{extraAnswer, pictureHeaderAnswer, codingAnswer, pictureAnswer, lengthAnswer};
+
 mod picture_facts; // what the headers tell of how long a picture lasts
 
 pub use crate::picture_facts::facts;
@@ -255,7 +256,7 @@ impl Mpeg2PictureHeader {
             Outcome::Bad => PictureHeaderRead::Refused(Error::InvalidBitstream),
             Outcome::Done => {
                 let h = read.values;
-                behind_delay(buf, h)
+                after_delay(buf, h)
             }
         }
     }
@@ -272,16 +273,16 @@ impl Mpeg2PictureHeader {
                 if let PictureCodingType::DcIntra = kind {
                     return PictureRead::Refused(Error::InvalidBitstream);
                 }
-                behind_header(buf, header)
+                after_header(buf, header)
             }
         }
     }
 }
 
 // What stands after vbv_delay, where the fields before are h.
-fn behind_delay(buf: &[u8], h: [u32; 24]) -> PictureHeaderRead
+fn after_delay(buf: &[u8], h: [u32; 24]) -> PictureHeaderRead
     requires { ⌜ (getD h 0 0 ≤ 1023) × (getD h 2 0 ≤ 65535) ⌝ }
-    ensures { λ r. ⌜ pictureHeaderAnswer r ≡ behindDelay (now (buf .entry)) h ⌝ }
+    ensures { λ r. ⌜ pictureHeaderAnswer r ≡ afterDelay (now (buf .entry)) h ⌝ }
 {
     let code = h[1];
     let motion = read_motion(buf, code);
@@ -324,9 +325,9 @@ pub fn picture_header_byte_length(buf: &[u8]) -> HeaderLength
 }
 
 // What stands after a header: the next start code must be the extension's.
-fn behind_header(buf: &[u8], header: Mpeg2PictureHeader) -> PictureRead
+fn after_header(buf: &[u8], header: Mpeg2PictureHeader) -> PictureRead
     requires { ⌜ pictureHeaderBytes header < 2 ^ 64 ⌝ }
-    ensures { λ r. ⌜ pictureAnswer r ≡ behindHeader (now (buf .entry)) header ⌝ }
+    ensures { λ r. ⌜ pictureAnswer r ≡ afterHeader (now (buf .entry)) header ⌝ }
 {
     let next = next_start_code(buf, byte_length(header));
     match next {
@@ -370,7 +371,7 @@ impl PictureCodingExtension {
                 let h = read.values;
                 let fit = (1 <= h[1]) & ((1 <= h[2]) & ((1 <= h[3]) & (1 <= h[4])));
                 if fit {
-                    return behind_codes(buf, h);
+                    return after_codes(buf, h);
                 }
                 PictureCodingExtensionRead::Refused(Error::InvalidBitstream)
             }
@@ -379,9 +380,9 @@ impl PictureCodingExtension {
 }
 
 // What stands after the f_codes h.
-fn behind_codes(buf: &[u8], h: [u32; 24]) -> PictureCodingExtensionRead
+fn after_codes(buf: &[u8], h: [u32; 24]) -> PictureCodingExtensionRead
     requires { ⌜ (getD h 1 0 ≤ 15) × (getD h 2 0 ≤ 15) × (getD h 3 0 ≤ 15) × (getD h 4 0 ≤ 15) ⌝ }
-    ensures { λ r. ⌜ codingAnswer r ≡ behindCodes (now (buf .entry)) h ⌝ }
+    ensures { λ r. ⌜ codingAnswer r ≡ afterCodes (now (buf .entry)) h ⌝ }
 {
     let read = bits::read_fields(buf, 52, &CODING_TABLE);
     let outcome = read.outcome;

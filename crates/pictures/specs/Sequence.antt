@@ -21,7 +21,7 @@ unfoldable pub rated : ℕ → ℕ → ℕ → Answer VbvParams
 rated rate buffer code =
     andThen (frameRate code) (λ f. value (paramsOf rate buffer f))
 
--- MPEG-1 reads the sequence header alone, MPEG-2 the extension behind it too (1, 2)
+-- MPEG-1 reads the sequence header alone, MPEG-2 the extension after it too (1, 2)
 unfoldable pub declaredBy : VbvStandard → List ℕ → Answer VbvParams
 declaredBy Mpeg1 s = andThen (sequenceHeader s) (λ h. rated (h .«bit_rate») (h .«vbv_buffer_size») (h .«frame_rate_code»))
 declaredBy Mpeg2 s = andThen (sequence s) (λ q. rated (q .«bit_rate») (q .«vbv_buffer_size») (q .header .«frame_rate_code»))

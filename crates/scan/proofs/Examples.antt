@@ -10,7 +10,7 @@ use Rattle.scan.specs.Pictures.{pictures, isSlice, notSlice, notPicture}
 use Rattle.bits.proofs.Reading.{same-more, same-none}
 use Rattle.scan.proofs.Laying.{Opened, Piece, none, more, laidPieces, laidPics}
 use Rattle.scan.proofs.Laid.{laid-pictures, tail-end}
-use Rattle.scan.proofs.Pieces.{piece-behind, piece-zeros}
+use Rattle.scan.proofs.Pieces.{piece-after, piece-zeros}
 
 -- after a code the scan goes on four bytes later
 overlap : codes (0 ∷ 0 ∷ 1 ∷ 0 ∷ 0 ∷ 1 ∷ 5 ∷ []) ≡ record { offset = 0; code = 0 } ∷ []
@@ -71,5 +71,5 @@ two : pictures (((headerBytes ++ layerBytes) ++ replicate 3 0) ++ (layerBytes ++
 unfolding laidPieces laidPics headerBytes layerBytes
 two =
     laid-pictures
-    (more _ 5 (piece-zeros (headerBytes ++ layerBytes) 5 3 (piece-behind headerBytes layerBytes 0 header-opened no-picture layer-piece)) (more layerBytes 0 layer-piece none))
+    (more _ 5 (piece-zeros (headerBytes ++ layerBytes) 5 3 (piece-after headerBytes layerBytes 0 header-opened no-picture layer-piece)) (more layerBytes 0 layer-piece none))
     sequenceEnd tail-end

@@ -39,8 +39,8 @@ one-moved d o = record {
   all-slices = every-moved isSlice d (o .slices) ∙ o .all-slices;
 }
 
-one-behind : (hs : List Code) {cs : List Code} {at : ℕ} → every notPicture hs ≡ true → OnePicture cs at → OnePicture (hs ++ cs) at
-one-behind hs h o = record {
+one-after : (hs : List Code) {cs : List Code} {at : ℕ} → every notPicture hs ≡ true → OnePicture cs at → OnePicture (hs ++ cs) at
+one-after hs h o = record {
   headers = hs ++ o .headers;
   extensions = o .extensions;
   slice = o .slice;
@@ -69,12 +69,12 @@ opened-append x y o f c = record {
 
 -- ---- the laws
 
-pub piece-behind : (h x : List ℕ) (at : ℕ) → Opened h → every notPicture (codes h) ≡ true → Piece x at → Piece (h ++ x) (length h + at)
-piece-behind h x at o n p =
+pub piece-after : (h x : List ℕ) (at : ℕ) → Opened h → every notPicture (codes h) ≡ true → Piece x at → Piece (h ++ x) (length h + at)
+piece-after h x at o n p =
     let f : fresh x ≡ true = fresh-opened x (p .opened) in
     record {
       opened = opened-append h x o f (p .opened .closed);
-      one = rw (codes-append h x (o .closed) f) (one-behind (codes h) n (one-moved (length h) (p .one)));
+      one = rw (codes-append h x (o .closed) f) (one-after (codes h) n (one-moved (length h) (p .one)));
     }
 
 zeros-fresh : (n : ℕ) → fresh (replicate n 0) ≡ true

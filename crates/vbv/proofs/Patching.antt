@@ -14,7 +14,7 @@ use Rattle.bits.specs.Fields.{sameBytes}
 use Rattle.bits.proofs.Flags.{and-left, yes, no, held, failed}
 use Rattle.bits.proofs.Laws.{bits-bound, bits-split, length-digits}
 use Rattle.bits.proofs.Appending.{Below, below-take, below-drop, digit-bound}
-use Rattle.bits.proofs.Patching.{byte-bits, set-length, set-below, set-before, set-behind, set-digits, set-within}
+use Rattle.bits.proofs.Patching.{byte-bits, set-length, set-below, set-before, set-after, set-digits, set-within}
 use Rattle.bits.specs.Refusals.{value, refused}
 use Rattle.bits.specs.StartCodes.{startCode, pictureStartCode}
 use Rattle.vbv.specs.Patch.{startsPicture, patchPicture, patched}
@@ -57,7 +57,7 @@ middle x y z d h g l =
     three-bytes s (set-length m 5 (digits 16 d) f)
     (omega (arith, byte-bits s 0 (low 0), bits-split s 0 5 3, set-before m 5 (digits 16 d) f b 0 5 (omega arith), bits-bound m 5 3, bits-bound s 8 8, bits-bound s 16 5))
     (omega (arith, byte-bits s 1 (low 1), bits-bound s 8 8, bits-bound s 16 5))
-    (omega (arith, byte-bits s 2 (low 2), bits-split s 16 5 3, set-behind m 5 (digits 16 d) f b 21 3 (omega arith), bits-bound m 21 3, bits-bound s 16 5))
+    (omega (arith, byte-bits s 2 (low 2), bits-split s 16 5 3, set-after m 5 (digits 16 d) f b 21 3 (omega arith), bits-bound m 21 3, bits-bound s 16 5))
 
 -- the same as stores to bytes 5, 6 and 7
 pub patch-stored : (s : List ℕ) (d : ℕ) → 8 ≤ length s → Below 256 s → d < 65536
@@ -132,6 +132,6 @@ module _ (s : List ℕ) (d : ℕ) (h : startsPicture s ≡ true) where
   pub patched-before : (k n : ℕ) → k + n ≤ 45 → bitsAt (patched s d) k n ≡ bitsAt s k n
   patched-before k n l = rw (patched-is s d h) (set-before s 45 (digits 16 d) room (digit-bound 16 d) k n l)
 
-  pub patched-behind : (k n : ℕ) → 61 ≤ k → bitsAt (patched s d) k n ≡ bitsAt s k n
-  patched-behind k n l =
-      rw (patched-is s d h) (set-behind s 45 (digits 16 d) room (digit-bound 16 d) k n (omega (arith, length-digits 16 d)))
+  pub patched-after : (k n : ℕ) → 61 ≤ k → bitsAt (patched s d) k n ≡ bitsAt s k n
+  patched-after k n l =
+      rw (patched-is s d h) (set-after s 45 (digits 16 d) room (digit-bound 16 d) k n (omega (arith, length-digits 16 d)))

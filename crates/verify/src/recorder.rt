@@ -10,8 +10,8 @@ use crate::run::advance;
 use pictures::Declared;
 use pictures::NextSeen;
 use pictures::VbvStandard;
-use pictures::opening;
 use pictures::next_seen;
+use pictures::opening;
 use vbv::VbvParams;
 
 // A walk over the pictures of a stream: where it goes on, and how far the model has come.

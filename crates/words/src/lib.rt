@@ -58,8 +58,8 @@ pub fn word_at(place: &[u8], k: usize) -> u64
         return 0;
     }
     let at = 8 * k;
-    let behind = place.len() - at;
-    let mut left = if behind < 8 { behind } else { 8 };
+    let follows = place.len() - at;
+    let mut left = if follows < 8 { follows } else { 8 };
     let mut value: u64 = 0;
     while 0 < left {
         left -= 1;

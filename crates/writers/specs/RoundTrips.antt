@@ -19,8 +19,8 @@ groupWritten g = writeHeader (startCode groupStartCode) groupFields (groupValues
 
 -- a written group header reads as the values given, whatever stands after it
 abbrev pub GroupWrittenReads : Type 0
-GroupWrittenReads = (g : Mpeg2Gop) (behind : List ℕ) → fitsAll groupFields (groupValues g) ≡ true
-    → readHeader (startCode groupStartCode) groupFields (groupWritten g ++ behind) ≡ value (groupValues g)
+GroupWrittenReads = (g : Mpeg2Gop) (follows : List ℕ) → fitsAll groupFields (groupValues g) ≡ true
+    → readHeader (startCode groupStartCode) groupFields (groupWritten g ++ follows) ≡ value (groupValues g)
 
 -- the time code of a display index is never refused by the writer: with it 8 bytes are written where there is room for them
 abbrev pub TimeCodeWrites : Type 0

@@ -88,8 +88,8 @@ fn put_header(out: &mut [u8], p: SequenceHeaderParams)
     bits::write_header(out, SEQUENCE_HEADER, &SEQUENCE_HEADER_TABLE, &values);
     let intra = p.intra_quantiser_matrix;
     let non_intra = p.non_intra_quantiser_matrix;
-    let behind = append_matrix(out, 94, intra);
-    append_matrix(out, behind, non_intra);
+    let follows = append_matrix(out, 94, intra);
+    append_matrix(out, follows, non_intra);
 }
 
 // Writes the header into the first bytes of out; a matrix stands in it where its flag is set.

@@ -32,15 +32,15 @@ vectors-fit-requires c κs = search needs
 padding-clear-requires : tie.Need-padding-clear-requires
 padding-clear-requires c κs = picture-parsed _ _ _ (sym (picture-case (c .before .before .before .before .before .before .before .header .given .1) (c .before .before .before .before .before .before .before .before .before .parse-with-extension .ensures))) .header
 
-zeros-behind-requires : tie.Need-zeros-behind-requires
-zeros-behind-requires c κs = picture-parsed _ _ _ (sym (picture-case (c .before .before .before .before .before .before .before .before .header .given .1) (c .before .before .before .before .before .before .before .before .before .before .parse-with-extension .ensures))) .header
+zeros-after-requires : tie.Need-zeros-after-requires
+zeros-after-requires c κs = picture-parsed _ _ _ (sym (picture-case (c .before .before .before .before .before .before .before .before .header .given .1) (c .before .before .before .before .before .before .before .before .before .before .parse-with-extension .ensures))) .header
 
 returns : tie.Need-returns
 returns c = tests-none _ _ _ _ (picture-case (c .enum-told .given .1) (c .before .before .parse-with-extension .ensures))
 
 returns-2 : tie.Need-returns-2
 returns-2 c =
-    rw (c .before .before .before .before .before .before .before .same-kind .ensures, c .before .before .before .before .same-interval .ensures, c .before .before .before .before .before .interval .ensures, c .before .before .before .before .before .before .is-field .ensures, c .before .before .vectors-fit .ensures, c .before .padding-clear .ensures, c .zeros-behind .ensures)
+    rw (c .before .before .before .before .before .before .before .same-kind .ensures, c .before .before .before .before .same-interval .ensures, c .before .before .before .before .before .interval .ensures, c .before .before .before .before .before .before .is-field .ensures, c .before .before .vectors-fit .ensures, c .before .padding-clear .ensures, c .zeros-after .ensures)
     (tests-are _ _ _ _ _ (picture-case (c .before .before .before .before .before .before .before .before .before .header .given .1) (c .before .before .before .before .before .before .before .before .before .before .before .parse-with-extension .ensures)))
 
 pub header-fits-spec : {M : Type 1} → statement M
@@ -56,6 +56,6 @@ header-fits-spec =
     same-interval-requires
     vectors-fit-requires
     padding-clear-requires
-    zeros-behind-requires
+    zeros-after-requires
     returns
     returns-2)

@@ -12,17 +12,17 @@ next-code-requires c κs = search needs
 enum-known-offset : tie.Need-enum-known-offset
 enum-known-offset c = search needs
 
-add-slices-behind : tie.Need-add-slices-behind
-add-slices-behind c = omega (arith, code-seen _ _ _ _ (sym (c .before .before .before .next-code .ensures) ∙ c .before .offset .given .1) .room)
+add-slices-after : tie.Need-add-slices-after
+add-slices-after c = omega (arith, code-seen _ _ _ _ (sym (c .before .before .before .next-code .ensures) ∙ c .before .offset .given .1) .room)
 
-slices-behind-requires : tie.Need-slices-behind-requires
-slices-behind-requires c κs = search needs
+slices-after-requires : tie.Need-slices-after-requires
+slices-after-requires c κs = search needs
 
 enum-told : tie.Need-enum-told
 enum-told c = search needs
 
 returns : tie.Need-returns
-returns c = rw (c .slices-behind .ensures) (layer-some _ _ _ (sym (c .before .before .before .before .next-code .ensures) ∙ c .before .before .offset .given .1))
+returns c = rw (c .slices-after .ensures) (layer-some _ _ _ (sym (c .before .before .before .before .next-code .ensures) ∙ c .before .before .offset .given .1))
 
 returns-2 : tie.Need-returns-2
 returns-2 c = layer-none _ (sym (c .before .before .next-code .ensures) ∙ c .enum-told .given .1)
@@ -33,8 +33,8 @@ layer-codes-spec =
     (tie.spec
     next-code-requires
     enum-known-offset
-    add-slices-behind
-    slices-behind-requires
+    add-slices-after
+    slices-after-requires
     enum-told
     returns
     returns-2)

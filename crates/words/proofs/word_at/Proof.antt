@@ -9,11 +9,11 @@ use Rattle.words.proofs.word_at.Statement.{statement}
 use Rattle.words.proofs.word_at.Tie as tie
 
 abbrev Inv-loop : tie.InvT-loop
-Inv-loop place k at behind left₀ value₀ left value =
+Inv-loop place k at follows left₀ value₀ left value =
     (value ≡ highPart place at left) × (value < 256 ^ (8 - left)) × (left ≤ 8) × (at + left ≤ length place)
 
 abbrev μ-loop : tie.MeasureT-loop
-μ-loop place k at behind left₀ value₀ left value = left
+μ-loop place k at follows left₀ value₀ left value = left
 
 returns : tie.Need-returns Inv-loop μ-loop
 returns c = search (needs, word-past)
@@ -21,8 +21,8 @@ returns c = search (needs, word-past)
 mul-at : tie.Need-mul-at Inv-loop μ-loop
 mul-at c = omega arith
 
-sub-behind : tie.Need-sub-behind Inv-loop μ-loop
-sub-behind c = omega arith
+sub-after : tie.Need-sub-after Inv-loop μ-loop
+sub-after c = omega arith
 
 loop-holds : tie.Need-loop-holds Inv-loop μ-loop
 loop-holds c =
@@ -78,7 +78,7 @@ word-at-spec =
     μ-loop
     returns
     mul-at
-    sub-behind
+    sub-after
     loop-holds
     sub-left
     mul-value

@@ -2,7 +2,7 @@ use borrow.Author.Needs.{needs}
 use mathlib.Core.Path.{_∙_}
 use Rattle.bits.proofs.Reading.{header-done}
 use Rattle.picture_header.specs.PictureHeader.{pictureFields}
-use Rattle.picture_header.proofs.PictureHeader.{header-short, header-bad, header-behind}
+use Rattle.picture_header.proofs.PictureHeader.{header-short, header-bad, header-after}
 use Rattle.picture_header.proofs.Mpeg2PictureHeader.parse.Statement.{statement}
 use Rattle.picture_header.proofs.Mpeg2PictureHeader.parse.Tie as tie
 use Rattle.bits.specs.StartCodes.{startCode, pictureStartCode}
@@ -22,8 +22,8 @@ enum-told-2 c = search needs
 enum-told-3 : tie.Need-enum-told-3
 enum-told-3 c = search needs
 
-behind-delay-requires : tie.Need-behind-delay-requires
-behind-delay-requires c κs =
+after-delay-requires : tie.Need-after-delay-requires
+after-delay-requires c κs =
     let d = header-done (c .before .before .before .read-header .result) (startCode pictureStartCode) pictureFields (c .before .before .before .before .before .before .args .buf .now) (c .before .before .before .read-header .ensures .0) (c .before .enum-told3 .given .1) in
     (d .high 0, d .high 2)
 
@@ -35,8 +35,8 @@ returns-2 c = header-bad (c .before .before .read-header .result) _ (c .before .
 
 returns-3 : tie.Need-returns-3
 returns-3 c =
-    c .behind-delay .ensures
-    ∙ header-behind (c .before .before .before .before .read-header .result) _ (c .before .before .before .before .read-header .ensures .0) (c .before .before .enum-told3 .given .1)
+    c .after-delay .ensures
+    ∙ header-after (c .before .before .before .before .read-header .result) _ (c .before .before .before .before .read-header .ensures .0) (c .before .before .enum-told3 .given .1)
 
 pub parse-spec : {M : Type 1} → statement M
 parse-spec =
@@ -47,7 +47,7 @@ parse-spec =
     enum-told
     enum-told-2
     enum-told-3
-    behind-delay-requires
+    after-delay-requires
     returns
     returns-2
     returns-3)

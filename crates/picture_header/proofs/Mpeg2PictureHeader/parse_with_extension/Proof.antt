@@ -6,7 +6,7 @@ use Rattle.picture_header.specs.PictureHeader.{pictureHeader}
 use Rattle.picture_header.specs.declared.PictureCodingType.the-variants.{DcIntra}
 use Rattle.bits.specs.Refusals.{value}
 use Rattle.picture_header.proofs.PictureHeader.{picture-header-case, picture-header-parsed, header-inside}
-use Rattle.picture_header.proofs.Picture.{picture-refused, picture-dc, picture-behind}
+use Rattle.picture_header.proofs.Picture.{picture-refused, picture-dc, picture-after}
 use Rattle.picture_header.proofs.Mpeg2PictureHeader.parse_with_extension.Statement.{
   statement,
 }
@@ -31,8 +31,8 @@ enum-told c = search needs
 returns : tie.Need-returns
 returns c = picture-dc _ _ (header (c .before .before .before)) (c .enum-told .given .1)
 
-behind-header-requires : tie.Need-behind-header-requires
-behind-header-requires c κs = omega (arith, header-inside (picture-header-parsed _ _ (header (c .before .before))))
+after-header-requires : tie.Need-after-header-requires
+after-header-requires c κs = omega (arith, header-inside (picture-header-parsed _ _ (header (c .before .before))))
 
 returns-2 : tie.Need-returns-2
 returns-2 c = picture-refused _ _ (picture-header-case (c .before .read .given .1) (c .before .before .before .parse .ensures))
@@ -42,7 +42,7 @@ not-dc : (c : tie.At-match2-keys2) → c .before .before .read2 .given .0 .0 .«
 not-dc c d = ⊎-elim (λ w. omega arith) (⊎-elim (λ w. omega arith) (λ w. omega arith)) (rw d at (c .match2 .keys2))
 
 returns-3 : tie.Need-returns-3
-returns-3 c = c .behind-header .ensures ∙ picture-behind _ _ (header (c .before .before .before)) (not-dc (c .before))
+returns-3 c = c .after-header .ensures ∙ picture-after _ _ (header (c .before .before .before)) (not-dc (c .before))
 
 pub parse-with-extension-spec : {M : Type 1} → statement M
 parse-with-extension-spec =
@@ -53,6 +53,6 @@ parse-with-extension-spec =
     enum-known-read-2
     enum-told
     returns
-    behind-header-requires
+    after-header-requires
     returns-2
     returns-3)

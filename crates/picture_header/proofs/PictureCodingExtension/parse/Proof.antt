@@ -35,15 +35,15 @@ array-read-fit-3 c = search needs
 array-read-fit-4 : tie.Need-array-read-fit-4
 array-read-fit-4 c = search needs
 
-behind-codes-requires : tie.Need-behind-codes-requires
-behind-codes-requires c κs =
+after-codes-requires : tie.Need-after-codes-requires
+after-codes-requires c κs =
     let d = header-done (c .before .before .before .before .read-header .result) (startCode extensionStartCode) motionCodeFields (c .before .before .before .before .before .before .before .args .buf .now) (c .before .before .before .before .read-header .ensures .0) (c .before .before .enum-told3 .given .1) in
     omega (arith, d .high 1, d .high 2, d .high 3, d .high 4)
 
 returns : tie.Need-returns
 unfolding motionCodesFit
 returns c =
-    c .behind-codes .ensures
+    c .after-codes .ensures
     ∙ coding-fit (c .before .before .before .before .before .read-header .result) _ (c .before .before .before .before .before .read-header .ensures .0) (c .before .before .before .enum-told3 .given .1) (c .before .if1 .taken)
 
 returns-2 : tie.Need-returns-2
@@ -69,7 +69,7 @@ parse-spec =
     array-read-fit-2
     array-read-fit-3
     array-read-fit-4
-    behind-codes-requires
+    after-codes-requires
     returns
     returns-2
     returns-3

@@ -48,8 +48,8 @@ enum-told-3 c = search needs
 read-matrix-requires : tie.Need-read-matrix-requires
 read-matrix-requires c κs = search needs
 
-behind-requires : tie.Need-behind-requires
-behind-requires c κs = search needs
+after-matrix-requires : tie.Need-after-matrix-requires
+after-matrix-requires c κs = search needs
 
 read-matrix-requires-2 : tie.Need-read-matrix-requires-2
 read-matrix-requires-2 c κs = search needs
@@ -104,7 +104,7 @@ returns-3 c =
     let n = c .before .before .before .before .before .before in
     let r = read-at (n .before .before .before .before) in
     simp (c .aspect-ratio-of .ensures, r .same)
-    (matrices-there _ _ (r .parsed) (n .before .before .before .read-matrix .result) (n .read-matrix2 .result) (n .before .before .before .read-matrix .ensures .0) (rw (n .before .behind .ensures) at (n .read-matrix2 .ensures .0))
+    (matrices-there _ _ (r .parsed) (n .before .before .before .read-matrix .result) (n .read-matrix2 .result) (n .before .before .before .read-matrix .ensures .0) (rw (n .before .after-matrix .ensures) at (n .read-matrix2 .ensures .0))
     (c .before .before .if1 .taken))
 
 returns-4 : tie.Need-returns-4
@@ -112,7 +112,7 @@ returns-4 c =
     let n = c .before .before .before .before .before in
     let r = read-at (n .before .before .before .before) in
     header-told-refused (c .refused3 .result) ShortHeader (c .refused3 .ensures)
-    (matrices-cut _ _ (r .parsed) (n .before .before .before .read-matrix .result) (n .read-matrix2 .result) (n .before .before .before .read-matrix .ensures .0) (rw (n .before .behind .ensures) at (n .read-matrix2 .ensures .0))
+    (matrices-cut _ _ (r .parsed) (n .before .before .before .read-matrix .result) (n .read-matrix2 .result) (n .before .before .before .read-matrix .ensures .0) (rw (n .before .after-matrix .ensures) at (n .read-matrix2 .ensures .0))
     (c .before .if1 .left))
 
 pub parse-spec : {M : Type 1} → statement M
@@ -127,7 +127,7 @@ parse-spec =
     refused-requires-2
     enum-told-3
     read-matrix-requires
-    behind-requires
+    after-matrix-requires
     read-matrix-requires-2
     array-read-width
     cast-width

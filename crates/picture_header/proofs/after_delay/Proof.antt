@@ -3,8 +3,8 @@ use mathlib.Core.Path.{ap, _∙_}
 use Rattle.picture_header.proofs.PictureHeader.{motion-short, motion-bad, motion-codes, motion-cut, motion-done}
 use Rattle.bits.specs.Refusals.{value}
 use Rattle.picture_header.proofs.ExtraInformation.{extra-case}
-use Rattle.picture_header.proofs.behind_delay.Statement.{statement}
-use Rattle.picture_header.proofs.behind_delay.Tie as tie
+use Rattle.picture_header.proofs.after_delay.Statement.{statement}
+use Rattle.picture_header.proofs.after_delay.Tie as tie
 
 array-read-code : tie.Need-array-read-code
 array-read-code c = search needs
@@ -59,8 +59,8 @@ returns-4 c =
     ∙ motion-done (x .before .before .before .before .read-motion .result) _ _ (x .before .before .before .before .read-motion .ensures) (x .before .before .enum-told3 .given .1) _
     (extra-case (c .before .before .before .extra .given .1) (rw (x .before .extra-bit .ensures) at (x .read-extra .ensures)))
 
-pub behind-delay-spec : {M : Type 1} → statement M
-behind-delay-spec =
+pub after-delay-spec : {M : Type 1} → statement M
+after-delay-spec =
     tie.close
     (tie.spec
     array-read-code

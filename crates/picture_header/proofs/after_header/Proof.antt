@@ -5,9 +5,9 @@ use Rattle.headers.specs.StartCode.{nextStartCode}
 use Rattle.picture_header.specs.PictureHeader.{pictureHeaderBytes}
 use Rattle.bits.specs.Refusals.{value}
 use Rattle.headers.proofs.StartCode.{next-case, next-found}
-use Rattle.picture_header.proofs.Picture.{behind-missing, behind-part}
-use Rattle.picture_header.proofs.behind_header.Statement.{statement}
-use Rattle.picture_header.proofs.behind_header.Tie as tie
+use Rattle.picture_header.proofs.Picture.{after-missing, after-part}
+use Rattle.picture_header.proofs.after_header.Statement.{statement}
+use Rattle.picture_header.proofs.after_header.Tie as tie
 
 -- where the next start code is
 next : (c : tie.After-known-told) → let a = c .before .before .before .before .before .before .args in
@@ -46,13 +46,13 @@ with-coding-requires c κs = search needs
 returns : tie.Need-returns
 returns c =
     let n = c .before .before in
-    behind-missing _ _ (rw (← n .before .byte-length .ensures) (next-case (c .enum-told .given .1) (n .next-start-code .ensures)))
+    after-missing _ _ (rw (← n .before .byte-length .ensures) (next-case (c .enum-told .given .1) (n .next-start-code .ensures)))
 
 returns-2 : tie.Need-returns-2
-returns-2 c = rw (c .with-coding .ensures, c .before .parse .ensures) (behind-part _ _ _ (next (c .before .before .before)))
+returns-2 c = rw (c .with-coding .ensures, c .before .parse .ensures) (after-part _ _ _ (next (c .before .before .before)))
 
-pub behind-header-spec : {M : Type 1} → statement M
-behind-header-spec =
+pub after-header-spec : {M : Type 1} → statement M
+after-header-spec =
     tie.close
     (tie.spec
     byte-length-requires

@@ -1,8 +1,8 @@
 use Rattle.layers.proofs.Ways.{extra-room, bytes-by}
 use native.Mathlib.Omega.{arith}
 use borrow.Author.Needs.{needs}
-use Rattle.layers.proofs.zeros_behind.Statement.{statement}
-use Rattle.layers.proofs.zeros_behind.Tie as tie
+use Rattle.layers.proofs.zeros_after.Statement.{statement}
+use Rattle.layers.proofs.zeros_after.Tie as tie
 
 cast-bit : tie.Need-cast-bit
 cast-bit c = search needs
@@ -22,7 +22,7 @@ two-zeros-requires c κs = search needs
 returns : tie.Need-returns
 returns c = rw (bytes-by _ _ (c .before .before .before .pre)) (c .two-zeros .ensures)
 
-pub zeros-behind-spec : {M : Type 1} → statement M
-zeros-behind-spec =
+pub zeros-after-spec : {M : Type 1} → statement M
+zeros-after-spec =
     tie.close
     (tie.spec cast-bit add-two-zeros add-two-zeros-2 add-two-zeros-3 two-zeros-requires returns)

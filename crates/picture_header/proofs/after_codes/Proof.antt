@@ -2,9 +2,9 @@ use borrow.Author.Needs.{needs}
 use native.Mathlib.Omega.{arith}
 use Rattle.bits.proofs.Reading.{fields-done}
 use Rattle.picture_header.specs.CodingExtension.{codingFields, codingExtensionOf}
-use Rattle.picture_header.proofs.CodingExtension.{behind-short, behind-bad, behind-done}
-use Rattle.picture_header.proofs.behind_codes.Statement.{statement}
-use Rattle.picture_header.proofs.behind_codes.Tie as tie
+use Rattle.picture_header.proofs.CodingExtension.{after-short, after-bad, after-done}
+use Rattle.picture_header.proofs.after_codes.Statement.{statement}
+use Rattle.picture_header.proofs.after_codes.Tie as tie
 
 slice-aggregate-read-fields : tie.Need-slice-aggregate-read-fields
 slice-aggregate-read-fields c = search needs
@@ -89,19 +89,19 @@ array-read-t69 : tie.Need-array-read-t69
 array-read-t69 c = search needs
 
 returns : tie.Need-returns
-returns c = behind-short (c .before .before .read-fields .result) _ _ (c .before .before .read-fields .ensures .0) (c .enum-told .given .1)
+returns c = after-short (c .before .before .read-fields .result) _ _ (c .before .before .read-fields .ensures .0) (c .enum-told .given .1)
 
 returns-2 : tie.Need-returns-2
-returns-2 c = behind-bad (c .before .before .read-fields .result) _ _ (c .before .before .read-fields .ensures .0) (c .enum-told2 .given .1)
+returns-2 c = after-bad (c .before .before .read-fields .result) _ _ (c .before .before .read-fields .ensures .0) (c .enum-told2 .given .1)
 
 returns-3 : tie.Need-returns-3
 unfolding codingExtensionOf
 returns-3 c =
     rw (c .picture-structure-of .ensures)
-    (behind-done (c .before .before .before .before .read-fields .result) _ _ (c .before .before .before .before .read-fields .ensures .0) (c .before .before .enum-told3 .given .1))
+    (after-done (c .before .before .before .before .read-fields .result) _ _ (c .before .before .before .before .read-fields .ensures .0) (c .before .before .enum-told3 .given .1))
 
-pub behind-codes-spec : {M : Type 1} → statement M
-behind-codes-spec =
+pub after-codes-spec : {M : Type 1} → statement M
+after-codes-spec =
     tie.close
     (tie.spec
     slice-aggregate-read-fields

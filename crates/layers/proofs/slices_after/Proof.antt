@@ -2,8 +2,8 @@ use Rattle.layers.proofs.Ways.{slices-none, slices-some}
 use Rattle.layers.specs.Steps.{inSet}
 use mathlib.Core.Path.{sym, _∙_}
 use borrow.Author.Needs.{needs}
-use Rattle.layers.proofs.slices_behind.Statement.{statement}
-use Rattle.layers.proofs.slices_behind.Tie as tie
+use Rattle.layers.proofs.slices_after.Statement.{statement}
+use Rattle.layers.proofs.slices_after.Tie as tie
 
 past-requires : tie.Need-past-requires
 past-requires c κs = search needs
@@ -25,7 +25,7 @@ returns-2 : tie.Need-returns-2
 unfolding inSet
 returns-2 c = slices-none _ _ (sym (c .before .before .past .ensures) ∙ c .enum-told .given .1)
 
-pub slices-behind-spec : {M : Type 1} → statement M
-slices-behind-spec =
+pub slices-after-spec : {M : Type 1} → statement M
+slices-after-spec =
     tie.close
     (tie.spec past-requires enum-known-offset all-in-set-requires enum-told returns returns-2)
