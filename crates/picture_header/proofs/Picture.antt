@@ -120,15 +120,6 @@ extension-placed {s} {h} {x} r =
           sym (getD-drop b s (k - b) 0 ∙ ap (λ (i : ℕ). getD s i 0) e) ∙ zeros-zero (drop b s) (k - b) (omega (arith, f .ends));
     }
 
--- what reading both finds
-pub picture-seen : (s : List ℕ) → ParseOutcome (picture s)
-unfolding picture
-picture-seen s =
-    then-seen (picture-header-seen s) (λ h.
-    pick-elim ParseOutcome (isDc (h .«picture_coding_type»)) (λ d. broken) (λ d.
-    then-seen (next-seen s (pictureHeaderBytes h)) (λ p.
-    then-seen (coding-seen (drop p s)) (λ x. whole _))))
-
 -- what stands after does not matter
 pub picture-append : PictureStays
 picture-append s t h x e =

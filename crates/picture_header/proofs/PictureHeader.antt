@@ -193,9 +193,6 @@ picture-header-parsed s h e =
 
 -- its bounds
 module _ {s : List ℕ} {h : Mpeg2PictureHeader} (p : PictureHeaderParsed s h) where
-  pub reference-high : h .«temporal_reference» ≤ 1023
-  reference-high = omega (arith, p .reference, bits-bound s 32 10)
-
   pub delay-high : h .«vbv_delay» ≤ 65535
   delay-high = omega (arith, p .delay, bits-bound s 45 16)
 

@@ -21,8 +21,8 @@ returns c = search (needs, word-past)
 mul-at : tie.Need-mul-at Inv-loop μ-loop
 mul-at c = omega arith
 
-sub-after : tie.Need-sub-after Inv-loop μ-loop
-sub-after c = omega arith
+sub-follows : tie.Need-sub-follows Inv-loop μ-loop
+sub-follows c = omega arith
 
 loop-holds : tie.Need-loop-holds Inv-loop μ-loop
 loop-holds c =
@@ -78,7 +78,7 @@ word-at-spec =
     μ-loop
     returns
     mul-at
-    sub-after
+    sub-follows
     loop-holds
     sub-left
     mul-value
