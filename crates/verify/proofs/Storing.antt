@@ -1,6 +1,6 @@
 -- Records stored in their places.
 -- Assumes nothing.
-use mathlib.Core.Path.{_≡_, refl, sym, _∙_}
+use mathlib.Core.Path.{_≡_, refl, sym, ap, _∙_}
 use Prim.Native.Nat.{ℕ, suc, _+_, _-_, _*_, _/_, _≤_}
 use mathlib.Core.List.{List, [], _∷_, _++_, append-nil, append-assoc}
 use native.Mathlib.Omega.{arith}
@@ -17,10 +17,16 @@ use Rattle.pictures.specs.declared.VbvStandard.{VbvStandard}
 use Rattle.verify.specs.Layout.{recordSize, recordBytes, recordsBytes}
 use Rattle.verify.specs.Answers.{verifiedAnswer}
 use Rattle.verify.specs.Check.{verdict, reported, records}
-use Rattle.verify.specs.Steps.{recordCount, recorderOf, nextRecord, recordsOf}
+use Rattle.verify.specs.Steps.{advanced, recordCount, recorderOf, noRecord, lastOf, stayed, wentOn, nextRecord, recordsOf}
 use Rattle.verify.specs.declared.VbvVerified.{VbvVerified}
 use Rattle.verify.specs.declared.recorder.VbvRecorder.{VbvRecorder}
-use Rattle.verify.proofs.Recording.{stateOf, records-last, records-none, records-length, recorded}
+use Rattle.verify.specs.declared.recorder.VbvRecorded.{VbvRecorded}
+use Rattle.verify.specs.declared.Progress.{Progress}
+use Rattle.pictures.specs.Seen.{nextSeen, one}
+use Rattle.pictures.specs.declared.SeenPicture.{SeenPicture}
+use Rattle.verify.specs.Coded.{codedOf}
+use Rattle.bits.specs.Refusals.{value}
+use Rattle.verify.proofs.Recording.{stateOf, records-last, records-none, records-length, record-one, recorded}
 use Rattle.verify.specs.declared.VbvPictureRecord.{VbvPictureRecord}
 
 length-record : (r : VbvPictureRecord) → length (recordBytes r) ≡ recordSize
@@ -85,6 +91,25 @@ stored-more {s} {w₀} {out₀} {out} {w} {i} h {r} {next} er en {new} e =
           e
           ∙ rw (h .bytes, er, h .stands, records-last s w₀ i, bytes-last rs (nextRecord s (stateOf s w₀ i) .last), sets-append (recordsBytes rs) (recordBytes (nextRecord s (stateOf s w₀ i) .last)) out₀ 0, l, o);
     }
+
+-- the same by what a step has shown
+pub stored-one : {s : List ℕ} {w₀ : VbvRecorder} {out₀ out : List ℕ} {w : VbvRecorder} {i : ℕ} → Stored s w₀ out₀ out w i
+    → {x : SeenPicture} {k : ℕ} → nextSeen (w .standard) s (w .at) ≡ value (one x k) → {st : Progress} → st ≡ advanced (w .params) (w .progress) (codedOf x)
+    → {r : VbvPictureRecord} → r ≡ lastOf st → {new : List ℕ} → new ≡ sets out (recordSize * i) (recordBytes r)
+    → Stored s w₀ out₀ new (record { standard = w .standard; params = w .params; at = k; progress = st }) (i + 1)
+unfolding wentOn
+stored-one {s} {w = w} h {x} {k} e {st} f g n =
+    let q = record-one s w x k (sym e) in
+    stored-more h (g ∙ rw f (ap (λ (y : VbvRecorded). y .last) q)) (rw f (ap (λ (y : VbvRecorded). y .recorder) q)) n
+
+pub stored-other : {s : List ℕ} {w₀ : VbvRecorder} {out₀ out : List ℕ} {w : VbvRecorder} {i : ℕ} → Stored s w₀ out₀ out w i
+    → stayed w ≡ nextRecord s w → {r : VbvPictureRecord} → r ≡ noRecord → {new : List ℕ} → new ≡ sets out (recordSize * i) (recordBytes r)
+    → Stored s w₀ out₀ new w (i + 1)
+unfolding stayed
+stored-other h q g n = stored-more h (g ∙ ap (λ (y : VbvRecorded). y .last) q) (ap (λ (y : VbvRecorded). y .recorder) q) n
+
+pub none-stored : (s : List ℕ) (w : VbvRecorder) (out : List ℕ) → out ≡ sets out 0 (recordsBytes (recordsOf s w 0))
+none-stored s w out = rw (records-none s w, no-records)
 
 -- ---- the check with records
 

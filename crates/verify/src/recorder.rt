@@ -16,10 +16,10 @@ use vbv::VbvParams;
 
 // A walk over the pictures of a stream: where it goes on, and how far the model has come.
 pub(crate) struct VbvRecorder {
-    standard: VbvStandard,
-    params: VbvParams,
-    at: usize,
-    progress: Progress,
+    pub(crate) standard: VbvStandard,
+    pub(crate) params: VbvParams,
+    pub(crate) at: usize,
+    pub(crate) progress: Progress,
 }
 
 // The walk after one more picture, and that picture's record.
@@ -38,7 +38,7 @@ pub(crate) fn record_count(answer: VbvVerified) -> usize
     }
 }
 
-fn no_record() -> VbvPictureRecord
+pub(crate) fn no_record() -> VbvPictureRecord
     ensures { λ r. ⌜ r ≡ noRecord ⌝ }
 {
     VbvPictureRecord {
@@ -50,7 +50,7 @@ fn no_record() -> VbvPictureRecord
 }
 
 // The last removal's record.
-fn last_of(progress: Progress) -> VbvPictureRecord
+pub(crate) fn last_of(progress: Progress) -> VbvPictureRecord
     ensures { λ r. ⌜ r ≡ lastOf progress ⌝ }
 {
     if let Progress::Running {

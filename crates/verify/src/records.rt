@@ -9,7 +9,12 @@ ghost use Rattle.verify.specs.Steps.{recorderOf, recordsOf};
 use crate::RECORD_BYTES;
 use crate::VbvPictureRecord;
 use crate::recorder::VbvRecorder;
+use crate::recorder::last_of;
+use crate::recorder::no_record;
+use crate::run::advance;
+use pictures::NextSeen;
 use pictures::VbvStandard;
+use pictures::next_seen;
 use words::put_words;
 
 // A record, from byte `at` on.
@@ -26,17 +31,29 @@ fn put_record(out: &mut [u8], at: usize, record: VbvPictureRecord)
     put_words(&mut out[at..], &words);
 }
 
-// The first `count` records of a stream, each at its place.
+// The first `count` records of a stream, each at its place: what the recorder gives, without its being handed about.
 pub(crate) fn store(stream: &[u8], standard: VbvStandard, count: usize, out: &mut [u8])
     requires { ⌜ recordSize * count ≤ length (now out) ⌝ }
     ensures { λ r. ⌜ now (out .exit) ≡ sets (now (out .entry)) 0 (recordsBytes (recordsOf (now (stream .entry)) (recorderOf standard (opening standard (now (stream .entry)))) count)) ⌝ }
 {
-    let mut recorder = VbvRecorder::new(stream, standard);
+    if count == 0 {
+        return;
+    }
+    let recorder = VbvRecorder::new(stream, standard);
+    let standard = recorder.standard;
+    let params = recorder.params;
+    let mut at = recorder.at;
+    let mut progress = recorder.progress;
     let mut i: usize = 0;
     while i < count {
-        let recorded = recorder.next_record(stream);
-        put_record(out, RECORD_BYTES * i, recorded.last);
-        recorder = recorded.recorder;
+        let place = RECORD_BYTES * i;
         i += 1;
+        if let NextSeen::Picture(seen, next) = next_seen(stream, standard, at) {
+            progress = advance(progress, params, seen);
+            put_record(out, place, last_of(progress));
+            at = next;
+            continue;
+        }
+        put_record(out, place, no_record());
     }
 }
