@@ -2,15 +2,16 @@
 // read one by one, each answer is compared and counted, and the counts are printed. A program works the answers out:
 //     let mut case = cases::first(..);
 //     while 0 < case.left { .. case = cases::next(case, ..); }
-// No contract can say what is read or printed. Promised is what this loop rests on, that the functions are safe, and that
-// they end.
+// No contract can say what is read or printed. Promised is what this loop rests on, which numbers are taken from an input and
+// which bytes are put one by one (specs/Bytes); of the others that they are safe, and that they end.
 mod names; // the kinds' names
 pub mod put; // an answer's bytes
 pub mod take; // an input's numbers
 
 ghost use mathlib.Core.Path.{_≡_};
 ghost use Prim.Native.Nat.{_-_, _≤_};
-ghost use lib.ListN.{length};
+ghost use lib.ListN.{length, getD, set};
+ghost use Prim.Native.Nat.{_+_, _%_, _^_};
 use libc::STDIN_FILENO;
 use libc::STDOUT_FILENO;
 use names::print_name;
@@ -128,13 +129,18 @@ fn print_difference(kind: usize, counts: &[u64]) {
     }
 }
 
-pub fn add_one(counts: &mut [u64], at: usize) {
+// The count at a place, if there is one; it wraps, as 2^64 cases would.
+pub fn add_one(counts: &mut [u64], at: usize)
+    ensures { λ r. ⌜ now (counts .exit) ≡ set (now (counts .entry)) at ((getD (now (counts .entry)) at 0 + 1) % 2 ^ 64) ⌝ }
+{
     if at < counts.len() {
         counts[at] = std::num::wrapping_add_u64(counts[at], 1);
     }
 }
 
-pub fn get(counts: &[u64], at: usize) -> u64 {
+pub fn get(counts: &[u64], at: usize) -> u64
+    ensures { λ r. ⌜ r ≡ getD (now (counts .entry)) at 0 ⌝ }
+{
     if at < counts.len() {
         return counts[at];
     }

@@ -1,6 +1,13 @@
 // Bytes of an answer. Each function puts its bytes at `at`, as far as there is room, and answers the place after them.
+ghost use mathlib.Core.Path.{_≡_};
+ghost use Prim.Native.Nat.{_+_, min, max};
+ghost use lib.ListN.{length, set};
+ghost use lib.Seq.{sets};
 
-pub fn put(out: &mut [u8], at: usize, x: u8) -> usize {
+pub fn put(out: &mut [u8], at: usize, x: u8) -> usize
+    ensures { λ r. ⌜ now (out .exit) ≡ set (now (out .entry)) at x ⌝ }
+    ensures { λ r. ⌜ r ≡ max at (min (at + 1) (length (now (out .entry)))) ⌝ }
+{
     if at < out.len() {
         out[at] = x;
         return at + 1;
@@ -43,7 +50,9 @@ pub fn put_words(out: &mut [u8], at: usize, words: &[u64]) -> usize {
     next
 }
 
-pub fn put_bytes(out: &mut [u8], at: usize, bytes: &[u8]) -> usize {
+pub fn put_bytes(out: &mut [u8], at: usize, bytes: &[u8]) -> usize
+    ensures { λ r. ⌜ now (out .exit) ≡ sets (now (out .entry)) at (now (bytes .entry)) ⌝ }
+{
     let mut next = at;
     let mut i: usize = 0;
     while i < bytes.len() {

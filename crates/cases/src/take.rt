@@ -1,17 +1,28 @@
 // Numbers of an input, the lowest byte first; bytes past its end count for nothing.
+ghost use mathlib.Core.Path.{_≡_};
+ghost use mathlib.Core.Bool.{not};
+ghost use lib.Dec.{eqb};
+ghost use lib.ListN.{getD};
+ghost use Rattle.cases.specs.Bytes.{numberAt};
 
-pub fn byte(s: &[u8], at: usize) -> u8 {
+pub fn byte(s: &[u8], at: usize) -> u8
+    ensures { λ r. ⌜ r ≡ getD (now (s .entry)) at 0 ⌝ }
+{
     if at < s.len() {
         return s[at];
     }
     0
 }
 
-pub fn is_set(s: &[u8], at: usize) -> bool {
+pub fn is_set(s: &[u8], at: usize) -> bool
+    ensures { λ r. ⌜ r ≡ not (eqb (getD (now (s .entry)) at 0) 0) ⌝ }
+{
     byte(s, at) != 0
 }
 
-pub fn number16(s: &[u8], at: usize) -> u16 {
+pub fn number16(s: &[u8], at: usize) -> u16
+    ensures { λ r. ⌜ r ≡ numberAt 2 (now (s .entry)) at ⌝ }
+{
     if s.len() <= at {
         return 0;
     }
@@ -20,7 +31,9 @@ pub fn number16(s: &[u8], at: usize) -> u16 {
     (low as u16) + 256 * (high as u16)
 }
 
-pub fn number32(s: &[u8], at: usize) -> u32 {
+pub fn number32(s: &[u8], at: usize) -> u32
+    ensures { λ r. ⌜ r ≡ numberAt 4 (now (s .entry)) at ⌝ }
+{
     if s.len() <= at {
         return 0;
     }
@@ -29,7 +42,9 @@ pub fn number32(s: &[u8], at: usize) -> u32 {
     (low as u32) + 65536 * (high as u32)
 }
 
-pub fn number64(s: &[u8], at: usize) -> u64 {
+pub fn number64(s: &[u8], at: usize) -> u64
+    ensures { λ r. ⌜ r ≡ numberAt 8 (now (s .entry)) at ⌝ }
+{
     if s.len() <= at {
         return 0;
     }

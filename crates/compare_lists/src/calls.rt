@@ -71,14 +71,16 @@ pub(crate) fn list(s: &[u8], out: &mut [u8], given: &mut [u64]) -> usize {
             add_one(given, number as usize);
             put(out, 0, number)
         }
-        CbrCreation::Created => {
-            let writer = created.writer;
-            let targets = writer.target_bits;
-            let next = put(out, 0, 0);
-            let at = put_words(out, next, &targets);
-            put_calls(s, writer, out, at, given)
-        }
+        CbrCreation::Created => put_created(s, created.writer, out, given),
     }
+}
+
+// Creation's byte and the targets, and what each call is answered.
+fn put_created(s: &[u8], writer: CbrWriter, out: &mut [u8], given: &mut [u64]) -> usize {
+    let targets = writer.target_bits;
+    let next = put(out, 0, 0);
+    let at = put_words(out, next, &targets);
+    put_calls(s, writer, out, at, given)
 }
 
 fn put_calls(s: &[u8], writer: CbrWriter, out: &mut [u8], from: usize, given: &mut [u64]) -> usize {

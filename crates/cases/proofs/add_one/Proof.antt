@@ -1,0 +1,42 @@
+use mathlib.Core.Path.{sym}
+use lib.Seq.{set-out}
+use borrow.Author.Needs.{needs}
+use Rattle.cases.proofs.add_one.Statement.{statement}
+use Rattle.cases.proofs.add_one.Tie as tie
+
+mul-wrapping-add-u64 : tie.Need-mul-wrapping-add-u64
+mul-wrapping-add-u64 c = search needs
+
+slice-read-wrapping-add-u64 : tie.Need-slice-read-wrapping-add-u64
+slice-read-wrapping-add-u64 c = search needs
+
+wrapping-add-u64-requires : tie.Need-wrapping-add-u64-requires
+wrapping-add-u64-requires c κs = search needs
+
+mul-counts : tie.Need-mul-counts
+mul-counts c = search needs
+
+slice-write-counts : tie.Need-slice-write-counts
+slice-write-counts c = search needs
+
+same-length : tie.Need-same-length
+same-length c = search needs
+
+returns : tie.Need-returns
+returns c = rw (c .wrapping-add-u64 .ensures)
+
+returns-2 : tie.Need-returns-2
+returns-2 c = sym (set-out _ _ _ (c .if1 .left))
+
+pub add-one-spec : {M : Type 1} → statement M
+add-one-spec =
+    tie.close
+    (tie.spec
+    mul-wrapping-add-u64
+    slice-read-wrapping-add-u64
+    wrapping-add-u64-requires
+    mul-counts
+    slice-write-counts
+    same-length
+    returns
+    returns-2)
