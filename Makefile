@@ -10,8 +10,8 @@ PROVED = $(shell find crates crates.txt -name '*.rt' -o -name '*.antt' -o -name 
 HEADERS = include/hipokuta.h $(wildcard tools/*.h tests/c/*.h)
 
 # The sources of each C program.
-vbvreport = tools/vbvreport.c tools/plot.c tools/report.c tools/stream.c
-cbrsend = tools/cbrsend.c tools/sending.c tools/split.c tools/why.c tools/report.c tools/stream.c
+vbvreport = tools/vbvreport.c tools/plot.c tools/report.c tools/stream.c c/refusal_text.c
+cbrsend = tools/cbrsend.c tools/sending.c tools/split.c tools/why.c tools/report.c tools/stream.c c/refusal_text.c
 entries = tests/c/entries.c tests/c/places.c
 sender = tests/c/sender.c tests/c/channel.c tests/c/rules.c tests/c/places.c
 stamp = tests/c/stamp.c

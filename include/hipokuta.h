@@ -16,6 +16,8 @@
 extern "C" {
 #endif
 
+#define HIPOKUTA_VERSION "1.0"
+
 #define VBV_MPEG1 1
 #define VBV_MPEG2 2
 
@@ -43,10 +45,35 @@ enum {
     CBR_STUFFING = 22       /* the stuffed end lies beyond the bits delivered */
 };
 
-/* Bytes of a report, of each record, and of a refusal. */
+/* A refusal's name, such as "overflow", and what it means for a set or for whoever sends, both in a sentence or less; NULL for a
+ * number that is none. Not in the archive: a program that wants them links c/refusal_text.c too. */
+const char *vbv_refusal_name(uint64_t number);
+const char *vbv_refusal_text(uint64_t number);
+
+/* Bytes of a report, of each record, and of a refusal, and structs that lie over them. */
 #define VBV_REPORT_BYTES 40
 #define VBV_RECORD_BYTES 32
 #define VBV_REFUSAL_BYTES 32
+
+struct vbv_report {
+    uint64_t bit_rate;    /* R, bits a second */
+    uint64_t buffer_bits; /* B */
+    uint64_t pictures;
+    uint64_t min_after;  /* bits, the least left after a removal */
+    uint64_t max_before; /* bits, the most held before a removal */
+};
+
+struct vbv_record {
+    uint64_t delay;     /* as coded, in ticks of 1/90,000 s */
+    uint64_t expected;  /* the delay that the model expects */
+    uint64_t data_bits; /* from the last picture's end to this one's */
+    uint64_t occupancy_before; /* bits held just before the removal */
+};
+
+struct vbv_refusal {
+    uint64_t number;
+    uint64_t picture, coded, expected; /* of 9, 10 and 11; else 0 */
+};
 
 /* Checks a stream. Returns 0 where it is accepted, else the number of the refusal (docs/REFUSALS.md).
  *
@@ -69,9 +96,30 @@ uint64_t vbv_check(const uint8_t *stream, size_t stream_len, uint8_t standard,
  */
 uint64_t vbv_patch_delay(uint8_t *picture, size_t picture_len, uint16_t vbv_delay);
 
-/* Bytes of a writer's state, and of the answer to an offer. */
+/* Bytes of a writer's state, and of the answer to an offer, and structs that lie over them. */
 #define CBR_STATE_BYTES 152
 #define CBR_ANSWER_BYTES 72
+
+struct cbr_state {
+    uint64_t bit_rate, buffer_size_bits, frn, frd, whole, rest, prev_end_bits;
+    uint64_t removed;        /* pictures placed */
+    uint64_t started;        /* 1 once a picture was placed */
+    uint64_t target_bits[3]; /* for I, P and B */
+    uint64_t q[3];           /* the quantisers to encode the next I, P and B picture with: q[CBR_I] */
+    uint64_t pending;        /* 0 none, or the kind + 1 of the picture that is wanted again */
+    uint64_t pending_q;      /* the quantiser to encode that with */
+    uint64_t stuffing_bytes; /* handed out as stuffing so far */
+    uint64_t finished;       /* 1 once the last picture was placed */
+};
+
+struct cbr_answer {
+    uint64_t outcome; /* CBR_PLACED, CBR_AGAIN or CBR_REFUSED */
+    uint64_t number, picture, coded, expected;
+    uint64_t quantiser; /* placed with, or to encode with next */
+    uint64_t delay;     /* as written into the picture's header */
+    uint64_t bytes;     /* handed out */
+    uint64_t stuffing;  /* zeros among these */
+};
 
 /* Kinds of picture; the interval from a picture's removal to the next one's; how an answer came out. */
 #define CBR_I 0

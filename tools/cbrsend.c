@@ -79,12 +79,12 @@ static void print_why(const struct source *in, const struct sending *end)
 static int refuse(struct source *in, struct setting at, const struct sending *end)
 {
     int named = end->number >= VBV_EARLY && end->number != VBV_PARAMETER;
-    if (refusal_name(end->number) == NULL)
+    if (vbv_refusal_name(end->number) == NULL)
         return trouble(in->name, "the library gave a refusal that no stream can cause");
     printf("%s: refused", in->name);
     if (named)
         printf(" at picture %zu (the first is 0)", end->picture);
-    printf("\n  refusal %" PRIu64 ": %s\n  %s\n", end->number, refusal_name(end->number), refusal_meaning(end->number));
+    printf("\n  refusal %" PRIu64 ": %s\n  %s\n", end->number, vbv_refusal_name(end->number), vbv_refusal_text(end->number));
     if (is_of_setting(end->number))
         print_setting(at);
     if (end->number == CBR_TOO_LARGE)
@@ -97,11 +97,11 @@ static int refuse(struct source *in, struct setting at, const struct sending *en
 }
 
 /* The library's check of what was written. */
-static int check(const char *name, size_t pictures, struct report *report)
+static int check(const char *name, size_t pictures, struct vbv_report *report)
 {
     struct stream s = { NULL, 0 };
-    struct refusal refusal;
-    struct record *records = calloc(pictures, sizeof *records);
+    struct vbv_refusal refusal;
+    struct vbv_record *records = calloc(pictures, sizeof *records);
     if (records == NULL)
         return trouble(name, "no memory for its records");
     int status = map(name, &s);
@@ -128,7 +128,7 @@ static void print_left_out(const struct source *in)
 /* Checks what was written, and prints the summary. */
 static int finish(const struct source *in, const struct sending *end, const char *name, FILE *to)
 {
-    struct report report;
+    struct vbv_report report;
     if (fflush(to) != 0 || ferror(to))
         return trouble(name, "cannot be written");
     if (check(name, in->pictures.count, &report) != 0)

@@ -22,19 +22,19 @@ static double up(const struct scale *s, double bits)
 }
 
 /* What a set holds after a removal. */
-static uint64_t after(const struct record *r)
+static uint64_t after(const struct vbv_record *r)
 {
     return r->occupancy_before - r->data_bits;
 }
 
 /* Seconds from a removal to the next: the time that the bits between took to arrive. */
-static double interval(const struct record *r, uint64_t bit_rate)
+static double interval(const struct vbv_record *r, uint64_t bit_rate)
 {
     return (double)(r[1].occupancy_before - after(r)) / (double)bit_rate;
 }
 
 /* Seconds from the first bit to the last removal. */
-static double duration(const struct report *report, const struct record *records)
+static double duration(const struct vbv_report *report, const struct vbv_record *records)
 {
     double seconds = (double)records[0].occupancy_before / (double)report->bit_rate;
     for (uint64_t n = 0; n + 1 < report->pictures; n++)
@@ -77,7 +77,7 @@ static void escaped(FILE *to, const char *text)
     }
 }
 
-static void heading(FILE *to, const char *name, const struct report *report, uint64_t together)
+static void heading(FILE *to, const char *name, const struct vbv_report *report, uint64_t together)
 {
     char a[40], b[40], c[40], d[40], e[40];
     fprintf(to, "<text x='%d' y='30' font-size='18' font-weight='bold'>", LEFT);
@@ -110,7 +110,7 @@ static void axes(FILE *to, const struct scale *s)
 }
 
 /* The curve's corners: up to each removal, then straight down. */
-static void teeth(FILE *to, const struct scale *s, const struct report *report, const struct record *records, uint64_t together)
+static void teeth(FILE *to, const struct scale *s, const struct vbv_report *report, const struct vbv_record *records, uint64_t together)
 {
     double seconds = (double)records[0].occupancy_before / (double)report->bit_rate;
     fprintf(to, "M%.2f %.2f", across(s, 0), up(s, 0));
@@ -133,7 +133,7 @@ static int dot(FILE *to, const struct scale *s, double seconds, uint64_t bits)
 }
 
 /* Dots at the first of the most before a removal and of the least after one. */
-static void dots(FILE *to, const struct scale *s, const struct report *report, const struct record *records)
+static void dots(FILE *to, const struct scale *s, const struct vbv_report *report, const struct vbv_record *records)
 {
     double seconds = (double)records[0].occupancy_before / (double)report->bit_rate;
     int most = 0, least = 0;
@@ -157,7 +157,7 @@ static void bounds(FILE *to, const struct scale *s, uint64_t buffer_bits)
             RIGHT + 8, BOTTOM + 4);
 }
 
-void plot(FILE *to, const char *name, const struct report *report, const struct record *records)
+void plot(FILE *to, const char *name, const struct vbv_report *report, const struct vbv_record *records)
 {
     uint64_t together = (report->pictures + TEETH - 1) / TEETH;
     struct scale s = { duration(report, records) * 1.01, (double)report->buffer_bits * 1.08 };

@@ -1,20 +1,6 @@
 #include "sending.h"
 
 #include "hipokuta.h"
-#include "report.h"
-
-/* A writer's state, and its answer to an offer (docs/LAYOUT.md). */
-struct writer {
-    uint64_t bit_rate, buffer_bits, frn, frd, whole, rest, prev_end_bits, removed, started;
-    uint64_t target_bits[3], q[3], pending_kind, pending_q, stuffing_bytes, finished;
-};
-
-struct answer {
-    uint64_t outcome, number, picture, coded, expected, quantiser, delay, bytes, stuffing;
-};
-
-OF_BYTES(writer, CBR_STATE_BYTES);
-OF_BYTES(answer, CBR_ANSWER_BYTES);
 
 static struct stream kept(const struct source *in, size_t from, size_t length)
 {
@@ -78,7 +64,7 @@ static void declare(struct source *in, struct setting at)
 }
 
 /* Nothing can be encoded again here, so steering does not matter: any quantiser and targets will do. */
-static uint64_t create(struct source *in, struct setting at, struct writer *w)
+static uint64_t create(struct source *in, struct setting at, struct cbr_state *w)
 {
     struct stream header = kept(in, in->header, SEQUENCE_BYTES);
     uint16_t buffer = at.buffer > UINT16_MAX ? UINT16_MAX : (uint16_t)at.buffer;
@@ -105,7 +91,7 @@ static uint8_t kind_of(const struct stream *layer)
 static uint8_t placed[CBR_MOST_BUFFER * (CBR_BUFFER_UNIT / 8)];
 
 /* Offers a picture; where it is wanted again, offers it again as it is, until the library gives up. */
-static uint64_t offer(const struct source *in, size_t n, struct writer *w, struct answer *a)
+static uint64_t offer(const struct source *in, size_t n, struct cbr_state *w, struct cbr_answer *a)
 {
     struct stream headers = headers_of(in, n), layer = layer_of(in, n);
     uint8_t last = n + 1 == in->pictures.count;
@@ -119,15 +105,15 @@ static uint64_t offer(const struct source *in, size_t n, struct writer *w, struc
 
 /* Bits delivered when the first picture is due, by the library: it places the smallest picture with the same headers, and its
  * check of that tells what the buffer holds at the removal. */
-static uint64_t first_delivered(const struct source *in, struct writer w)
+static uint64_t first_delivered(const struct source *in, struct cbr_state w)
 {
     static const uint8_t smallest[] = { 0, 0, 1, PICTURE, 0, 8, 0, 0, 0, 0, 1, EXTENSION, 0x8F, 0xFF, 0xF3, 0x41, 0x80,
                                         0, 0, 1, 1 };
     struct stream headers = headers_of(in, 0);
-    struct answer a;
-    struct report report;
-    struct record record = { .occupancy_before = 0 };
-    struct refusal refusal;
+    struct cbr_answer a;
+    struct vbv_report report;
+    struct vbv_record record = { .occupancy_before = 0 };
+    struct vbv_refusal refusal;
     if (cbr_offer((uint8_t *)&w, sizeof w, headers.bytes, headers.length, CBR_I, CBR_FRAME, 1, smallest, sizeof smallest,
                   placed, sizeof placed, (uint8_t *)&a, sizeof a) == 0 && a.outcome == CBR_PLACED)
         vbv_check(placed, a.bytes, VBV_MPEG2, (uint8_t *)&report, sizeof report, (uint8_t *)&record, sizeof record,
@@ -136,7 +122,7 @@ static uint64_t first_delivered(const struct source *in, struct writer w)
 }
 
 /* Bytes by which picture n, with the end code after the last, ends beyond what is delivered when it is due. */
-static uint64_t bytes_over(const struct source *in, size_t n, const struct writer *w)
+static uint64_t bytes_over(const struct source *in, size_t n, const struct cbr_state *w)
 {
     uint64_t end_code = n + 1 == in->pictures.count ? CODE_BYTES : 0;
     uint64_t end = w->prev_end_bits + 8 * (headers_of(in, n).length + layer_of(in, n).length + end_code);
@@ -146,8 +132,8 @@ static uint64_t bytes_over(const struct source *in, size_t n, const struct write
 
 struct sending send_all(struct source *in, struct setting at, FILE *to)
 {
-    struct writer w;
-    struct answer a;
+    struct cbr_state w;
+    struct cbr_answer a;
     struct sending end = { .number = create(in, at, &w) };
     while (end.number == 0 && end.picture < in->pictures.count) {
         end.number = offer(in, end.picture, &w, &a);

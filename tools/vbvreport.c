@@ -42,7 +42,7 @@ static uint8_t told_standard(const struct stream *s)
     return field_value(&extension, EXTENSION_ID) == SEQUENCE_EXTENSION ? VBV_MPEG2 : VBV_MPEG1;
 }
 
-static void print_records(const struct report *report, const struct record *records)
+static void print_records(const struct vbv_report *report, const struct vbv_record *records)
 {
     printf("picture delay expected data_bits occupancy_before\n");
     for (uint64_t n = 0; n < report->pictures; n++)
@@ -50,16 +50,16 @@ static void print_records(const struct report *report, const struct record *reco
                records[n].data_bits, records[n].occupancy_before);
 }
 
-static void print_refusal(const struct refusal *r)
+static void print_refusal(const struct vbv_refusal *r)
 {
-    printf("  refusal %" PRIu64 ": %s\n", r->number, refusal_name(r->number));
+    printf("  refusal %" PRIu64 ": %s\n", r->number, vbv_refusal_name(r->number));
     if (VBV_OVERFLOW <= r->number && r->number <= VBV_DELAY_MISMATCH)
         printf("  picture %" PRIu64 " (the first is 0), coded delay %" PRIu64 ", expected delay %" PRIu64 "\n", r->picture,
                r->coded, r->expected);
-    printf("  %s\n", refusal_meaning(r->number));
+    printf("  %s\n", vbv_refusal_text(r->number));
 }
 
-static int draw(const char *to, const char *name, const struct report *report, const struct record *records)
+static int draw(const char *to, const char *name, const struct vbv_report *report, const struct vbv_record *records)
 {
     if (same_file(name, to))
         return trouble(to, "the same file as the stream");
@@ -76,10 +76,10 @@ static int draw(const char *to, const char *name, const struct report *report, c
 /* Checks, and prints the answer. */
 static int check(const char *name, const struct stream *s, uint8_t standard, int list, const char *picture)
 {
-    struct report report;
-    struct refusal refusal;
+    struct vbv_report report;
+    struct vbv_refusal refusal;
     size_t count = picture_codes(s);
-    struct record *records = calloc(count + 1, sizeof *records);
+    struct vbv_record *records = calloc(count + 1, sizeof *records);
     if (records == NULL)
         return trouble(name, "no memory for its records");
 
@@ -93,7 +93,7 @@ static int check(const char *name, const struct stream *s, uint8_t standard, int
             print_records(&report, records);
         if (picture != NULL)
             status = draw(picture, name, &report, records);
-    } else if (refusal.number < VBV_RECORD_PLACES && refusal_name(refusal.number) != NULL) {
+    } else if (refusal.number < VBV_RECORD_PLACES && vbv_refusal_name(refusal.number) != NULL) {
         print_refusal(&refusal);
         if (picture != NULL)
             fprintf(stderr, "vbvreport: %s: not drawn, since the stream is refused\n", picture);
