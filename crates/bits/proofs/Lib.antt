@@ -1,6 +1,7 @@
 pub mod Appending
 pub mod Checking
 pub mod Flags
+pub mod Inside
 pub mod Joining
 pub mod Laws
 pub mod Laying

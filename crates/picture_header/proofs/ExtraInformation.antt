@@ -56,6 +56,10 @@ module _ (bs : List ℕ) (p : ℕ) where
       one zero z = absurd (z refl)
       one (suc b) z = refl
 
+-- none, where the first flag is 0
+pub extra-none : (s : List ℕ) (f : ℕ) → f < 8 * length s → bitAt s f ≡ 0 → extraAt s f ≡ value 0
+extra-none s f h z = flag-last (bitList s) f (omega (arith, bit-list-length s)) (bit-list-at s f ∙ z)
+
 -- n bytes before
 unfoldable pub countedOn : ℕ → Answer ℕ → Answer ℕ
 countedOn n a = andThen a (λ k. value (n + k))

@@ -5,6 +5,7 @@ pub mod Extent
 pub mod ExtraInformation
 pub mod Picture
 pub mod PictureHeader
+pub mod Straight
 pub mod OtherDelay
 pub mod Cases
 pub mod Numbering

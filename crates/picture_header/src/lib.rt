@@ -1,12 +1,14 @@
 // picture_header() (ISO/IEC 13818-2 6.2.3, 11172-2 2.4.2.5) and picture_coding_extension() (6.2.3.1).
 ghost use mathlib.Core.Path.{_≡_};
-ghost use Prim.Native.Nat.{_^_, _≤_, _<_};
-ghost use lib.ListN.{getD};
+ghost use Prim.Native.Nat.{_+_, _*_, _^_, _≤_, _<_};
+ghost use lib.ListN.{length, getD};
+ghost use Rattle.bits.specs.Bits.{bitsAt};
 ghost use Rattle.bits.specs.Fields.{readFields};
 ghost use Rattle.bits.specs.Refusals.{value, andThen};
 ghost use Rattle.bits.specs.Answers.{inPlaces, fieldsAnswer};
+ghost use Rattle.headers.specs.Answers.{headerRefusal};
 ghost use Rattle.picture_header.specs.PictureHeader.{codingType, motionFields, extraBit, extraAt, flagIf, codeIf, pictureOf, afterDelay, pictureHeader, pictureHeaderBytes, headerLength};
-ghost use Rattle.picture_header.specs.CodingExtension.{pictureStructure, afterCodes, pictureCodingExtension};
+ghost use Rattle.picture_header.specs.CodingExtension.{pictureStructure, pictureCodingExtension};
 ghost use Rattle.picture_header.specs.Picture.{picture};
 ghost use Rattle.picture_header.specs.Steps.{afterHeader};
 ghost use Rattle.picture_header.specs.Answers.{extraAnswer, pictureHeaderAnswer, codingAnswer, pictureAnswer, lengthAnswer};
@@ -23,6 +25,11 @@ use bits::start_codes::PICTURE_START;
 use headers::Error;
 use headers::NextStartCode;
 use headers::next_start_code;
+
+// The start codes, as the numbers in their four bytes.
+const PICTURE_WORD: u64 = 0x100;
+
+const EXTENSION_WORD: u64 = 0x1B5;
 
 // temporal_reference, picture_coding_type, vbv_delay
 const PICTURE_TABLE: [u8; 9] = *b"\x0A\x00\x00\x03\x01\x04\x10\x00\x00";
@@ -132,6 +139,20 @@ pub enum HeaderLength {
     Refused(Error),
 }
 
+fn wide(x: u8) -> u64
+    ensures { λ r. ⌜ (r ≡ x) × (r < 256) ⌝ }
+{
+    x as u64
+}
+
+// The number in the four bytes from byte `at` on, high byte first.
+fn word(s: &[u8], at: usize) -> u64
+    requires { ⌜ at + 4 ≤ length (now s) ⌝ }
+    ensures { λ r. ⌜ (r ≡ bitsAt (now (s .entry)) (8 * at) 32) × (r < 2 ^ 32) ⌝ }
+{
+    0x1000000 * wide(s[at]) + 0x10000 * wide(s[at + 1]) + 0x100 * wide(s[at + 2]) + wide(s[at + 3])
+}
+
 fn coding_type_of(code: u32) -> PictureCodingType
     ensures { λ r. ⌜ r ≡ codingType code ⌝ }
 {
@@ -222,7 +243,7 @@ fn code_if(present: bool, v: u32) -> OptionCode
 }
 
 // The header of the fields h and m, with n bytes of extra information.
-fn header_of(h: [u32; 24], m: [u32; 24], n: usize) -> Mpeg2PictureHeader
+fn header_of(h: [u32; 3], m: [u32; 4], n: usize) -> Mpeg2PictureHeader
     requires { ⌜ (getD h 0 0 ≤ 1023) × (getD h 2 0 ≤ 65535) × (getD m 1 0 ≤ 7) × (getD m 3 0 ≤ 7) ⌝ }
     ensures { λ r. ⌜ r ≡ pictureOf h m n ⌝ }
 {
@@ -245,20 +266,30 @@ fn header_of(h: [u32; 24], m: [u32; 24], n: usize) -> Mpeg2PictureHeader
 }
 
 impl Mpeg2PictureHeader {
-    // From a slice that begins at the picture's start code; D pictures pass.
+    // From a slice that begins at the picture's start code; D pictures pass. Where it has nine bytes and no extra
+    // information follows, the fields are taken from the number w in the last five of these.
     pub fn parse(buf: &[u8]) -> PictureHeaderRead
         ensures { λ r. ⌜ pictureHeaderAnswer r ≡ pictureHeader (now (buf .entry)) ⌝ }
     {
-        let read = bits::read_header(buf, PICTURE_START, &PICTURE_TABLE);
-        let outcome = read.outcome;
-        match outcome {
-            Outcome::Short => PictureHeaderRead::Refused(Error::ShortHeader),
-            Outcome::Bad => PictureHeaderRead::Refused(Error::InvalidBitstream),
-            Outcome::Done => {
-                let h = read.values;
-                after_delay(buf, h)
+        if 9 <= buf.len() {
+            let w = 0x100 * word(buf, 4) + wide(buf[8]);
+            let code = ((w >> 27) % 8) as u32;
+            let first = extra_bit(code);
+            let flag = (w >> (71 - first)) % 2;
+            let start = word(buf, 0) == PICTURE_WORD;
+            if start & ((1 <= code) & ((code <= 4) & (flag == 0))) {
+                let temporal_reference = ((w >> 30) % 1024) as u32;
+                let vbv_delay = ((w >> 11) % 65536) as u32;
+                let forward_vector = ((w >> 10) % 2) as u32;
+                let forward_code = ((w >> 7) % 8) as u32;
+                let backward_vector = ((w >> 6) % 2) as u32;
+                let backward_code = ((w >> 3) % 8) as u32;
+                let h = [temporal_reference, code, vbv_delay];
+                let m = [forward_vector, forward_code, backward_vector, backward_code];
+                return PictureHeaderRead::Parsed(header_of(h, m, 0));
             }
         }
+        header_by_table(buf)
     }
 
     // With the picture coding extension, which must follow; D pictures are refused (Table 6-12).
@@ -275,6 +306,22 @@ impl Mpeg2PictureHeader {
                 }
                 after_header(buf, header)
             }
+        }
+    }
+}
+
+// The same by the tables, for any bytes.
+fn header_by_table(buf: &[u8]) -> PictureHeaderRead
+    ensures { λ r. ⌜ pictureHeaderAnswer r ≡ pictureHeader (now (buf .entry)) ⌝ }
+{
+    let read = bits::read_header(buf, PICTURE_START, &PICTURE_TABLE);
+    let outcome = read.outcome;
+    match outcome {
+        Outcome::Short => PictureHeaderRead::Refused(Error::ShortHeader),
+        Outcome::Bad => PictureHeaderRead::Refused(Error::InvalidBitstream),
+        Outcome::Done => {
+            let h = read.values;
+            after_delay(buf, h)
         }
     }
 }
@@ -296,7 +343,9 @@ fn after_delay(buf: &[u8], h: [u32; 24]) -> PictureHeaderRead
                 ExtraRead::Cut => PictureHeaderRead::Refused(Error::ShortHeader),
                 ExtraRead::Bytes(n) => {
                     let m = motion.values;
-                    PictureHeaderRead::Parsed(header_of(h, m, n))
+                    let first = [h[0], h[1], h[2]];
+                    let vectors = [m[0], m[1], m[2], m[3]];
+                    PictureHeaderRead::Parsed(header_of(first, vectors, n))
                 }
             }
         }
@@ -358,63 +407,70 @@ fn picture_structure_of(code: u32) -> PictureStructure
 }
 
 impl PictureCodingExtension {
-    // From a slice that begins at the extension's start code. No f_code may be 0.
+    // From a slice that begins at the extension's start code. No f_code may be 0. One that is accepted has nine bytes, and
+    // its fields are taken from the number w in the last five of these.
     pub fn parse(buf: &[u8]) -> PictureCodingExtensionRead
         ensures { λ r. ⌜ codingAnswer r ≡ pictureCodingExtension (now (buf .entry)) ⌝ }
     {
-        let read = bits::read_header(buf, EXTENSION_START, &MOTION_CODE_TABLE);
-        let outcome = read.outcome;
-        match outcome {
-            Outcome::Short => PictureCodingExtensionRead::Refused(Error::ShortHeader),
-            Outcome::Bad => PictureCodingExtensionRead::Refused(Error::InvalidBitstream),
-            Outcome::Done => {
-                let h = read.values;
-                let fit = (1 <= h[1]) & ((1 <= h[2]) & ((1 <= h[3]) & (1 <= h[4])));
-                if fit {
-                    return after_codes(buf, h);
-                }
-                PictureCodingExtensionRead::Refused(Error::InvalidBitstream)
+        if 9 <= buf.len() {
+            let w = 0x100 * word(buf, 4) + wide(buf[8]);
+            let f_code_fwd_horiz = ((w >> 32) % 16) as u8;
+            let f_code_fwd_vert = ((w >> 28) % 16) as u8;
+            let f_code_bwd_horiz = ((w >> 24) % 16) as u8;
+            let f_code_bwd_vert = ((w >> 20) % 16) as u8;
+            let structure = ((w >> 16) % 4) as u32;
+            let start = (word(buf, 0) == EXTENSION_WORD) & (w >> 36 == 8);
+            let codes = (1 <= f_code_fwd_horiz)
+                & ((1 <= f_code_fwd_vert) & ((1 <= f_code_bwd_horiz) & (1 <= f_code_bwd_vert)));
+            if start & (codes & (1 <= structure)) {
+                let intra_dc_precision = ((w >> 18) % 4) as u8;
+                return PictureCodingExtensionRead::Parsed(PictureCodingExtension {
+                    f_code_fwd_horiz,
+                    f_code_fwd_vert,
+                    f_code_bwd_horiz,
+                    f_code_bwd_vert,
+                    intra_dc_precision,
+                    picture_structure: picture_structure_of(structure),
+                    top_field_first: (w >> 15) % 2 == 1,
+                    frame_pred_frame_dct: (w >> 14) % 2 == 1,
+                    concealment_motion_vectors: (w >> 13) % 2 == 1,
+                    q_scale_type: (w >> 12) % 2 == 1,
+                    intra_vlc_format: (w >> 11) % 2 == 1,
+                    alternate_scan: (w >> 10) % 2 == 1,
+                    repeat_first_field: (w >> 9) % 2 == 1,
+                    chroma_420_type: (w >> 8) % 2 == 1,
+                    progressive_frame: (w >> 7) % 2 == 1,
+                    composite_display_flag: (w >> 6) % 2 == 1,
+                });
             }
         }
+        PictureCodingExtensionRead::Refused(coding_refusal(buf))
     }
 }
 
-// What stands after the f_codes h.
-fn after_codes(buf: &[u8], h: [u32; 24]) -> PictureCodingExtensionRead
-    requires { ⌜ (getD h 1 0 ≤ 15) × (getD h 2 0 ≤ 15) × (getD h 3 0 ≤ 15) × (getD h 4 0 ≤ 15) ⌝ }
-    ensures { λ r. ⌜ codingAnswer r ≡ afterCodes (now (buf .entry)) h ⌝ }
+// What an extension is refused for, by its tables.
+fn coding_refusal(buf: &[u8]) -> Error
+    requires { ⌜ ((x : PictureCodingExtension) → pictureCodingExtension (now buf) ≡ value x → ⊥) ⌝ }
+    ensures { λ r. ⌜ headerRefusal r ≡ pictureCodingExtension (now (buf .entry)) ⌝ }
 {
-    let read = bits::read_fields(buf, 52, &CODING_TABLE);
+    let read = bits::read_header(buf, EXTENSION_START, &MOTION_CODE_TABLE);
     let outcome = read.outcome;
     match outcome {
-        Outcome::Short => PictureCodingExtensionRead::Refused(Error::ShortHeader),
-        Outcome::Bad => PictureCodingExtensionRead::Refused(Error::InvalidBitstream),
+        Outcome::Short => Error::ShortHeader,
+        Outcome::Bad => Error::InvalidBitstream,
         Outcome::Done => {
-            let v = read.values;
-            let f_code_fwd_horiz = h[1] as u8;
-            let f_code_fwd_vert = h[2] as u8;
-            let f_code_bwd_horiz = h[3] as u8;
-            let f_code_bwd_vert = h[4] as u8;
-            let intra_dc_precision = v[0] as u8;
-            let picture_structure = picture_structure_of(v[1]);
-            PictureCodingExtensionRead::Parsed(PictureCodingExtension {
-                f_code_fwd_horiz,
-                f_code_fwd_vert,
-                f_code_bwd_horiz,
-                f_code_bwd_vert,
-                intra_dc_precision,
-                picture_structure,
-                top_field_first: v[2] == 1,
-                frame_pred_frame_dct: v[3] == 1,
-                concealment_motion_vectors: v[4] == 1,
-                q_scale_type: v[5] == 1,
-                intra_vlc_format: v[6] == 1,
-                alternate_scan: v[7] == 1,
-                repeat_first_field: v[8] == 1,
-                chroma_420_type: v[9] == 1,
-                progressive_frame: v[10] == 1,
-                composite_display_flag: v[11] == 1,
-            })
+            let h = read.values;
+            let fit = (1 <= h[1]) & ((1 <= h[2]) & ((1 <= h[3]) & (1 <= h[4])));
+            if fit {
+                let rest = bits::read_fields(buf, 52, &CODING_TABLE);
+                let end = rest.outcome;
+                match end {
+                    Outcome::Short => return Error::ShortHeader,
+                    Outcome::Bad => return Error::InvalidBitstream,
+                    Outcome::Done => return Error::InvalidBitstream,
+                }
+            }
+            Error::InvalidBitstream
         }
     }
 }

@@ -1,5 +1,6 @@
 use borrow.Author.Needs.{needs}
 use mathlib.Core.Path.{ap, _∙_}
+use Rattle.picture_header.specs.PictureHeader.{pictureOf}
 use Rattle.picture_header.proofs.PictureHeader.{motion-short, motion-bad, motion-codes, motion-cut, motion-done}
 use Rattle.bits.specs.Refusals.{value}
 use Rattle.picture_header.proofs.ExtraInformation.{extra-case}
@@ -33,6 +34,27 @@ enum-told-4 c = search needs
 enum-known-extra : tie.Need-enum-known-extra
 enum-known-extra c = search needs
 
+array-read-t23 : tie.Need-array-read-t23
+array-read-t23 c = search needs
+
+array-read-t26 : tie.Need-array-read-t26
+array-read-t26 c = search needs
+
+array-read-t29 : tie.Need-array-read-t29
+array-read-t29 c = search needs
+
+array-read-t23-2 : tie.Need-array-read-t23-2
+array-read-t23-2 c = search needs
+
+array-read-t29-2 : tie.Need-array-read-t29-2
+array-read-t29-2 c = search needs
+
+array-read-t26-2 : tie.Need-array-read-t26-2
+array-read-t26-2 c = search needs
+
+array-read-t38 : tie.Need-array-read-t38
+array-read-t38 c = search needs
+
 header-of-requires : tie.Need-header-of-requires
 header-of-requires c κs =
     let r = c .before .before .before .before .before .before .before .before in
@@ -53,6 +75,7 @@ returns-3 c =
     (extra-case (c .enum-told4 .given .1) (rw (x .before .extra-bit .ensures) at (x .read-extra .ensures)))
 
 returns-4 : tie.Need-returns-4
+unfolding pictureOf
 returns-4 c =
     let x = c .before .before .before .before .before in
     ap value (c .header-of .ensures)
@@ -72,6 +95,13 @@ after-delay-spec =
     read-extra-requires
     enum-told-4
     enum-known-extra
+    array-read-t23
+    array-read-t26
+    array-read-t29
+    array-read-t23-2
+    array-read-t29-2
+    array-read-t26-2
+    array-read-t38
     header-of-requires
     returns
     returns-2

@@ -1,76 +1,97 @@
 use borrow.Author.Needs.{needs}
-use mathlib.Core.Path.{_∙_}
+use mathlib.Core.Path.{_≡_}
+use mathlib.Core.Logic.{⊎-elim}
+use Prim.Native.Nat.{ℕ, _+_, _*_}
 use native.Mathlib.Omega.{arith}
-use Rattle.bits.proofs.Reading.{header-done}
-use Rattle.picture_header.specs.CodingExtension.{motionCodeFields, motionCodesFit}
-use Rattle.picture_header.proofs.CodingExtension.{coding-short, coding-bad, coding-unfit, coding-fit}
+use Rattle.picture_header.specs.CodingExtension.{motionCodesFit, codingExtensionOf}
+use Rattle.picture_header.proofs.Straight.{bits-after, coding-straight, coding-only, coding-nine}
 use Rattle.picture_header.proofs.PictureCodingExtension.parse.Statement.{statement}
 use Rattle.picture_header.proofs.PictureCodingExtension.parse.Tie as tie
-use Rattle.bits.specs.StartCodes.{startCode, extensionStartCode}
 
-slice-aggregate-read-header : tie.Need-slice-aggregate-read-header
-slice-aggregate-read-header c = search needs
+word-requires : tie.Need-word-requires
+word-requires c κs = search needs
 
-read-header-requires : tie.Need-read-header-requires
-read-header-requires c κs = search needs
+mul-w : tie.Need-mul-w
+mul-w c = search needs
 
-enum-told : tie.Need-enum-told
-enum-told c = search needs
+shared-slice-read-wide : tie.Need-shared-slice-read-wide
+shared-slice-read-wide c = search needs
 
-enum-told-2 : tie.Need-enum-told-2
-enum-told-2 c = search needs
+wide-requires : tie.Need-wide-requires
+wide-requires c κs = search needs
 
-enum-told-3 : tie.Need-enum-told-3
-enum-told-3 c = search needs
+add-w : tie.Need-add-w
+add-w c = search needs
 
-array-read-fit : tie.Need-array-read-fit
-array-read-fit c = search needs
+cast-f-code-fwd-horiz : tie.Need-cast-f-code-fwd-horiz
+cast-f-code-fwd-horiz c = search needs
 
-array-read-fit-2 : tie.Need-array-read-fit-2
-array-read-fit-2 c = search needs
+cast-f-code-fwd-vert : tie.Need-cast-f-code-fwd-vert
+cast-f-code-fwd-vert c = search needs
 
-array-read-fit-3 : tie.Need-array-read-fit-3
-array-read-fit-3 c = search needs
+cast-f-code-bwd-horiz : tie.Need-cast-f-code-bwd-horiz
+cast-f-code-bwd-horiz c = search needs
 
-array-read-fit-4 : tie.Need-array-read-fit-4
-array-read-fit-4 c = search needs
+cast-f-code-bwd-vert : tie.Need-cast-f-code-bwd-vert
+cast-f-code-bwd-vert c = search needs
 
-after-codes-requires : tie.Need-after-codes-requires
-after-codes-requires c κs =
-    let d = header-done (c .before .before .before .before .read-header .result) (startCode extensionStartCode) motionCodeFields (c .before .before .before .before .before .before .before .args .buf .now) (c .before .before .before .before .read-header .ensures .0) (c .before .before .enum-told3 .given .1) in
-    omega (arith, d .high 1, d .high 2, d .high 3, d .high 4)
+cast-structure : tie.Need-cast-structure
+cast-structure c = search needs
+
+word-requires-2 : tie.Need-word-requires-2
+word-requires-2 c κs = search needs
+
+cast-intra-dc-precision : tie.Need-cast-intra-dc-precision
+cast-intra-dc-precision c = search needs
+
+picture-structure-of-requires : tie.Need-picture-structure-of-requires
+picture-structure-of-requires c κs = search needs
 
 returns : tie.Need-returns
-unfolding motionCodesFit
+unfolding motionCodesFit codingExtensionOf
 returns c =
-    c .after-codes .ensures
-    ∙ coding-fit (c .before .before .before .before .before .read-header .result) _ (c .before .before .before .before .before .read-header .ensures .0) (c .before .before .before .enum-told3 .given .1) (c .before .if1 .taken)
+    let g = c .before .before in
+    let d = g .before in
+    let s = d .before .before .before .before .before .args .buf .now in
+    rw (c .picture-structure-of .ensures)
+    (coding-straight s (omega arith) (λ k. omega (arith, d .before .shared-slice-known2 .given k)) (g .word2 .result) _ (g .word2 .ensures .0)
+    (bits-after s _ _ (d .before .before .word .ensures .0) (d .wide .ensures .0) (d .wide .ensures .1))
+    (c .before .if2 .taken))
+
+coding-refusal-requires : tie.Need-coding-refusal-requires
+unfolding motionCodesFit
+coding-refusal-requires c κs x a =
+    let s = c .before .before .args .buf .now in
+    ⊎-elim
+    (λ v.
+    let t =
+    coding-only s (omega arith) (λ k. omega (arith, v .2 .given k)) (v .4 .result) (256 * v .1 .result + v .3 .result) (v .4 .ensures .0)
+    (bits-after s _ _ (v .1 .ensures .0) (v .3 .ensures .0) (v .3 .ensures .1)) x a in
+    let z : _≡_ {A = ℕ} 0 1 = cc (v .5 .left) in
+    omega arith)
+    (λ v. omega (arith, coding-nine s x a))
+    (c .if1 .came)
 
 returns-2 : tie.Need-returns-2
-returns-2 c = coding-short (c .before .before .read-header .result) _ (c .before .before .read-header .ensures .0) (c .enum-told .given .1)
-
-returns-3 : tie.Need-returns-3
-returns-3 c = coding-bad (c .before .before .read-header .result) _ (c .before .before .read-header .ensures .0) (c .enum-told2 .given .1)
-
-returns-4 : tie.Need-returns-4
-unfolding motionCodesFit
-returns-4 c = coding-unfit (c .before .before .before .before .read-header .result) _ (c .before .before .before .before .read-header .ensures .0) (c .before .before .enum-told3 .given .1) (c .if1 .left)
+returns-2 c = search needs
 
 pub parse-spec : {M : Type 1} → statement M
 parse-spec =
     tie.close
     (tie.spec
-    slice-aggregate-read-header
-    read-header-requires
-    enum-told
-    enum-told-2
-    enum-told-3
-    array-read-fit
-    array-read-fit-2
-    array-read-fit-3
-    array-read-fit-4
-    after-codes-requires
+    word-requires
+    mul-w
+    shared-slice-read-wide
+    wide-requires
+    add-w
+    cast-f-code-fwd-horiz
+    cast-f-code-fwd-vert
+    cast-f-code-bwd-horiz
+    cast-f-code-bwd-vert
+    cast-structure
+    word-requires-2
+    cast-intra-dc-precision
+    picture-structure-of-requires
     returns
-    returns-2
-    returns-3
-    returns-4)
+    coding-refusal-requires
+    returns-2)
