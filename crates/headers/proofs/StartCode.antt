@@ -1,6 +1,6 @@
 -- Zero bytes passed over, the prefix 00 00 01, and where next_start_code() finds it.
 -- Assumes nothing.
-use mathlib.Core.Path.{_≡_, refl, ap, _∙_}
+use mathlib.Core.Path.{_≡_, refl, sym, ap, _∙_}
 use mathlib.Core.List.{List, [], _∷_, _++_}
 use mathlib.Core.Bool.{Bool, true, false, not}
 use Prim.Native.Nat.{ℕ, zero, suc, _+_, _-_, _≤_, _<_}
@@ -115,6 +115,23 @@ module _ (s : List ℕ) (k e : ℕ) (h : e ≡ k + leadingZeros (drop k s)) wher
   pub next-at : prefixAt s (e - 2) ≡ true → nextStartCode s k ≡ value (e - 2)
   unfolding nextStartCode pick
   next-at q = rw (← h, q)
+
+-- at byte k itself, where it stands there
+pub next-here : (s : List ℕ) (k : ℕ) → prefixAt s k ≡ true → nextStartCode s k ≡ value k
+unfolding leadingZeros
+next-here s k e =
+    let z : k + 2 - 2 ≡ k = omega arith in
+    next-at s k (k + 2) (ap (λ (n : ℕ). k + n) (sym (two (drop k s) (prefix-true s k e .is)))) (rw z e) ∙ ap value z
+  where
+    two : (d : List ℕ) → take 3 d ≡ startCodePrefix → leadingZeros d ≡ 2
+    two [] q = absurd (clash cc)
+    two (a ∷ []) q = absurd (clash cc)
+    two (a ∷ b ∷ []) q = absurd (clash cc)
+    two (a ∷ b ∷ c ∷ d) q =
+        let x : a ≡ 0 = cc in
+        let y : b ≡ 0 = cc in
+        let z : c ≡ 1 = cc in
+        rw (x, y, z)
 
 -- it is there, or missing (2)
 pub next-seen : (s : List ℕ) (k : ℕ) → ParseOutcome (nextStartCode s k)

@@ -74,10 +74,13 @@ pub fn prefix_at(buf: &[u8], at: usize) -> bool
 }
 
 // next_start_code() (5.2.3): zero bytes are passed over; the byte after them must be 01, with two zero bytes before it,
-// which may lie before `from`.
+// which may lie before `from`. Most often it stands at `from`.
 pub fn next_start_code(buf: &[u8], from: usize) -> NextStartCode
     ensures { λ r. ⌜ nextAnswer r ≡ nextStartCode (now (buf .entry)) from ⌝ }
 {
+    if prefix_at(buf, from) {
+        return NextStartCode::At(from);
+    }
     let end = past_zeros(buf, from);
     if end < 2 {
         return NextStartCode::Missing;

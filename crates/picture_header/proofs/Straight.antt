@@ -15,7 +15,7 @@ use Rattle.bits.specs.Fields.{Field, anyValue, readFields, readHeader, total}
 use Rattle.bits.specs.StartCodes.{startCode, pictureStartCode, extensionStartCode}
 use Rattle.bits.proofs.Flags.{both-true}
 use Rattle.bits.proofs.Laws.{bits-bound}
-use Rattle.bits.proofs.Reading.{read-range, four, header-got, header-of}
+use Rattle.bits.proofs.Reading.{total-none, total-more, read-range, four, header-got, header-of}
 use Rattle.bits.proofs.Writing.{read-room}
 use Rattle.bits.proofs.Same.{bits-one}
 use Rattle.bits.proofs.Inside.{bits-inside, bits-byte-more, bits-four, fieldsIn, ObeyedIn, read-inside, inside-read}
@@ -73,6 +73,13 @@ motion-same h w n = let q = case (eqb (getD h 1 0) 2) (eqb (getD h 1 0) 3) in rw
     case false true = (refl, refl, refl, refl)
     case false false = (refl, refl, refl, refl)
 
+-- the bits of the extension's two tables
+motion-code-bits : total motionCodeFields ≡ 20
+motion-code-bits = simp (total-more, total-none)
+
+coding-bits : total codingFields ≡ 14
+coding-bits = simp (total-more, total-none)
+
 module _ (s : List ℕ) (long : 9 ≤ length s) (byte : (k : ℕ) → getD s k 0 < 256) (n w : ℕ) (d : n ≡ bitsAt s 0 32) (e : w ≡ bitsAt s 32 40) where
   -- k is the bit of the first flag
   pub header-straight : (k : ℕ) → k ≡ extraBit (w / 2 ^ 27 % 8)
@@ -120,12 +127,11 @@ module _ (s : List ℕ) (long : 9 ≤ length s) (byte : (k : ℕ) → getD s k 0
   -- and the test holds of each extension that is accepted
   pub coding-only : (x : PictureCodingExtension) → pictureCodingExtension s ≡ value x
       → (eqb n 0x1B5 && eqb (w / 2 ^ 36) 8) && (motionCodesFit (fieldsIn motionCodeFields w 40) && leb 1 (w / 2 ^ 16 % 4)) ≡ true
-  unfolding total
   coding-only x a =
       let p = coding-parsed s x a in
       let g = header-got (startCode extensionStartCode) motionCodeFields s (p .h) (p .codes) in
-      let h : p .h ≡ fieldsIn motionCodeFields w 40 = inside-read motionCodeFields s 32 40 40 w (p .h) e (omega arith) (omega arith) (g .fields-read) in
-      let v : p .vs ≡ fieldsIn codingFields w 20 = inside-read codingFields s 32 40 20 w (p .vs) e (omega arith) (omega arith) (p .rest) in
+      let h : p .h ≡ fieldsIn motionCodeFields w 40 = inside-read motionCodeFields s 32 40 40 w (p .h) e (omega arith) (omega (arith, motion-code-bits)) (g .fields-read) in
+      let v : p .vs ≡ fieldsIn codingFields w 20 = inside-read codingFields s 32 40 20 w (p .vs) e (omega arith) (omega (arith, coding-bits)) (p .rest) in
       let i : 8 ≤ w / 2 ^ 36 % 16 = rw h at (read-range motionCodeFields s 32 (p .h) (g .fields-read) 0 .0) in
       let j : w / 2 ^ 36 % 16 ≤ 8 = rw h at (read-range motionCodeFields s 32 (p .h) (g .fields-read) 0 .1) in
       let k : 1 ≤ w / 2 ^ 16 % 4 = rw v at (read-range codingFields s 52 (p .vs) (p .rest) 1 .0) in
@@ -141,9 +147,8 @@ module _ (s : List ℕ) (long : 9 ≤ length s) (byte : (k : ℕ) → getD s k 0
 
 -- which has nine bytes
 pub coding-nine : (s : List ℕ) (x : PictureCodingExtension) → pictureCodingExtension s ≡ value x → 9 ≤ length s
-unfolding total
 coding-nine s x a =
     let p = coding-parsed s x a in
     let g = header-got (startCode extensionStartCode) motionCodeFields s (p .h) (p .codes) in
     let l = read-room motionCodeFields s 32 (p .h) (omega (arith, g .long)) (g .fields-read) in
-    omega (arith, read-room codingFields s 52 (p .vs) (omega (arith, l)) (p .rest))
+    omega (arith, read-room codingFields s 52 (p .vs) (omega (arith, l, motion-code-bits)) (p .rest), coding-bits)
