@@ -1,4 +1,4 @@
--- A number that stands in some bits: the bits inside it, bytes more of it, and a table read from it at once.
+-- A number that stands in some bits: the bits inside it, the same with bytes more, and a table read from it at once.
 -- Assumes nothing.
 use mathlib.Core.Path.{_≡_, refl, ap, _∙_}
 use mathlib.Core.List.{List, [], _∷_}

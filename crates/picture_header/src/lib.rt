@@ -267,7 +267,7 @@ fn header_of(h: [u32; 3], m: [u32; 4], n: usize) -> Mpeg2PictureHeader
 
 impl Mpeg2PictureHeader {
     // From a slice that begins at the picture's start code; D pictures pass. Where it has nine bytes and no extra
-    // information follows, the fields are taken from the number w in the last five of these.
+    // information follows, the fields are taken from the number w in bits 32 to 71.
     pub fn parse(buf: &[u8]) -> PictureHeaderRead
         ensures { λ r. ⌜ pictureHeaderAnswer r ≡ pictureHeader (now (buf .entry)) ⌝ }
     {
@@ -310,7 +310,7 @@ impl Mpeg2PictureHeader {
     }
 }
 
-// The same by the tables, for any bytes.
+// The same by the tables, whatever the bytes are.
 fn header_by_table(buf: &[u8]) -> PictureHeaderRead
     ensures { λ r. ⌜ pictureHeaderAnswer r ≡ pictureHeader (now (buf .entry)) ⌝ }
 {
@@ -408,7 +408,7 @@ fn picture_structure_of(code: u32) -> PictureStructure
 
 impl PictureCodingExtension {
     // From a slice that begins at the extension's start code. No f_code may be 0. One that is accepted has nine bytes, and
-    // its fields are taken from the number w in the last five of these.
+    // its fields are taken from the number w in bits 32 to 71.
     pub fn parse(buf: &[u8]) -> PictureCodingExtensionRead
         ensures { λ r. ⌜ codingAnswer r ≡ pictureCodingExtension (now (buf .entry)) ⌝ }
     {
@@ -467,7 +467,7 @@ fn coding_refusal(buf: &[u8]) -> Error
                 match end {
                     Outcome::Short => return Error::ShortHeader,
                     Outcome::Bad => return Error::InvalidBitstream,
-                    Outcome::Done => return Error::InvalidBitstream,
+                    Outcome::Done => return Error::InvalidBitstream, // none that is refused comes here
                 }
             }
             Error::InvalidBitstream
