@@ -310,7 +310,7 @@ impl Mpeg2PictureHeader {
     }
 }
 
-// The same by the tables, whatever the bytes are.
+// A header by the tables, whatever the bytes are.
 fn header_by_table(buf: &[u8]) -> PictureHeaderRead
     ensures { λ r. ⌜ pictureHeaderAnswer r ≡ pictureHeader (now (buf .entry)) ⌝ }
 {
