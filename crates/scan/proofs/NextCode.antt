@@ -1,6 +1,6 @@
 -- What the definition of the next code says at an index of the stream.
 -- Assumes nothing.
-use mathlib.Core.Path.{_≡_, refl, sym, _∙_}
+use mathlib.Core.Path.{_≡_, refl, sym, ap, _∙_}
 use Prim.Native.Nat.{ℕ, suc, _+_, _-_, _≤_, _<_}
 use mathlib.Core.List.{List, [], _∷_}
 use mathlib.Core.Bool.{Bool, true, false, _&&_, and-false}
@@ -10,11 +10,14 @@ use native.Mathlib.Numerals.{add-one}
 use lib.ListN.{length, drop, getD, length-drop}
 use lib.Seq.{drop-drop, getD-drop}
 use lib.Dec.{eqb, leb}
-use borrow.Author.Tests.{ne-eqb, le-leb}
+use borrow.Author.Tests.{ne-eqb, le-leb, lt-leb, eqb-true}
 use Rattle.bits.specs.Bits.{pick}
+use Rattle.bits.specs.StartCodes.{pictureStartCode}
+use Rattle.bits.proofs.Flags.{both-true}
 use Rattle.scan.specs.declared.Found.{Found}
 use Rattle.scan.specs.declared.Found.the-variants.{At, Nothing}
 use Rattle.scan.specs.Codes.{starts, codesFrom, codesAt, found, nextCode}
+use Rattle.scan.specs.Steps.{pictureAt}
 use Rattle.scan.proofs.Prefix.{starts-is}
 
 -- ---- over a list
@@ -73,7 +76,30 @@ next-here s i h a b c =
     let l : 4 ≤ length s - i = omega arith in
     rw (next-first s i, ← getD-drop i s 3 0) (first-here i (drop i s) (starts-at s i ∙ rw (le-leb 4 (length s - i) l, a, b, c)))
 
--- no code at i
+-- ---- a picture's start code
+
+pub picture-short : (s : List ℕ) (i : ℕ) → length s < i + 4 → false ≡ pictureAt s i
+unfolding pictureAt
+picture-short s i h =
+    let l : length s - i < 4 = omega arith in
+    rw (starts-at s i, lt-leb 4 (length s - i) l)
+
+pub picture-bytes : (s : List ℕ) (i : ℕ) → i + 4 ≤ length s
+    → ((eqb (getD s i 0) 0 && (eqb (getD s (i + 1) 0) 0 && eqb (getD s (i + 2) 0) 1)) && eqb (getD s (i + 3) 0) pictureStartCode) ≡ pictureAt s i
+unfolding pictureAt
+picture-bytes s i h =
+    let l : 4 ≤ length s - i = omega arith in
+    rw (starts-at s i, le-leb 4 (length s - i) l)
+
+pub picture-next : (s : List ℕ) (i : ℕ) → pictureAt s i ≡ true → nextCode s i ≡ At i pictureStartCode
+unfolding pictureAt
+picture-next s i h =
+    let b = both-true (starts (drop i s)) (eqb (getD s (i + 3) 0) pictureStartCode) h in
+    let e : getD (drop i s) 3 0 ≡ pictureStartCode = getD-drop i s 3 0 ∙ eqb-true (getD s (i + 3) 0) pictureStartCode (b .1) in
+    next-first s i ∙ sym (first-here i (drop i s) (b .0)) ∙ ap (At i) e
+
+-- ---- no code at i
+
 next-on : (s : List ℕ) (i : ℕ) → starts (drop i s) ≡ false → nextCode s (i + 1) ≡ nextCode s i
 next-on s i e = rw (next-first s (i + 1), next-first s i, ← drop-drop 1 i s) (first-on i (drop i s) e)
 

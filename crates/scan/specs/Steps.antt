@@ -3,13 +3,15 @@
 use Prim.Native.Nat.{ℕ, zero, suc, _+_}
 use mathlib.Core.List.{List}
 use mathlib.Core.Bool.{Bool, false, _&&_, _||_}
-use lib.ListN.{getD}
+use lib.ListN.{getD, drop}
 use lib.Dec.{eqb, ltb}
 use Rattle.bits.specs.Bits.{pick}
+use Rattle.bits.specs.StartCodes.{pictureStartCode}
 use Rattle.scan.specs.declared.Found.{Found}
 use Rattle.scan.specs.declared.Found.the-variants.{At, Nothing}
 use Rattle.scan.specs.declared.Stop.{Stop}
 use Rattle.scan.specs.declared.Stop.the-variants.{AtSequence, AtPicture, AtSlice, AfterSlices}
+use Rattle.scan.specs.Codes.{starts}
 use Rattle.scan.specs.Pictures.{isSlice, notSlice, notPicture, notSequence}
 
 -- at one of the first k places from `at` on, 00 01 stands as the second and third byte from there
@@ -22,6 +24,10 @@ unfoldable pub before : ℕ → Found → Found
 unfolding pick
 before end (At offset code) = pick (ltb offset end) (At offset code) Nothing
 before end Nothing = Nothing
+
+-- a picture's start code stands at `at`
+unfoldable pub pictureAt : List ℕ → ℕ → Bool
+pictureAt s at = starts (drop at s) && eqb (getD s (at + 3) 0) pictureStartCode
 
 -- which codes a search passes over
 unfoldable pub passed : Stop → ℕ → Bool
