@@ -3,15 +3,15 @@
 use Prim.Native.Nat.{ℕ, zero, suc, _+_}
 use mathlib.Core.List.{List}
 use mathlib.Core.Bool.{Bool, false, _&&_, _||_}
-use lib.ListN.{getD, drop}
+use lib.ListN.{getD, take, drop}
 use lib.Dec.{eqb, ltb}
 use Rattle.bits.specs.Bits.{pick}
-use Rattle.bits.specs.StartCodes.{pictureStartCode}
+use Rattle.bits.specs.Fields.{sameBytes}
+use Rattle.bits.specs.StartCodes.{startCode, pictureStartCode}
 use Rattle.scan.specs.declared.Found.{Found}
 use Rattle.scan.specs.declared.Found.the-variants.{At, Nothing}
 use Rattle.scan.specs.declared.Stop.{Stop}
 use Rattle.scan.specs.declared.Stop.the-variants.{AtSequence, AtPicture, AtSlice, AfterSlices}
-use Rattle.scan.specs.Codes.{starts}
 use Rattle.scan.specs.Pictures.{isSlice, notSlice, notPicture, notSequence}
 
 -- at one of the first k places from `at` on, 00 01 stands as the second and third byte from there
@@ -27,7 +27,7 @@ before end Nothing = Nothing
 
 -- a picture's start code stands at `at`
 unfoldable pub pictureAt : List ℕ → ℕ → Bool
-pictureAt s at = starts (drop at s) && eqb (getD s (at + 3) 0) pictureStartCode
+pictureAt s at = sameBytes (take 4 (drop at s)) (startCode pictureStartCode)
 
 -- which codes a search passes over
 unfoldable pub passed : Stop → ℕ → Bool

@@ -7,6 +7,7 @@ ghost use Rattle.scan.specs.Pictures.{skip, notSequence, notPicture, aft
 ghost use Rattle.scan.specs.Steps.{zeroOne, before, passed, pictureAt};
 use bits::start_codes::FIRST_SLICE_CODE;
 use bits::start_codes::LAST_SLICE_CODE;
+use bits::start_codes::PICTURE_START;
 use bits::start_codes::PICTURE_START_CODE;
 use bits::start_codes::SEQUENCE_END_CODE;
 use bits::start_codes::SEQUENCE_HEADER_CODE;
@@ -197,10 +198,10 @@ fn after_slices(s: &[u8], from: usize) -> Found
 fn picture_at(s: &[u8], at: usize) -> bool
     ensures { λ r. ⌜ r ≡ pictureAt (now (s .entry)) at ⌝ }
 {
-    if places(s.len(), 4) <= at {
+    if s.len() < at {
         return false;
     }
-    ((s[at] == 0) & ((s[at + 1] == 0) & (s[at + 2] == 1))) & (s[at + 3] == PICTURE_START_CODE)
+    bits::starts_with(&s[at..], &PICTURE_START)
 }
 
 // The first picture's start code of those that a scan from `from` finds. A walk goes on where a picture ended, which is mostly
