@@ -1,4 +1,4 @@
--- The promises of private functions: the two parts of the search for the next start code, and what a search passes over.
+-- The promises of private functions: the parts of the search for the next start code, a picture's start code, and what a search passes over.
 -- Assumes nothing.
 use Prim.Native.Nat.{ℕ, zero, suc, _+_}
 use mathlib.Core.List.{List}
