@@ -29,7 +29,7 @@ use Rattle.scan.specs.declared.Found.the-variants.{At, Nothing}
 use Rattle.scan.specs.Codes.{codes, codesAt, every, nextCode, endsPrefix, found}
 use Rattle.scan.specs.Pictures.{isSlice, notSequence, skip}
 use Rattle.scan.proofs.Walk.{code-seen, unseen, sought, unsought}
-use Rattle.scan.proofs.Search.{codes-from-zero, every-more}
+use Rattle.scan.proofs.Search.{codes-from-zero}
 use Rattle.scan.proofs.Prefix.{ends-last-three}
 use Rattle.layers.specs.Headers.{opensHeaders, sequenceFirst}
 use Rattle.layers.specs.declared.PictureKind.{PictureKind}
@@ -74,13 +74,10 @@ pub slices-none : (s : List ℕ) (i : ℕ) → found (skip isExtension (codesAt 
 unfolding slices
 slices-none s i e = rw (unsought (skip isExtension (codesAt s i)) e)
 
--- the code at which the search stopped is scanned again
 pub slices-some : (s : List ℕ) (i o c : ℕ) → found (skip isExtension (codesAt s i)) ≡ At o c
-    → every isSlice (codesAt s o) ≡ slices (skip isExtension (codesAt s i))
+    → (isSlice c && every isSlice (codesAt s (o + 4))) ≡ slices (skip isExtension (codesAt s i))
 unfolding slices
-slices-some s i o c e =
-    let h = sought isExtension s i o c e in
-    rw (h .list, h .again, every-more isSlice (record { offset = o; code = c }) (codesAt s (o + 4)))
+slices-some s i o c e = rw (sought isExtension s i o c e .list)
 
 -- ---- zero bytes
 

@@ -322,7 +322,9 @@ fn slices_after(layer: &[u8], from: usize) -> bool
     ensures { λ r. ⌜ r ≡ slices (skip isExtension (codesAt (now (layer .entry)) from)) ⌝ }
 {
     match past(layer, from, CodeSet::Extensions) {
-        Found::At { offset, code: _ } => all_in_set(layer, offset, CodeSet::Slices),
+        Found::At { offset, code } => {
+            in_set(CodeSet::Slices, code) & all_in_set(layer, offset + 4, CodeSet::Slices)
+        }
         Found::Nothing => false,
     }
 }

@@ -31,9 +31,9 @@ pub one-more : (s : List ℕ) (at k : ℕ) (b : Bool) → b ≡ zeroOne s at k
 unfolding zeroOne
 one-more s at k b e = rw (add-one k, e)
 
-pub all-places : (s : List ℕ) (at k : ℕ) → k ≤ 16 → 16 ≤ k → zeroOne s at k ≡ zeroOne s at 16
-all-places s at k a b =
-    let e : k ≡ 16 = omega arith in
+pub all-places : (s : List ℕ) (at k n : ℕ) → k ≤ n → n ≤ k → zeroOne s at k ≡ zeroOne s at n
+all-places s at k n a b =
+    let e : k ≡ n = omega arith in
     ap (zeroOne s at) e
 
 -- a block without 00 01 is passed over whole

@@ -1,21 +1,26 @@
 -- What the definition of the next code says at an index of the stream.
 -- Assumes nothing.
-use mathlib.Core.Path.{_≡_, refl, sym, _∙_}
+use mathlib.Core.Path.{_≡_, refl, sym, ap, _∙_}
 use Prim.Native.Nat.{ℕ, suc, _+_, _-_, _≤_, _<_}
 use mathlib.Core.List.{List, [], _∷_}
 use mathlib.Core.Bool.{Bool, true, false, _&&_, and-false}
 use native.Mathlib.Omega.{arith}
 use native.Mathlib.Nat.{add-zero}
 use native.Mathlib.Numerals.{add-one}
-use lib.ListN.{length, drop, getD, length-drop}
-use lib.Seq.{drop-drop, getD-drop}
+use lib.ListN.{length, take, drop, getD, length-drop, drop-of-length-le}
+use lib.Seq.{take-all, drop-drop, getD-drop}
 use lib.Dec.{eqb, leb}
 use borrow.Author.Tests.{ne-eqb, le-leb}
 use Rattle.bits.specs.Bits.{pick}
+use Rattle.bits.specs.Fields.{sameBytes}
+use Rattle.bits.specs.StartCodes.{startCode, pictureStartCode}
+use Rattle.bits.proofs.Flags.{clash}
+use Rattle.bits.proofs.Reading.{same-bytes, same-not}
 use Rattle.scan.specs.declared.Found.{Found}
 use Rattle.scan.specs.declared.Found.the-variants.{At, Nothing}
 use Rattle.scan.specs.Codes.{starts, codesFrom, codesAt, found, nextCode}
-use Rattle.scan.proofs.Prefix.{starts-is}
+use Rattle.scan.specs.Steps.{pictureAt}
+use Rattle.scan.proofs.Prefix.{starts-is, starts-four}
 
 -- ---- over a list
 
@@ -73,7 +78,37 @@ next-here s i h a b c =
     let l : 4 ≤ length s - i = omega arith in
     rw (next-first s i, ← getD-drop i s 3 0) (first-here i (drop i s) (starts-at s i ∙ rw (le-leb 4 (length s - i) l, a, b, c)))
 
--- no code at i
+-- ---- a picture's start code
+
+-- over a list
+picture-first : (l : List ℕ) → take 4 l ≡ startCode pictureStartCode → (starts l ≡ true) × (getD l 3 0 ≡ pictureStartCode)
+picture-first [] e = absurd (clash cc)
+picture-first (a ∷ []) e = absurd (clash cc)
+picture-first (a ∷ b ∷ []) e = absurd (clash cc)
+picture-first (a ∷ b ∷ c ∷ []) e = absurd (clash cc)
+picture-first (a ∷ b ∷ c ∷ d ∷ l) e =
+    let ea : a ≡ 0 = cc in
+    let eb : b ≡ 0 = cc in
+    let ec : c ≡ 1 = cc in
+    let ed : d ≡ pictureStartCode = cc in
+    (starts-four a b c d l ∙ rw (ea, eb, ec), ed)
+
+pub picture-past : (s : List ℕ) (i : ℕ) → length s < i → false ≡ pictureAt s i
+unfolding pictureAt
+picture-past s i h = rw (drop-of-length-le s {i = i} (omega arith)) (sym (same-not [] (startCode pictureStartCode) (λ e. clash cc)))
+
+pub picture-rest : (s : List ℕ) (i : ℕ) → sameBytes (take 4 (take (length s - i) (drop i s))) (startCode pictureStartCode) ≡ pictureAt s i
+unfolding pictureAt
+picture-rest s i = rw (take-all (length s - i) (drop i s) (omega (arith, length-drop i s)))
+
+pub picture-next : (s : List ℕ) (i : ℕ) → pictureAt s i ≡ true → nextCode s i ≡ At i pictureStartCode
+unfolding pictureAt
+picture-next s i h =
+    let p = picture-first (drop i s) (same-bytes (take 4 (drop i s)) (startCode pictureStartCode) h) in
+    next-first s i ∙ sym (first-here i (drop i s) (p .0)) ∙ ap (At i) (p .1)
+
+-- ---- no code at i
+
 next-on : (s : List ℕ) (i : ℕ) → starts (drop i s) ≡ false → nextCode s (i + 1) ≡ nextCode s i
 next-on s i e = rw (next-first s (i + 1), next-first s i, ← drop-drop 1 i s) (first-on i (drop i s) e)
 

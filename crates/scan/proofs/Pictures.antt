@@ -16,7 +16,7 @@ use Rattle.scan.specs.declared.Found.{Found}
 use Rattle.scan.specs.declared.Found.the-variants.{At, Nothing}
 use Rattle.scan.specs.declared.Next.{Next}
 use Rattle.scan.specs.declared.Next.the-variants.{Picture, Done}
-use Rattle.scan.specs.declared.Stop.the-variants.{AtPicture, AtSlice, AfterSlices}
+use Rattle.scan.specs.declared.Stop.the-variants.{AtSlice, AfterSlices}
 use Rattle.scan.specs.Codes.{Code, codesFrom, codes, codesAt, found}
 use Rattle.scan.specs.Pictures.{Pic, skip, isSlice, notSlice, notPicture, notSequence, afterSlices, endAt, picturesF, picturesOf, pictures, goOn, nextIn, nextPicture}
 use Rattle.scan.specs.Order as walk
@@ -83,11 +83,11 @@ unfolding afterSlices passed skip found
 no-slices-end s k e = rw (unsought (skip notSlice (codesAt s k)) e)
 
 pub after-some : (s : List ℕ) (k g c : ℕ) → found (skip (passed AtSlice) (codesAt s k)) ≡ At g c
-    → skip (passed AfterSlices) (codesAt s g) ≡ afterSlices (codesAt s k)
-unfolding afterSlices passed
+    → skip (passed AfterSlices) (codesAt s (g + 4)) ≡ afterSlices (codesAt s k)
+unfolding afterSlices passed skip pick notSlice
 after-some s k g c e =
     let m : Sought notSlice s k g c = sought notSlice s k g c e in
-    ap (skip isSlice) (m .again ∙ sym (m .list))
+    rw (m .list, not-false (isSlice c) (m .stops))
 
 -- the code after the slices that come next from k on: c, which stands at g
 pub record SlicesPassed (s : List ℕ) (k g c : ℕ) : Type 0 where
@@ -104,7 +104,7 @@ slices-passed s k g c h = go (found (skip (passed AtSlice) (codesAt s k))) refl
     go Nothing e = let z : Nothing ≡ At g c = no-slices-end s k e ∙ h in absurd (clash cc)
     go (At b d) e =
         let m : Sought notSlice s k b d = sought notSlice s k b d e in
-        let n : Sought isSlice s b g c = sought isSlice s b g c (ap found (after-some s k b d e) ∙ h) in
+        let n : Sought isSlice s (b + 4) g c = sought isSlice s (b + 4) g c (ap found (after-some s k b d e) ∙ h) in
         record {
           from = omega (arith, m .from, n .from);
           room = n .room;
@@ -114,14 +114,14 @@ slices-passed s k g c h = go (found (skip (passed AtSlice) (codesAt s k))) refl
 
 -- ---- one step of the walk, by what the searches find
 
-pub next-none : (s : List ℕ) (i : ℕ) → found (skip (passed AtPicture) (codesAt s i)) ≡ Nothing → Done ≡ nextPicture s i
-unfolding nextPicture nextIn passed
+pub next-none : (s : List ℕ) (i : ℕ) → found (skip notPicture (codesAt s i)) ≡ Nothing → Done ≡ nextPicture s i
+unfolding nextPicture nextIn
 next-none s i e = rw (unsought (skip notPicture (codesAt s i)) e)
 
 -- the code of a picture stands at a
-module _ (s : List ℕ) (i a d : ℕ) (f : found (skip (passed AtPicture) (codesAt s i)) ≡ At a d) where
+module _ (s : List ℕ) (i a d : ℕ) (f : found (skip notPicture (codesAt s i)) ≡ At a d) where
   next-some : Picture a (endAt (length s) (afterSlices (codesAt s (a + 4)))) (goOn (length s) (afterSlices (codesAt s (a + 4)))) ≡ nextPicture s i
-  unfolding nextPicture nextIn passed
+  unfolding nextPicture nextIn
   next-some = rw (sought notPicture s i a d f .list)
 
   pub next-last : found (afterSlices (codesAt s (a + 4))) ≡ Nothing → Picture a (length s) (length s) ≡ nextPicture s i
@@ -147,10 +147,9 @@ record Taken (s : List ℕ) (i a b n : ℕ) : Type 0 where
   next-is : goOn (length s) (afterSlices (codesAt s (a + 4))) ≡ n
 
 taken : (s : List ℕ) (i a b n : ℕ) → nextPicture s i ≡ Picture a b n → Taken s i a b n
-unfolding passed
-taken s i a b n h = go (found (skip (passed AtPicture) (codesAt s i))) refl
+taken s i a b n h = go (found (skip notPicture (codesAt s i))) refl
   where
-    go : (f : Found) → found (skip (passed AtPicture) (codesAt s i)) ≡ f → Taken s i a b n
+    go : (f : Found) → found (skip notPicture (codesAt s i)) ≡ f → Taken s i a b n
     go Nothing e = let z : Done ≡ Picture a b n = next-none s i e ∙ h in absurd (clash cc)
     go (At o c) e =
         let x : Picture o (endAt (length s) (afterSlices (codesAt s (o + 4)))) (goOn (length s) (afterSlices (codesAt s (o + 4)))) ≡ Picture a b n
@@ -239,10 +238,10 @@ picture-step s i a b n h =
 -- ---- the pictures are what the walk finds
 
 pub pictures-done : (s : List ℕ) (i : ℕ) → nextPicture s i ≡ Done → picturesAt s i ≡ []
-unfolding picturesAt passed
-pictures-done s i h = go (found (skip (passed AtPicture) (codesAt s i))) refl
+unfolding picturesAt
+pictures-done s i h = go (found (skip notPicture (codesAt s i))) refl
   where
-    go : (f : Found) → found (skip (passed AtPicture) (codesAt s i)) ≡ f → picturesOf (length s) (codesAt s i) ≡ []
+    go : (f : Found) → found (skip notPicture (codesAt s i)) ≡ f → picturesOf (length s) (codesAt s i) ≡ []
     go Nothing e = pictures-skip (length s) (codesAt s i) ∙ rw (unsought (skip notPicture (codesAt s i)) e) (pictures-none (length s))
     go (At o c) e = let x = next-some s i o c e ∙ h in cc
 

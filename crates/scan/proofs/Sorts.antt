@@ -6,7 +6,7 @@ use mathlib.Core.List.{List, [], _∷_, _++_}
 use mathlib.Core.Bool.{Bool, true, false, and-false}
 use borrow.Author.Tests.{lt-leb, ne-eqb}
 use Rattle.bits.specs.Bits.{pick}
-use Rattle.bits.specs.StartCodes.{lastSliceCode, sequenceHeaderCode}
+use Rattle.bits.specs.StartCodes.{pictureStartCode, lastSliceCode, sequenceHeaderCode}
 use Rattle.bits.proofs.Flags.{both-true}
 use Rattle.scan.specs.Codes.{Code, every, found}
 use Rattle.scan.specs.Pictures.{isSlice, notSlice, notPicture, notSequence, skip}
@@ -28,6 +28,10 @@ not-slice-above c h = rw (slice-above c h)
 pub not-picture : (c : ℕ) → (c ≡ 0 → ⊥) → notPicture c ≡ true
 unfolding notPicture
 not-picture c n = rw (ne-eqb c 0 n)
+
+pub picture-code : notPicture pictureStartCode ≡ false
+unfolding notPicture
+picture-code = refl
 
 pub sequence-code : notSequence sequenceHeaderCode ≡ false
 unfolding notSequence

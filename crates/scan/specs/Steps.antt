@@ -1,11 +1,13 @@
--- The promises of private functions: the two parts of the search for the next start code, and what a search passes over.
+-- The promises of private functions: the parts of the search for the next start code, a picture's start code, and what a search passes over.
 -- Assumes nothing.
 use Prim.Native.Nat.{ℕ, zero, suc, _+_}
 use mathlib.Core.List.{List}
 use mathlib.Core.Bool.{Bool, false, _&&_, _||_}
-use lib.ListN.{getD}
+use lib.ListN.{getD, take, drop}
 use lib.Dec.{eqb, ltb}
 use Rattle.bits.specs.Bits.{pick}
+use Rattle.bits.specs.Fields.{sameBytes}
+use Rattle.bits.specs.StartCodes.{startCode, pictureStartCode}
 use Rattle.scan.specs.declared.Found.{Found}
 use Rattle.scan.specs.declared.Found.the-variants.{At, Nothing}
 use Rattle.scan.specs.declared.Stop.{Stop}
@@ -22,6 +24,10 @@ unfoldable pub before : ℕ → Found → Found
 unfolding pick
 before end (At offset code) = pick (ltb offset end) (At offset code) Nothing
 before end Nothing = Nothing
+
+-- a picture's start code stands at `at`
+unfoldable pub pictureAt : List ℕ → ℕ → Bool
+pictureAt s at = sameBytes (take 4 (drop at s)) (startCode pictureStartCode)
 
 -- which codes a search passes over
 unfoldable pub passed : Stop → ℕ → Bool

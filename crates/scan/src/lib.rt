@@ -1,12 +1,13 @@
 // Start codes of a stream, and the walk from picture to picture.
 ghost use mathlib.Core.Path.{_≡_};
 ghost use lib.ListN.{length};
-ghost use Prim.Native.Nat.{_+_, _≤_};
+ghost use Prim.Native.Nat.{_+_, _-_, _≤_};
 ghost use Rattle.scan.specs.Codes.{found, nextCode, codes, codesAt};
-ghost use Rattle.scan.specs.Pictures.{skip, notSequence, afterSlices, nextPicture};
-ghost use Rattle.scan.specs.Steps.{zeroOne, before, passed};
+ghost use Rattle.scan.specs.Pictures.{skip, notSequence, notPicture, afterSlices, nextPicture};
+ghost use Rattle.scan.specs.Steps.{zeroOne, before, passed, pictureAt};
 use bits::start_codes::FIRST_SLICE_CODE;
 use bits::start_codes::LAST_SLICE_CODE;
+use bits::start_codes::PICTURE_START;
 use bits::start_codes::PICTURE_START_CODE;
 use bits::start_codes::SEQUENCE_END_CODE;
 use bits::start_codes::SEQUENCE_HEADER_CODE;
@@ -31,15 +32,15 @@ enum Stop {
     AfterSlices,
 }
 
-// Whether 00 01 stands where the second and third byte of a start code would be that begins in the 16 bytes from `at`.
-// The loop has no branch: the compiler looks at all sixteen places at once.
-fn has_zero_one(s: &[u8], at: usize) -> bool
-    requires { ⌜ at + 18 ≤ length (now s) ⌝ }
-    ensures { λ r. ⌜ r ≡ zeroOne (now (s .entry)) at 16 ⌝ }
+// Whether 00 01 stands where the second and third byte of a start code would be that begins in the `n` bytes from `at`.
+// The loop has no branch: where the compiler knows `n`, it looks at 16 places at once.
+fn has_zero_one(s: &[u8], at: usize, n: usize) -> bool
+    requires { ⌜ at + n + 2 ≤ length (now s) ⌝ }
+    ensures { λ r. ⌜ r ≡ zeroOne (now (s .entry)) at n ⌝ }
 {
     let mut some = false;
     let mut k: usize = 0;
-    while k < 16 {
+    while k < n {
         let i = at + k;
         some = some | ((s[i + 1] == 0) & (s[i + 2] == 1));
         k += 1;
@@ -80,7 +81,49 @@ fn next_before(s: &[u8], from: usize, end: usize) -> Found
     Found::Nothing
 }
 
-// The first start code at or after `from`: a block of 16 bytes without 00 01 is passed over whole.
+// How many places have `n` bytes before `end`: those below the answer.
+fn places(end: usize, n: usize) -> usize
+    requires { ⌜ 1 ≤ n ⌝ }
+    ensures { λ r. ⌜ r ≡ end + 1 - n ⌝ }
+{
+    if end < n { 0 } else { end - n + 1 }
+}
+
+// The first of the blocks of `n` bytes from `from` on that has 00 01, or the place after them, which has no `n` bytes before
+// `end`: in the blocks passed over no start code begins.
+fn past_quiet(s: &[u8], from: usize, end: usize, n: usize) -> usize
+    requires { ⌜ end + 3 ≤ length (now s) ⌝ }
+    requires { ⌜ 1 ≤ n ⌝ }
+    ensures { λ r. ⌜ (nextCode (now (s .entry)) r ≡ nextCode (now (s .entry)) from) × (from ≤ r) ⌝ }
+{
+    let whole = places(end, n);
+    let mut block = from;
+    while block < whole {
+        if has_zero_one(s, block, n) {
+            return block;
+        }
+        block += n;
+    }
+    block
+}
+
+// The same by blocks of 16 bytes. In a dense stream the next code is near: only where the first block is quiet are blocks of
+// 64 bytes passed over.
+fn next_block(s: &[u8], from: usize, end: usize) -> usize
+    requires { ⌜ end + 3 ≤ length (now s) ⌝ }
+    ensures { λ r. ⌜ (nextCode (now (s .entry)) r ≡ nextCode (now (s .entry)) from) × (from ≤ r) ⌝ }
+{
+    if places(end, 16) <= from {
+        return from;
+    }
+    if has_zero_one(s, from, 16) {
+        return from;
+    }
+    let near = past_quiet(s, from + 16, end, 64);
+    past_quiet(s, near, end, 16)
+}
+
+// The first start code at or after `from`: blocks without 00 01 are passed over, a block with it and the last bytes searched.
 pub fn next_code(s: &[u8], from: usize) -> Found
     ensures { λ r. ⌜ r ≡ nextCode (now (s .entry)) from ⌝ }
 {
@@ -89,17 +132,18 @@ pub fn next_code(s: &[u8], from: usize) -> Found
         return Found::Nothing;
     }
     let end = n - 3;
-    let blocks = if end < 16 { 0 } else { end - 15 };
+    let whole = places(end, 16);
     let mut at = from;
-    while at < blocks {
-        if has_zero_one(s, at) {
-            if let Found::At { offset, code } = next_before(s, at, at + 16) {
-                return Found::At { offset, code };
-            }
+    loop {
+        at = next_block(s, at, end);
+        if whole <= at {
+            return next_before(s, at, end);
+        }
+        if let Found::At { offset, code } = next_before(s, at, at + 16) {
+            return Found::At { offset, code };
         }
         at += 16;
     }
-    next_before(s, at, end)
 }
 
 // Whether a search passes over a code.
@@ -145,9 +189,33 @@ fn after_slices(s: &[u8], from: usize) -> Found
     ensures { λ r. ⌜ r ≡ found (afterSlices (codesAt (now (s .entry)) from)) ⌝ }
 {
     match seek(s, from, Stop::AtSlice) {
-        Found::At { offset, code: _ } => seek(s, offset, Stop::AfterSlices),
+        Found::At { offset, code: _ } => seek(s, offset + 4, Stop::AfterSlices),
         Found::Nothing => Found::Nothing,
     }
+}
+
+// Whether a picture's start code stands at `at`.
+fn picture_at(s: &[u8], at: usize) -> bool
+    ensures { λ r. ⌜ r ≡ pictureAt (now (s .entry)) at ⌝ }
+{
+    if s.len() < at {
+        return false;
+    }
+    bits::starts_with(&s[at..], &PICTURE_START)
+}
+
+// The first picture's start code of those that a scan from `from` finds. A walk goes on where a picture ended, which is mostly
+// where the next one begins: that is tried before a search.
+fn first_picture(s: &[u8], from: usize) -> Found
+    ensures { λ r. ⌜ r ≡ found (skip notPicture (codesAt (now (s .entry)) from)) ⌝ }
+{
+    if picture_at(s, from) {
+        return Found::At {
+            offset: from,
+            code: PICTURE_START_CODE,
+        };
+    }
+    seek(s, from, Stop::AtPicture)
 }
 
 // The first picture that begins at a code which a scan from `from` finds.
@@ -155,7 +223,7 @@ pub fn next_picture(s: &[u8], from: usize) -> Next
     ensures { λ r. ⌜ r ≡ nextPicture (now (s .entry)) from ⌝ }
 {
     let n = s.len();
-    match seek(s, from, Stop::AtPicture) {
+    match first_picture(s, from) {
         Found::At {
             offset: at,
             code: _,

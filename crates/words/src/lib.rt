@@ -1,10 +1,10 @@
 // Numbers as bytes (docs/LAYOUT.md): words of 64 bits, low byte first.
 ghost use mathlib.Core.Path.{_≡_};
-ghost use Prim.Native.Nat.{_+_, _*_, _≤_, _<_};
-ghost use lib.ListN.{length};
+ghost use Prim.Native.Nat.{_+_, _*_, _/_, _≤_, _<_};
+ghost use lib.ListN.{length, take, drop};
 ghost use lib.Seq.{sets};
 ghost use Rattle.bits.specs.Answers.{over};
-ghost use Rattle.words.specs.Words.{lowFirst, wordsBytes, laid, wordAt};
+ghost use Rattle.words.specs.Words.{lowFirst, wordsBytes, laid, fromLow, wordAt};
 
 // A word, from byte `at` on.
 fn put_word(out: &mut [u8], at: usize, word: u64)
@@ -50,20 +50,44 @@ fn wide(x: u8) -> u64
     x as u64
 }
 
-// Word k of a place, from 0; bytes past the end count for nothing.
-pub fn word_at(place: &[u8], k: usize) -> u64
+// The four bytes from `at` on as a number, the lowest first; two such make a word, which the compiler reads at once.
+fn four_bytes(place: &[u8], at: usize) -> u64
+    requires { ⌜ at + 4 ≤ length (now place) ⌝ }
+    ensures { λ r. ⌜ (r ≡ fromLow (take 4 (drop at (now (place .entry))))) × (r < 4294967296) ⌝ }
+{
+    let first = wide(place[at]);
+    let second = wide(place[at + 1]);
+    let third = wide(place[at + 2]);
+    let fourth = wide(place[at + 3]);
+    first + 256 * second + 65536 * third + 16777216 * fourth
+}
+
+// Word k of a place that ends in it or before it.
+fn cut_word(place: &[u8], k: usize) -> u64
+    requires { ⌜ length (now place) / 8 ≤ k ⌝ }
     ensures { λ r. ⌜ r ≡ wordAt (now (place .entry)) k ⌝ }
 {
     if place.len() / 8 < k {
         return 0;
     }
     let at = 8 * k;
-    let follows = place.len() - at;
-    let mut left = if follows < 8 { follows } else { 8 };
+    let mut left = place.len() - at;
     let mut value: u64 = 0;
     while 0 < left {
         left -= 1;
         value = value * 256 + wide(place[at + left]);
     }
     value
+}
+
+// Word k of a place, from 0; bytes past the end count for nothing.
+pub fn word_at(place: &[u8], k: usize) -> u64
+    ensures { λ r. ⌜ r ≡ wordAt (now (place .entry)) k ⌝ }
+{
+    if k < place.len() / 8 {
+        let low = four_bytes(place, 8 * k);
+        let high = four_bytes(place, 8 * k + 4);
+        return low + 4294967296 * high;
+    }
+    cut_word(place, k)
 }

@@ -8,10 +8,10 @@ use Rattle.scan.proofs.has_zero_one.Statement.{statement}
 use Rattle.scan.proofs.has_zero_one.Tie as tie
 
 abbrev Inv-loop : tie.InvT-loop
-Inv-loop s at some₀ k₀ some k = (some ≡ zeroOne s at k) × (k ≤ 16)
+Inv-loop s at n some₀ k₀ some k = (some ≡ zeroOne s at k) × (k ≤ n)
 
 abbrev μ-loop : tie.MeasureT-loop
-μ-loop s at some₀ k₀ some k = 16 - k
+μ-loop s at n some₀ k₀ some k = n - k
 
 loop-holds : tie.Need-loop-holds Inv-loop μ-loop
 loop-holds c = (no-place _ _, omega arith)
@@ -41,7 +41,7 @@ loop-again : tie.Need-loop-again Inv-loop μ-loop
 loop-again c = (one-more _ _ _ _ (c .before .before .before .loop .inv .0), omega arith)
 
 returns : tie.Need-returns Inv-loop μ-loop
-returns c = c .before .loop .inv .0 ∙ all-places _ _ _ (omega arith) (omega arith)
+returns c = c .before .loop .inv .0 ∙ all-places _ _ _ _ (omega arith) (omega arith)
 
 pub has-zero-one-spec : {M : Type 1} → statement M
 has-zero-one-spec =

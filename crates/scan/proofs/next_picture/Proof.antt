@@ -6,14 +6,14 @@ use Rattle.scan.proofs.Pictures.{slices-passed, next-none, next-last, n
 use Rattle.scan.proofs.next_picture.Statement.{statement}
 use Rattle.scan.proofs.next_picture.Tie as tie
 
-seek-requires : tie.Need-seek-requires
-seek-requires c κs = search needs
+first-picture-requires : tie.Need-first-picture-requires
+first-picture-requires c κs = search needs
 
 enum-known-at : tie.Need-enum-known-at
 enum-known-at c = search needs
 
 add-after-slices : tie.Need-add-after-slices
-add-after-slices c = omega (arith, sought _ _ _ _ _ (sym (c .before .before .before .seek .ensures) ∙ c .before .at .given .1) .room)
+add-after-slices c = omega (arith, sought _ _ _ _ _ (sym (c .before .before .before .first-picture .ensures) ∙ c .before .at .given .1) .room)
 
 after-slices-requires : tie.Need-after-slices-requires
 after-slices-requires c κs = search needs
@@ -33,30 +33,30 @@ enum-told-2 c = search needs
 returns : tie.Need-returns
 returns c =
     let r = c .before .before .before .before .before .before in
-    next-ended _ _ _ _ (sym (r .before .before .seek .ensures) ∙ r .at .given .1) _ _
+    next-ended _ _ _ _ (sym (r .before .before .first-picture .ensures) ∙ r .at .given .1) _ _
     (sym (c .before .before .before .before .after-slices .ensures) ∙ c .before .before .offset .given .1)
     (c .if1 .taken)
 
 returns-2 : tie.Need-returns-2
 returns-2 c =
     let r = c .before .before .before .before .before .before in
-    next-followed _ _ _ _ (sym (r .before .before .seek .ensures) ∙ r .at .given .1) _ _
+    next-followed _ _ _ _ (sym (r .before .before .first-picture .ensures) ∙ r .at .given .1) _ _
     (sym (c .before .before .before .before .after-slices .ensures) ∙ c .before .before .offset .given .1)
     (c .if1 .left)
 
 returns-3 : tie.Need-returns-3
 returns-3 c =
     let r = c .before .before .before .before in
-    next-last _ _ _ _ (sym (r .before .before .seek .ensures) ∙ r .at .given .1) (sym (c .before .before .after-slices .ensures) ∙ c .enum-told .given .1)
+    next-last _ _ _ _ (sym (r .before .before .first-picture .ensures) ∙ r .at .given .1) (sym (c .before .before .after-slices .ensures) ∙ c .enum-told .given .1)
 
 returns-4 : tie.Need-returns-4
-returns-4 c = next-none _ _ (sym (c .before .before .seek .ensures) ∙ c .enum-told2 .given .1)
+returns-4 c = next-none _ _ (sym (c .before .before .first-picture .ensures) ∙ c .enum-told2 .given .1)
 
 pub next-picture-spec : {M : Type 1} → statement M
 next-picture-spec =
     tie.close
     (tie.spec
-    seek-requires
+    first-picture-requires
     enum-known-at
     add-after-slices
     after-slices-requires

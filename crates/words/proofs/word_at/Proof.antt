@@ -1,91 +1,50 @@
-use mathlib.Core.Path.{_≡_}
-use mathlib.Core.Logic.{⊎-elim}
-use Prim.Native.Nat.{_+_, _*_, _-_, _^_, _<_, _≤_}
 use native.Mathlib.Omega.{arith}
-use lib.ListN.{length}
+use Rattle.words.proofs.Reading.{word-halves}
 use borrow.Author.Needs.{needs}
-use Rattle.words.proofs.Reading.{highPart, high-none, high-past, high-step, high-all, word-past, size-none, size-step, size-most}
 use Rattle.words.proofs.word_at.Statement.{statement}
 use Rattle.words.proofs.word_at.Tie as tie
 
-abbrev Inv-loop : tie.InvT-loop
-Inv-loop place k at follows left₀ value₀ left value =
-    (value ≡ highPart place at left) × (value < 256 ^ (8 - left)) × (left ≤ 8) × (at + left ≤ length place)
+mul-four-bytes : tie.Need-mul-four-bytes
+mul-four-bytes c = search needs
 
-abbrev μ-loop : tie.MeasureT-loop
-μ-loop place k at follows left₀ value₀ left value = left
+four-bytes-requires : tie.Need-four-bytes-requires
+four-bytes-requires c κs = search needs
 
-returns : tie.Need-returns Inv-loop μ-loop
-returns c = search (needs, word-past)
+mul-four-bytes-2 : tie.Need-mul-four-bytes-2
+mul-four-bytes-2 c = search needs
 
-mul-at : tie.Need-mul-at Inv-loop μ-loop
-mul-at c = omega arith
+add-four-bytes : tie.Need-add-four-bytes
+add-four-bytes c = search needs
 
-sub-follows : tie.Need-sub-follows Inv-loop μ-loop
-sub-follows c = omega arith
+four-bytes-requires-2 : tie.Need-four-bytes-requires-2
+four-bytes-requires-2 c κs = search needs
 
-loop-holds : tie.Need-loop-holds Inv-loop μ-loop
-loop-holds c =
-    let a = c .before .before .before .args in
-    let i = c .if2 in (
-      ⊎-elim (λ w. high-past (a .place .now) (8 * a .k) (i .left) (omega arith)) (λ w. high-none _ _ _ (w .1)) (i .came),
-      size-none _,
-      ⊎-elim (λ w. omega arith) (λ w. omega arith) (i .came),
-      ⊎-elim (λ w. omega arith) (λ w. omega arith) (i .came),
-    )
+mul-result : tie.Need-mul-result
+mul-result c = search needs
 
-sub-left : tie.Need-sub-left Inv-loop μ-loop
-sub-left c = omega arith
+add-result : tie.Need-add-result
+add-result c = search needs
 
-mul-value : tie.Need-mul-value Inv-loop μ-loop
-mul-value c =
-    omega (arith, size-most _ _ (c .before .loop-test .taken) (c .before .before .loop .inv .2) (c .before .before .loop .inv .1))
+returns : tie.Need-returns
+returns c = word-halves _ _ _ _ (omega arith) (c .before .four-bytes .ensures .0) (c .four-bytes2 .ensures .0)
 
-add-wide : tie.Need-add-wide Inv-loop μ-loop
-add-wide c = omega arith
+cut-word-requires : tie.Need-cut-word-requires
+cut-word-requires c κs = search needs
 
-shared-slice-read-wide : tie.Need-shared-slice-read-wide Inv-loop μ-loop
-shared-slice-read-wide c = omega arith
-
-wide-requires : tie.Need-wide-requires Inv-loop μ-loop
-wide-requires c κs = search needs
-
-add-value : tie.Need-add-value Inv-loop μ-loop
-add-value c =
-    let p = c .before .before .before .before in
-    omega (arith, size-most _ _ (c .before .before .before .loop-test .taken) (p .loop .inv .2) (p .loop .inv .1))
-
-loop-less : tie.Need-loop-less Inv-loop μ-loop
-loop-less c = omega arith
-
-loop-again : tie.Need-loop-again Inv-loop μ-loop
-loop-again c =
-    let p = c .before .before .before .before in (
-      high-step _ _ _ _ _ (c .before .before .before .loop-test .taken) (p .loop .inv .2) (p .loop .inv .3) (p .loop .inv .0) (c .wide .ensures .0),
-      size-step _ _ _ (omega arith) (p .loop .inv .2) (p .loop .inv .1) (omega arith),
-      omega arith,
-      omega arith,
-    )
-
-returns-2 : tie.Need-returns-2 Inv-loop μ-loop
-returns-2 c = high-all _ _ _ _ (c .loop-test .left) (c .before .loop .inv .0)
+returns-2 : tie.Need-returns-2
+returns-2 c = search needs
 
 pub word-at-spec : {M : Type 1} → statement M
 word-at-spec =
     tie.close
     (tie.spec
-    Inv-loop
-    μ-loop
+    mul-four-bytes
+    four-bytes-requires
+    mul-four-bytes-2
+    add-four-bytes
+    four-bytes-requires-2
+    mul-result
+    add-result
     returns
-    mul-at
-    sub-follows
-    loop-holds
-    sub-left
-    mul-value
-    add-wide
-    shared-slice-read-wide
-    wide-requires
-    add-value
-    loop-less
-    loop-again
+    cut-word-requires
     returns-2)
