@@ -14,7 +14,7 @@ use crate::timing::{rounds, seconds, stack};
 use oracle::layout::{CBR_ANSWER_BYTES, CBR_FRAME, CBR_STATE_BYTES};
 use oracle::model::{BUFFER_UNIT, RATE_UNIT};
 use original::rate_control::OracleWriter;
-use original::vbv::{RemovalInterval, VbvStandard, verify_cbr_stream};
+use original::vbv::{RemovalInterval, VbvStandard, VbvStreamReport, verify_cbr_stream};
 use std::hint::black_box;
 use std::ops::Range;
 
@@ -139,21 +139,23 @@ impl<'a> Run<'a> {
 
     /// The original's bytes of each sequence.
     fn emit(&mut self) -> f64 {
-        let (rate, buffer) = (RATE_UNIT * u64::from(self.work.rate), BUFFER_UNIT * u64::from(self.work.buffer));
         let mut kept = Vec::with_capacity(self.outs.len());
-        seconds(|| {
-            for (sequence, out) in self.work.sequences.iter().zip(&mut self.outs) {
-                let mut w = OracleWriter::new(rate, buffer, 3, 1, 2, 4).with_room(std::mem::take(out));
-                for p in sequence {
-                    let mut layers = p.layers.iter().map(|l| self.layers.vector(l));
-                    assert!(w.emit(&p.headers, p.kind, RemovalInterval::Frame, p.last, |_| layers.next()));
-                }
-                *out = w.into_out();
-                if self.checked {
-                    kept.push(verify_cbr_stream(out, VbvStandard::Mpeg2).unwrap());
-                }
+        seconds(|| self.emit_all(&mut kept))
+    }
+
+    fn emit_all(&mut self, kept: &mut Vec<VbvStreamReport>) {
+        let (rate, buffer) = (RATE_UNIT * u64::from(self.work.rate), BUFFER_UNIT * u64::from(self.work.buffer));
+        for (sequence, out) in self.work.sequences.iter().zip(&mut self.outs) {
+            let mut w = OracleWriter::new(rate, buffer, 3, 1, 2, 4).with_room(std::mem::take(out));
+            for p in sequence {
+                let mut layers = p.layers.iter().map(|l| self.layers.vector(l));
+                assert!(w.emit(&p.headers, p.kind, RemovalInterval::Frame, p.last, |_| layers.next()));
             }
-        })
+            *out = w.into_out();
+            if self.checked {
+                kept.push(verify_cbr_stream(out, VbvStandard::Mpeg2).unwrap());
+            }
+        }
     }
 
     /// Ours, to places that are as long as what is put out; there is a record place for each picture.
@@ -202,7 +204,7 @@ fn offer(state: &mut State, p: &Picture, layer: &[u8], out: &mut [u8], answer: &
 
 /// A line, offers alone or with the check, once both have put out the same bytes and found the same in them.
 fn line(table: &mut Table, name: &str, pick: &Pick, [theirs, ours]: &mut [Run; 2]) {
-    theirs.emit();
+    theirs.emit_all(&mut vec![]);
     ours.outs = theirs.outs.iter().map(|out| vec![0xA5; out.len()]).collect();
     ours.offer_all();
     assert!(ours.outs == theirs.outs, "other bytes than the original's");
