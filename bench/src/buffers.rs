@@ -120,8 +120,8 @@ fn slice(stream: &mut Vec<u8>, row: usize, data: &[u8]) {
     stream.push(0x80);
 }
 
-/// Pictures as a broadcast at 3.6 Mbit/s has them: some 36 slices of 40 to 1,480 bytes, drawn, 504 on the mean. Their data are
-/// taken from anywhere in those of a small stream's slices.
+/// Pictures as a broadcast at 3.6 Mbit/s has them: some 36 slices of 40 to some 1,500 bytes, drawn, 505 on average. Their data
+/// are taken from anywhere in those of a small stream's slices.
 pub fn broadcast(from: &[u8], size: usize) -> Vec<u8> {
     let data = slice_data(from);
     let mut draw = Xorshift::new();
@@ -129,7 +129,7 @@ pub fn broadcast(from: &[u8], size: usize) -> Vec<u8> {
         let (mut row, mut left) = (0, FRAME - 18);
         while left != 0 {
             row += 1;
-            let drawn = 40 + 1_400 * draw.below(1 << 16).pow(2) / (1 << 32); // short ones are more
+            let drawn = 40 + 1_430 * draw.below(1 << 16).pow(2) / (1 << 32); // short ones are more
             let length = if left < drawn + 40 { left } else { drawn };
             let at = draw.below(data.len() - length);
             slice(stream, row, &data[at..at + length - 5]);

@@ -121,12 +121,14 @@ fn line(table: &mut Table, name: &str, mut work: Work) {
             *best = best.min(work.run(side));
         }
     });
-    let [original, core, one_walk] = best.map(|s| size / s / 1e9);
+    let ratio = best[0] / best[1];
+    let rate = |s| size / s / 1e9;
+    let [original, core, one_walk] = best.map(|s| format!("{:.*}", if rate(s) < 0.995 { 3 } else { 2 }, rate(s)));
     let heap = heap::most_held(|| drop(black_box(verify_cbr_stream(&work.stream, work.standard)))) as f64 / 1e6;
     let stack = stack(|| _ = work.places.check(work.standard, &work.stream, work.places.pictures()));
-    let (mega, ratio) = (size / 1e6, core / original);
+    let mega = size / 1e6;
     table.line(&format!(
-        "| {name} | {mega:.0} MB | {answer} | {original:.2} | {core:.2} | {ratio:.1} | {one_walk:.2} | {heap:.1} MB | {stack} B |"
+        "| {name} | {mega:.0} MB | {answer} | {original} | {core} | {ratio:.2} | {one_walk} | {heap:.1} MB | {stack} B |"
     ));
 }
 

@@ -34,5 +34,6 @@ fn main() {
         memory::table(&pick);
     }
     checks::table(&streams, &pick);
-    offers::tables(&streams.two, &pick);
+    offers::table(&streams.two, &pick);
+    offers::withdrawal_table(&streams.two, &pick);
 }

@@ -248,22 +248,26 @@ fn withdrawals(table: &mut Table, name: &str, pick: &Pick, state: State) {
     table.line(&format!("| {name} | {:.1} |", 1e-3 / best));
 }
 
-fn plans() -> Vec<Plan> {
-    let kinds: Vec<usize> = (0..300).map(|n| if n == 0 { I } else { [P, B, B][n % 3] }).collect();
-    let of = |(name, size)| Plan { name, count: 1, kinds: kinds.clone(), sizes: vec![size], pictures: 16 };
-    let mut plans = Vec::from([("300 of 1 KB", 1_000), ("300 of 10 KB", 10_000), ("300 of 60 KB", 60_000)].map(of));
-    // A quantiser of 1 allows three times three retries for each kind.
-    plans.push(Plan {
+/// Three layers of four are too large. A quantiser of 1 allows three times three retries for each kind.
+fn retried() -> Plan {
+    Plan {
         name: "306 of 10 KB, each after three of 50 KB that are too large",
         count: 34,
         kinds: [I, P, B].repeat(3),
         sizes: vec![50_000, 50_000, 50_000, 10_000],
         pictures: 4,
-    });
+    }
+}
+
+fn plans() -> Vec<Plan> {
+    let kinds: Vec<usize> = (0..300).map(|n| if n == 0 { I } else { [P, B, B][n % 3] }).collect();
+    let of = |(name, size)| Plan { name, count: 1, kinds: kinds.clone(), sizes: vec![size], pictures: 16 };
+    let mut plans = Vec::from([("300 of 1 KB", 1_000), ("300 of 10 KB", 10_000), ("300 of 60 KB", 60_000)].map(of));
+    plans.push(retried());
     plans
 }
 
-pub fn tables(from: &[u8], pick: &Pick) {
+pub fn table(from: &[u8], pick: &Pick) {
     let mut table =
         Table::new("| pictures | offers | original, thousand offers/s | this core | ratio | MB/s | its own stack |");
     for plan in plans() {
@@ -276,17 +280,19 @@ pub fn tables(from: &[u8], pick: &Pick) {
             }
         }
     }
+}
+
+pub fn withdrawal_table(from: &[u8], pick: &Pick) {
     let mut table = Table::new("| withdrawals | this core, million/s |");
-    let (work, mut memory) = plans()[3].work(from);
-    let mut state = [0; CBR_STATE_BYTES];
-    assert_eq!(work.create(&mut state), 0);
-    if pick.has("withdrawals, nothing pending") {
-        withdrawals(&mut table, "nothing pending", pick, state);
-    }
-    let p = &work.sequences[0][0];
-    let first = with_lent(&mut memory, |layers| layers.bytes(&p.layers[0]).to_vec());
-    assert_eq!(offer(&mut state, p, &first, &mut [], &mut [0; CBR_ANSWER_BYTES / 8]), 0);
-    if pick.has("withdrawals, a picture pending") {
-        withdrawals(&mut table, "a picture pending", pick, state);
+    let (work, memory) = Plan { count: 1, ..retried() }.work(from);
+    let (mut nothing, picture) = ([0; CBR_STATE_BYTES], &work.sequences[0][0]);
+    assert_eq!(work.create(&mut nothing), 0);
+    let mut pending = nothing;
+    let layer = &memory[picture.layers[0].clone()];
+    assert_eq!(offer(&mut pending, picture, layer, &mut [], &mut [0; CBR_ANSWER_BYTES / 8]), 0);
+    for (name, state) in [("nothing pending", nothing), ("a picture pending", pending)] {
+        if pick.has(&format!("withdrawals, {name}")) {
+            withdrawals(&mut table, name, pick, state);
+        }
     }
 }
