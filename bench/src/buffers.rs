@@ -93,36 +93,79 @@ pub fn slice_data(from: &[u8]) -> Vec<u8> {
     slices.flat_map(|w| from[w[0].0 + 4..w[1].0].iter().copied()).collect()
 }
 
-/// Pictures as a broadcast at 3.6 Mbit/s has them: 36 slices of 504 bytes, whose data are those of the slices of a small
-/// stream, one after another; accepted.
-pub fn broadcast(from: &[u8], size: usize) -> Vec<u8> {
-    let data = slice_data(from);
-    let mut data = data.chunks_exact(499).cycle();
-    let rate: u32 = 9_081; // in 400 bits a second, which is two bytes a frame: 18,162 bytes
-    let mut stream = vec![0, 0, 1, 0xB3, 0x2D, 2, 0x40, 0x13];
+/// Bytes of a broadcast's frame: 3.6 Mbit/s at 25 frames a second.
+const FRAME: usize = 18_162;
+
+/// A stream of frames of a broadcast, each made of its slices; accepted.
+fn frames(size: usize, mut slices: impl FnMut(&mut Vec<u8>)) -> Vec<u8> {
+    let rate = FRAME as u32 / 2; // in 400 bits a second, which is two bytes a frame
+    let mut stream = Vec::with_capacity(size + FRAME);
+    stream.extend([0, 0, 1, 0xB3, 0x2D, 2, 0x40, 0x13]);
     stream.extend((rate << 14 | 1 << 13 | 112 << 3).to_be_bytes());
     stream.extend([0, 0, 1, 0xB5, 0x14, 0x82, 0, 1, 0, 0]);
     while stream.len() < size {
+        let end = stream.len() + FRAME;
         stream.extend([0, 0, 1, 0, 0, 8, 0, 0, 0, 0, 1, 0xB5, 0x8F, 0xFF, 0xF3, 0x41, 0x80]);
-        for row in 1..=36 {
-            stream.extend([0, 0, 1, row]);
-            stream.extend(data.next().unwrap());
-            stream.push(0x80);
-        }
+        slices(&mut stream);
         stream.push(0);
+        assert_eq!(stream.len(), end);
     }
     stamp(VbvStandard::Mpeg2, &mut stream, 30_000);
     stream
 }
 
-/// Random bytes (xorshift).
+fn slice(stream: &mut Vec<u8>, row: usize, data: &[u8]) {
+    stream.extend([0, 0, 1, row.min(36) as u8]);
+    stream.extend(data);
+    stream.push(0x80);
+}
+
+/// Pictures as a broadcast at 3.6 Mbit/s has them: some 36 slices of 40 to some 1,500 bytes, drawn, 505 on average. Their data
+/// are taken from anywhere in those of a small stream's slices.
+pub fn broadcast(from: &[u8], size: usize) -> Vec<u8> {
+    let data = slice_data(from);
+    let mut draw = Xorshift::new();
+    frames(size, |stream| {
+        let (mut row, mut left) = (0, FRAME - 18);
+        while left != 0 {
+            row += 1;
+            let drawn = 40 + 1_430 * draw.below(1 << 16).pow(2) / (1 << 32); // short ones are more
+            let length = if left < drawn + 40 { left } else { drawn };
+            let at = draw.below(data.len() - length);
+            slice(stream, row, &data[at..at + length - 5]);
+            left -= length;
+        }
+    })
+}
+
+/// The same with 36 slices of 504 bytes, whose data go on from one to the next.
+pub fn equal_slices(from: &[u8], size: usize) -> Vec<u8> {
+    let data = slice_data(from);
+    let mut data = data.chunks_exact(499).cycle();
+    frames(size, |stream| (1..=36).for_each(|row| slice(stream, row, data.next().unwrap())))
+}
+
+/// Random bytes.
 pub fn random(size: usize) -> Vec<u8> {
-    let mut x = 0x9E37_79B9_7F4A_7C15u64;
-    let mut next = || {
-        x ^= x << 13;
-        x ^= x >> 7;
-        x ^= x << 17;
-        x
-    };
-    (0..size / 8).flat_map(|_| next().to_le_bytes()).collect()
+    let mut draw = Xorshift::new();
+    (0..size / 8).flat_map(|_| draw.next().to_le_bytes()).collect()
+}
+
+pub struct Xorshift(u64);
+
+impl Xorshift {
+    pub fn new() -> Self {
+        Self(0x9E37_79B9_7F4A_7C15)
+    }
+
+    fn next(&mut self) -> u64 {
+        self.0 ^= self.0 << 13;
+        self.0 ^= self.0 >> 7;
+        self.0 ^= self.0 << 17;
+        self.0
+    }
+
+    pub fn below(&mut self, n: usize) -> usize {
+        (self.next() % n as u64) as usize
+    }
 }

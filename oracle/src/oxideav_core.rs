@@ -1,5 +1,6 @@
 //! Stand-in for the bit reader and writer of `oxideav_core`, which is not among the files of the original.
-//! Bits go high first; a read or skip of n bits fails if fewer remain; alignment pads with zeros.
+//! Bits go high first; a read or skip of n bits fails if fewer remain; alignment pads with zeros. A read takes one load and two
+//! shifts: bench/run times the original with it.
 
 pub mod bits {
     #[derive(Debug)]
@@ -11,18 +12,32 @@ pub mod bits {
     }
 
     impl<'a> BitReader<'a> {
+        #[inline]
         pub fn new(bytes: &'a [u8]) -> Self {
             Self { bytes, at: 0 }
         }
 
+        #[inline]
         pub fn read_u32(&mut self, n: u32) -> Result<u32, Short> {
             assert!(n <= 32);
-            let from = self.at;
+            let (byte, bit) = (self.at / 8, self.at % 8);
             self.skip(n)?;
-            let bit = |i: usize| u32::from(self.bytes[i / 8] >> (7 - i % 8) & 1);
-            Ok((from..self.at).fold(0, |value, i| value << 1 | bit(i)))
+            let word = match self.bytes.get(byte..byte + 8) {
+                Some(eight) => u64::from_be_bytes(eight.try_into().unwrap()),
+                None => self.last_word(byte),
+            };
+            Ok((word << bit).checked_shr(64 - n).unwrap_or(0) as u32)
         }
 
+        /// Fewer than eight bytes, then zeros.
+        fn last_word(&self, byte: usize) -> u64 {
+            let mut eight = [0; 8];
+            let rest = self.bytes.get(byte..).unwrap_or(&[]);
+            eight[..rest.len()].copy_from_slice(rest);
+            u64::from_be_bytes(eight)
+        }
+
+        #[inline]
         pub fn skip(&mut self, n: u32) -> Result<(), Short> {
             if 8 * self.bytes.len() - self.at < n as usize {
                 return Err(Short);
@@ -31,14 +46,17 @@ pub mod bits {
             Ok(())
         }
 
+        #[inline]
         pub fn bit_position(&self) -> usize {
             self.at
         }
 
+        #[inline]
         pub fn byte_position(&self) -> usize {
             self.at / 8
         }
 
+        #[inline]
         pub fn is_byte_aligned(&self) -> bool {
             self.at % 8 == 0
         }
