@@ -1,4 +1,5 @@
 -- `vbv_check` (paper 01, 'The buffer report' and 'Rust forms to replace'; docs/LAYOUT.md): a report or refusal place that is too short is 19, then a standard other than 1 (MPEG-1) and 2 (MPEG-2) is 12, then the check's own answer.
+-- `vbv_report`: the same, given a record place for each picture, without the records.
 -- Assumes nothing.
 use Prim.Native.Nat.{ℕ, _/_}
 use mathlib.Core.Bool.{_||_}
@@ -9,7 +10,8 @@ use denote.Ref.{now}
 use Rattle.bits.specs.Bits.{pick}
 use Rattle.bits.specs.Answers.{over}
 use Rattle.bits.specs.Refusals.{Answer, value, refused, refuse}
-use Rattle.verify.specs.Check.{Accepted, verdict}
+use Rattle.scan.specs.Pictures.{pictures}
+use Rattle.verify.specs.Check.{Accepted, verdict, reported}
 use Rattle.verify.specs.Layout.{recordSize, recordsBytes}
 use Rattle.pictures.specs.declared.VbvStandard.the-variants.{Mpeg1, Mpeg2}
 use Rattle.verify.specs.declared.VbvStreamReport.{VbvStreamReport}
@@ -28,6 +30,18 @@ checked s standard report recs refusal =
 -- by what the slices hold when `vbv_check` is called
 abbrev pub checkedIn : Slice → ℕ → Slice → Slice → Slice → Answer Accepted
 checkedIn stream standard report recs refusal = checked (now (stream .entry)) standard (now (report .entry)) (now (recs .entry)) (now (refusal .entry))
+
+-- of a stream, the standard's number and the places for report and refusal; as many record places as the stream has pictures
+unfoldable pub reportAlone : List ℕ → ℕ → List ℕ → List ℕ → Answer VbvStreamReport
+reportAlone s standard report refusal =
+    refuse 19 (ltb (length refusal) refusalSize || ltb (length report) reportSize)
+    (pick (eqb standard 1) (reported (verdict Mpeg1 s (length (pictures s))))
+    (pick (eqb standard 2) (reported (verdict Mpeg2 s (length (pictures s))))
+    (refused 12 0 0 0)))
+
+-- by what the slices hold when `vbv_report` is called
+abbrev pub reportAloneIn : Slice → ℕ → Slice → Slice → Answer VbvStreamReport
+reportAloneIn stream standard report refusal = reportAlone (now (stream .entry)) standard (now (report .entry)) (now (refusal .entry))
 
 -- the places afterwards; a refusal place that is too short is left alone
 unfoldable pub reportAfter : Answer VbvStreamReport → List ℕ → List ℕ

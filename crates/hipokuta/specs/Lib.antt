@@ -1,5 +1,6 @@
 pub mod Lent
 pub mod Check
+pub mod Places
 pub mod Send
 pub mod Calls
 pub mod Numbers
