@@ -15,8 +15,7 @@ use Rattle.verify.proofs.Places.{enough-places, other-than-15, all-recorded}
 use Rattle.pictures.specs.declared.VbvStandard.{VbvStandard}
 use Rattle.pictures.specs.declared.VbvStandard.the-variants.{Mpeg1, Mpeg2}
 use Rattle.verify.specs.declared.VbvStreamReport.{VbvStreamReport}
-use Rattle.hipokuta.specs.Check.{checked, reportAlone}
-use Rattle.hipokuta.specs.Places.{OwedOfReports}
+use Rattle.hipokuta.specs.Check.{checked, reportAlone, OwedOfReports}
 
 module _ (s : List ℕ) (standard : ℕ) (report recs refusal : List ℕ) where
   abbrev places : ℕ

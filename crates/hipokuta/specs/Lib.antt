@@ -1,6 +1,5 @@
 pub mod Lent
 pub mod Check
-pub mod Places
 pub mod Send
 pub mod Calls
 pub mod Numbers

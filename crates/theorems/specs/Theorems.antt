@@ -19,7 +19,7 @@ use Rattle.rate_control.specs.Demand.{Demand3}
 use Rattle.rate_control.specs.Numbers.{WriterNumbers}
 use Rattle.rate_control.specs.Figures.{WriterFigures, TargetFigures, Rules, Steering}
 use Rattle.hipokuta.specs.Calls.{OwedFromC, OwedOfRefusals}
-use Rattle.hipokuta.specs.Places.{OwedOfReports}
+use Rattle.hipokuta.specs.Check.{OwedOfReports}
 use Rattle.hipokuta.specs.Numbers.{EntryNumbers}
 
 pub record Theorems : Type 0 where
