@@ -91,8 +91,9 @@ uint64_t vbv_check(const uint8_t *stream, size_t stream_len, uint8_t standard,
                    uint8_t *records, size_t records_len,
                    uint8_t *refusal, size_t refusal_len);
 
-/* The same without the records: answers as vbv_check does with a record place for each picture, never 15, in one walk over
- * the stream instead of two. The report's pictures are the record places that vbv_check needs to accept this stream.
+/* The same without the records: answers as vbv_check does with a record place for each picture, so never 15, and walks over
+ * the stream once, where vbv_check goes over it again for the records. The report's pictures are the record places that
+ * vbv_check needs to accept this stream.
  */
 uint64_t vbv_report(const uint8_t *stream, size_t stream_len, uint8_t standard,
                     uint8_t *report, size_t report_len,

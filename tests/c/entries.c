@@ -82,7 +82,7 @@ static void report_alone(const struct known *k, size_t report_length, size_t ref
         expect_words(&refusal, k->refusal, REFUSAL_WORDS);
     uint64_t answer = vbv_report(stream, length, k->standard, report.bytes, report.length, refusal.bytes, refusal.length);
     answered(k->name, answer, k->refusal[0]);
-    take_back(&same, k->name, "the stream has changed by the report alone");
+    take_back(&same, k->name, "the stream has changed");
     take_back(&report, k->name, "the place of the report alone");
     take_back(&refusal, k->name, "the refusal's place of the report alone");
 }
@@ -178,8 +178,11 @@ static void check_too_long(void)
     uint64_t answer = vbv_check(stream, length, VBV_MPEG2, report.bytes, report.length, records.bytes, records.length,
                                 refusal.bytes, refusal.length);
     answered("a stream above 2^48 bits", answer, 14);
-    answer = vbv_report(stream, length, VBV_MPEG1, report.bytes, report.length, refusal.bytes, refusal.length);
-    answered("a stream above 2^48 bits, the report alone", answer, 14);
+    struct place alone = lend(VBV_REFUSAL_BYTES);
+    expect_words(&alone, expected, REFUSAL_WORDS);
+    answer = vbv_report(stream, length, VBV_MPEG1, report.bytes, report.length, alone.bytes, alone.length);
+    answered("a stream above 2^48 bits", answer, 14);
+    take_back(&alone, "a stream above 2^48 bits", "the refusal's place of the report alone");
     take_back(&report, "a stream above 2^48 bits", "the report's place");
     take_back(&records, "a stream above 2^48 bits", "the records' place");
     take_back(&refusal, "a stream above 2^48 bits", "the refusal's place");

@@ -10,8 +10,8 @@ use layout::REPORT_BYTES;
 use verify::VbvStandard;
 use verify::check_stream;
 
-// The buffer report of a stream, or why it is refused, for want of record places never: 0, or the refusal's number. No
-// stream has more pictures than bytes.
+// The buffer report of a stream, or why it is refused, but never for want of record places: 0, or the refusal's number. A
+// stream has no more pictures than bytes.
 #[no_mangle]
 pub extern "C" fn vbv_report(
     stream: &[u8],
