@@ -68,7 +68,26 @@ static const struct known refused[] = {
     { "22,400 bits a second, buffer 16,384", "000001B301001013000E2008" I_0 SLICE, 1, { 12 }, { 0 }, { 0 } },
 };
 
-/* One call with places of these lengths: its value, and every byte of every place. */
+/* The report alone, in places of these lengths: its value, and every byte of every place. */
+static void report_alone(const struct known *k, size_t report_length, size_t refusal_length)
+{
+    size_t length;
+    uint8_t *stream = bytes_of(k->hex, &length);
+    struct place same = { length, stream, bytes_of(k->hex, &length) };
+    struct place report = lend(report_length), refusal = lend(refusal_length);
+
+    if (k->refusal[0] == 0)
+        expect_words(&report, k->report, REPORT_WORDS);
+    else if (refusal_length >= VBV_REFUSAL_BYTES)
+        expect_words(&refusal, k->refusal, REFUSAL_WORDS);
+    uint64_t answer = vbv_report(stream, length, k->standard, report.bytes, report.length, refusal.bytes, refusal.length);
+    answered(k->name, answer, k->refusal[0]);
+    take_back(&same, k->name, "the stream has changed");
+    take_back(&report, k->name, "the place of the report alone");
+    take_back(&refusal, k->name, "the refusal's place of the report alone");
+}
+
+/* One check with places of these lengths: its value, and every byte of every place. */
 static void check(const struct known *k, size_t report_length, size_t records_length, size_t refusal_length)
 {
     size_t length;
@@ -91,21 +110,24 @@ static void check(const struct known *k, size_t report_length, size_t records_le
     take_back(&refusal, k->name, "the refusal's place");
 }
 
-/* The same stream with another answer. */
+/* The same stream with another answer; 15 is the check's alone. */
 static void check_refused(const struct known *k, uint64_t number, size_t report, size_t records, size_t refusal)
 {
     struct known other = *k;
     memset(other.refusal, 0, sizeof other.refusal);
     other.refusal[0] = number;
     check(&other, report, records, refusal);
+    report_alone(number == 15 ? k : &other, report, refusal);
 }
 
 /* Accepted: places of just the length, and longer ones, whose further bytes stay. Too few record places: 15. */
 static void check_accepted(const struct known *k)
 {
     size_t needed = VBV_RECORD_BYTES * (size_t)k->report[2];
-    for (size_t more = 0; more < 70; more += 23)
+    for (size_t more = 0; more < 70; more += 23) {
         check(k, VBV_REPORT_BYTES + more, needed + more, VBV_REFUSAL_BYTES + more);
+        report_alone(k, VBV_REPORT_BYTES + more, VBV_REFUSAL_BYTES + more);
+    }
     for (size_t records = 0; records < needed; records += records < needed - VBV_RECORD_BYTES ? VBV_RECORD_BYTES - 1 : 1)
         check_refused(k, 15, VBV_REPORT_BYTES, records, VBV_REFUSAL_BYTES);
 }
@@ -115,6 +137,8 @@ static void check_refusal(const struct known *k)
 {
     check(k, VBV_REPORT_BYTES, RECORDS, VBV_REFUSAL_BYTES);
     check(k, VBV_REPORT_BYTES + 9, RECORDS + 50, VBV_REFUSAL_BYTES + 13);
+    report_alone(k, VBV_REPORT_BYTES, VBV_REFUSAL_BYTES);
+    report_alone(k, VBV_REPORT_BYTES + 9, VBV_REFUSAL_BYTES + 13);
     if (k->refusal[0] < 7 || k->refusal[0] == 12)
         check(k, VBV_REPORT_BYTES, 0, VBV_REFUSAL_BYTES);
     else
@@ -154,6 +178,11 @@ static void check_too_long(void)
     uint64_t answer = vbv_check(stream, length, VBV_MPEG2, report.bytes, report.length, records.bytes, records.length,
                                 refusal.bytes, refusal.length);
     answered("a stream above 2^48 bits", answer, 14);
+    struct place alone = lend(VBV_REFUSAL_BYTES);
+    expect_words(&alone, expected, REFUSAL_WORDS);
+    answer = vbv_report(stream, length, VBV_MPEG1, report.bytes, report.length, alone.bytes, alone.length);
+    answered("a stream above 2^48 bits", answer, 14);
+    take_back(&alone, "a stream above 2^48 bits", "the refusal's place of the report alone");
     take_back(&report, "a stream above 2^48 bits", "the report's place");
     take_back(&records, "a stream above 2^48 bits", "the records' place");
     take_back(&refusal, "a stream above 2^48 bits", "the refusal's place");

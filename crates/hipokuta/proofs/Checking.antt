@@ -39,6 +39,15 @@ pub reports : {v : VbvVerified} {r : VbvStreamReport} (place refusal : List ℕ)
 unfolding reportAfter refusalAfter
 reports place refusal a p = rw a (refl, (p, refl))
 
+-- what an answer without records leaves of the places for report and refusal
+abbrev pub Reported : List ℕ → List ℕ → Answer VbvStreamReport → ℕ → List ℕ → List ℕ → Type 0
+Reported p f a n p' f' = (n ≡ number a) × ((p' ≡ reportAfter a p) × (f' ≡ refusalAfter a f))
+
+pub reported-refused : (p f : List ℕ) (k : ℕ) {r : VbvRefusal} {n : ℕ} {f' : List ℕ} → r ≡ plain k → n ≡ r .number → f' ≡ laid (wordsBytes (refusalWords r)) f
+    → Reported p f (refused k 0 0 0) n p f'
+unfolding reportAfter refusalAfter
+reported-refused p f k e m w = (m ∙ ap (λ x. x .number) e, (refl, w ∙ ap (λ x. laid (wordsBytes (refusalWords x)) f) e))
+
 -- ---- the four promises, of what was lent (report, records, refusal) and what is handed back
 
 module _ (s : List ℕ) (standard : ℕ) (p q f : List ℕ) where
@@ -48,13 +57,10 @@ module _ (s : List ℕ) (standard : ℕ) (p q f : List ℕ) where
   leaves-refused : (k : ℕ) {r : VbvRefusal} {n : ℕ} {f' : List ℕ} → r ≡ plain k → n ≡ r .number → f' ≡ laid (wordsBytes (refusalWords r)) f
       → Leaves (refused k 0 0 0) n p q f'
   unfolding reportAfter recordsAfter refusalAfter
-  leaves-refused k e m w = (m ∙ ap (λ x. x .number) e, (refl, (refl, w ∙ ap (λ x. laid (wordsBytes (refusalWords x)) f) e)))
+  leaves-refused k e m w = let t = reported-refused p f k e m w in (t .0, (t .1 .0, (refl, t .1 .1)))
 
   -- the check's answer with its records
-  abbrev Reported : Answer VbvStreamReport → ℕ → List ℕ → List ℕ → Type 0
-  Reported a n p' f' = (n ≡ number a) × ((p' ≡ reportAfter a p) × (f' ≡ refusalAfter a f))
-
-  leaves-verdict : (v : Answer Accepted) {n : ℕ} {p' q' f' : List ℕ} → q' ≡ over (recordsBytes (records v)) q → Reported (reported v) n p' f' → Leaves v n p' q' f'
+  leaves-verdict : (v : Answer Accepted) {n : ℕ} {p' q' f' : List ℕ} → q' ≡ over (recordsBytes (records v)) q → Reported p f (reported v) n p' f' → Leaves v n p' q' f'
   unfolding reportAfter recordsAfter refusalAfter
   leaves-verdict (value a) w t = (t .0, (t .1 .0, (w, t .1 .1)))
   leaves-verdict (refused i k c x) w t = (t .0, (t .1 .0, (w ∙ rw no-records (over-none q), t .1 .1)))
@@ -72,13 +78,13 @@ module _ (s : List ℕ) (standard : ℕ) (p q f : List ℕ) where
     unfolding checked pick
     no-standard a b e n w = rw (h, ne-eqb standard 1 a, ne-eqb standard 2 b) (leaves-refused 12 e n w)
 
-    module _ (a : Answer VbvStreamReport) {n : ℕ} {p' q' f' : List ℕ} (t : Reported a n p' f') where
+    module _ (a : Answer VbvStreamReport) {n : ℕ} {p' q' f' : List ℕ} (t : Reported p f a n p' f') where
       pub mpeg1 : standard ≡ 1 → a ≡ reported (verdict Mpeg1 s (length q / recordSize)) → q' ≡ over (recordsBytes (records (verdict Mpeg1 s (length q / recordSize)))) q
           → Leaves (checked s standard p q f) n p' q' f'
       unfolding checked pick
-      mpeg1 e b w = rw (h, e) (leaves-verdict (verdict Mpeg1 s (length q / recordSize)) w (subst (λ x. Reported x n p' f') b t))
+      mpeg1 e b w = rw (h, e) (leaves-verdict (verdict Mpeg1 s (length q / recordSize)) w (subst (λ x. Reported p f x n p' f') b t))
 
       pub mpeg2 : standard ≡ 2 → a ≡ reported (verdict Mpeg2 s (length q / recordSize)) → q' ≡ over (recordsBytes (records (verdict Mpeg2 s (length q / recordSize)))) q
           → Leaves (checked s standard p q f) n p' q' f'
       unfolding checked pick
-      mpeg2 e b w = rw (h, e) (leaves-verdict (verdict Mpeg2 s (length q / recordSize)) w (subst (λ x. Reported x n p' f') b t))
+      mpeg2 e b w = rw (h, e) (leaves-verdict (verdict Mpeg2 s (length q / recordSize)) w (subst (λ x. Reported p f x n p' f') b t))

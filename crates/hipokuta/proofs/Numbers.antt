@@ -3,6 +3,7 @@
 use mathlib.Core.Path.{refl}
 use mathlib.Core.List.{List, [], _∷_}
 use Prim.Native.Nat.{ℕ}
+use native.Mathlib.Omega.{arith}
 use Rattle.bits.specs.Refusals.{Answer}
 use Rattle.bits.specs.Numbers.{Numbered, a-value, by-number}
 use Rattle.bits.proofs.Flags.{pick-elim}
@@ -10,10 +11,10 @@ use Rattle.bits.proofs.Numbering.{and-then, wider}
 use Rattle.vbv.proofs.Numbering.{model-numbers}
 use Rattle.verify.specs.Check.{Accepted}
 use Rattle.pictures.specs.declared.VbvStandard.the-variants.{Mpeg1, Mpeg2}
-use Rattle.verify.proofs.Numbering.{check-numbers}
+use Rattle.verify.proofs.Numbering.{check-numbers, enough-numbers}
 use Rattle.rate_control.specs.declared.CbrConfig.{CbrConfig}
 use Rattle.rate_control.proofs.Refusing.{writer-numbers}
-use Rattle.hipokuta.specs.Check.{checked}
+use Rattle.hipokuta.specs.Check.{checked, reportAlone}
 use Rattle.hipokuta.specs.Send.{createIn, COffer, reach, offerIn, withdrawIn}
 use Rattle.hipokuta.specs.Numbers.{EntryNumbers}
 
@@ -26,6 +27,17 @@ vbv-check-numbered s standard report recs refusal =
     pick-elim Checks _ (λ e. by-number refl) λ e.
     pick-elim Checks _ (λ e. wider refl refl refl (check-numbers Mpeg1 s _)) λ e.
     pick-elim Checks _ (λ e. wider refl refl refl (check-numbers Mpeg2 s _)) λ e.
+    by-number refl
+
+abbrev Reports : {X : Type 0} → Answer X → Type 0
+Reports a = Numbered (19 ∷ 12 ∷ 14 ∷ 3 ∷ 1 ∷ 2 ∷ 6 ∷ 4 ∷ 5 ∷ 7 ∷ 8 ∷ []) [] (11 ∷ 9 ∷ 10 ∷ []) a
+
+vbv-report-numbered : (s : List ℕ) (standard : ℕ) (report refusal : List ℕ) → Reports (reportAlone s standard report refusal)
+unfolding reportAlone
+vbv-report-numbered s standard report refusal =
+    pick-elim Reports _ (λ e. by-number refl) λ e.
+    pick-elim Reports _ (λ e. and-then _ (wider refl refl refl (enough-numbers Mpeg1 s _ (omega arith))) λ a. a-value) λ e.
+    pick-elim Reports _ (λ e. and-then _ (wider refl refl refl (enough-numbers Mpeg2 s _ (omega arith))) λ a. a-value) λ e.
     by-number refl
 
 cbr-create-numbered : (c : CbrConfig) (place : List ℕ) → Numbered (19 ∷ 12 ∷ 6 ∷ []) [] [] (createIn c place)
@@ -54,6 +66,7 @@ cbr-withdraw-numbered s = pick-elim (Numbered (12 ∷ []) [] []) _ (λ e. by-num
 pub numbers : EntryNumbers
 numbers = record {
   vbv-check = vbv-check-numbered;
+  vbv-report = vbv-report-numbered;
   vbv-patch-delay = model-numbers .patch;
   cbr-create = cbr-create-numbered;
   cbr-offer = cbr-offer-numbered;

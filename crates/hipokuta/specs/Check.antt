@@ -1,6 +1,9 @@
 -- `vbv_check` (paper 01, 'The buffer report' and 'Rust forms to replace'; docs/LAYOUT.md): a report or refusal place that is too short is 19, then a standard other than 1 (MPEG-1) and 2 (MPEG-2) is 12, then the check's own answer.
+-- `vbv_report`: the same, given a record place for each picture, without the records.
 -- Assumes nothing.
-use Prim.Native.Nat.{ℕ, _/_}
+use Prim.Native.Nat.{ℕ, _/_, _≤_}
+use mathlib.Core.Path.{_≡_}
+use mathlib.Core.Logic.{_↔_}
 use mathlib.Core.Bool.{_||_}
 use mathlib.Core.List.{List, _∷_}
 use lib.Dec.{ltb, eqb}
@@ -8,8 +11,9 @@ use lib.ListN.{length}
 use denote.Ref.{now}
 use Rattle.bits.specs.Bits.{pick}
 use Rattle.bits.specs.Answers.{over}
-use Rattle.bits.specs.Refusals.{Answer, value, refused, refuse}
-use Rattle.verify.specs.Check.{Accepted, verdict}
+use Rattle.bits.specs.Refusals.{Answer, value, refused, refuse, number}
+use Rattle.scan.specs.Pictures.{pictures}
+use Rattle.verify.specs.Check.{Accepted, verdict, reported}
 use Rattle.verify.specs.Layout.{recordSize, recordsBytes}
 use Rattle.pictures.specs.declared.VbvStandard.the-variants.{Mpeg1, Mpeg2}
 use Rattle.verify.specs.declared.VbvStreamReport.{VbvStreamReport}
@@ -29,6 +33,18 @@ checked s standard report recs refusal =
 abbrev pub checkedIn : Slice → ℕ → Slice → Slice → Slice → Answer Accepted
 checkedIn stream standard report recs refusal = checked (now (stream .entry)) standard (now (report .entry)) (now (recs .entry)) (now (refusal .entry))
 
+-- of a stream, the standard's number and the places for report and refusal; as many record places as the stream has pictures
+unfoldable pub reportAlone : List ℕ → ℕ → List ℕ → List ℕ → Answer VbvStreamReport
+reportAlone s standard report refusal =
+    refuse 19 (ltb (length refusal) refusalSize || ltb (length report) reportSize)
+    (pick (eqb standard 1) (reported (verdict Mpeg1 s (length (pictures s))))
+    (pick (eqb standard 2) (reported (verdict Mpeg2 s (length (pictures s))))
+    (refused 12 0 0 0)))
+
+-- by what the slices hold when `vbv_report` is called
+abbrev pub reportAloneIn : Slice → ℕ → Slice → Slice → Answer VbvStreamReport
+reportAloneIn stream standard report refusal = reportAlone (now (stream .entry)) standard (now (report .entry)) (now (refusal .entry))
+
 -- the places afterwards; a refusal place that is too short is left alone
 unfoldable pub reportAfter : Answer VbvStreamReport → List ℕ → List ℕ
 reportAfter (value r) place = laid (wordsBytes (reportWords r)) place
@@ -41,3 +57,18 @@ recordsAfter (refused n k c e) place = place
 unfoldable pub refusalAfter : {X : Type 0} → Answer X → List ℕ → List ℕ
 refusalAfter (value x) place = place
 refusalAfter (refused n k c e) place = laid (wordsBytes (refusalWords record { number = n; picture = k; coded = c; expected = e })) place
+
+-- ---- both on the same stream: `vbv_report` tells how many record places `vbv_check` needs
+
+pub record Beside (s : List ℕ) (standard : ℕ) (report recs refusal : List ℕ) : Type 0 where
+  -- n pictures are reported exactly where `vbv_check` with n record places or more accepts, with the same report
+  pub accepts : (r : VbvStreamReport)
+      → (reported (checked s standard report recs refusal) ≡ value r) ↔ ((reportAlone s standard report refusal ≡ value r) × (r .pictures ≤ length recs / recordSize))
+  -- with a place for each picture both answer the same, and refuse the same
+  pub enough : length (pictures s) ≤ length recs / recordSize → reported (checked s standard report recs refusal) ≡ reportAlone s standard report refusal
+  -- with any places too, but for 15
+  pub otherwise : (number (checked s standard report recs refusal) ≡ 15 → ⊥) → reported (checked s standard report recs refusal) ≡ reportAlone s standard report refusal
+
+-- what is owed
+abbrev pub OwedOfReports : Type 0
+OwedOfReports = (s : List ℕ) (standard : ℕ) (report recs refusal : List ℕ) → Beside s standard report recs refusal

@@ -17,7 +17,7 @@ use verify::VbvVerified;
 use verify::verify_cbr_stream;
 
 // A refusal in its place: its number.
-fn refuse(place: &mut [u8], r: VbvRefusal) -> u64
+pub(crate) fn refuse(place: &mut [u8], r: VbvRefusal) -> u64
     ensures { λ n. ⌜ n ≡ r .«number» ⌝ }
     ensures { λ n. ⌜ now (place .exit) ≡ laid (wordsBytes (refusalWords r)) (now (place .entry)) ⌝ }
 {
@@ -26,7 +26,7 @@ fn refuse(place: &mut [u8], r: VbvRefusal) -> u64
 }
 
 // What the check answered, in its places.
-fn answer(verified: VbvVerified, report: &mut [u8], refusal: &mut [u8]) -> u64
+pub(crate) fn answer(verified: VbvVerified, report: &mut [u8], refusal: &mut [u8]) -> u64
     ensures { λ n. ⌜ n ≡ number (verifiedAnswer verified) ⌝ }
     ensures { λ n. ⌜ now (report .exit) ≡ reportAfter (verifiedAnswer verified) (now (report .entry)) ⌝ }
     ensures { λ n. ⌜ now (refusal .exit) ≡ refusalAfter (verifiedAnswer verified) (now (refusal .entry)) ⌝ }

@@ -55,6 +55,21 @@ module _ (standard : VbvStandard) (s : List ℕ) (short : 8 * length s ≤ farth
 pub steps-give : StepsGivePictures
 steps-give standard s short = rw (seen-from-first standard s) at (visits standard s short (length s) 0 (omega arith))
 
+-- ---- how many there are
+
+each-length : (standard : VbvStandard) (s : List ℕ) (qs : List Pic) (xs : List SeenPicture) → seenEach standard s qs ≡ value xs → length xs ≡ length qs
+unfolding seenEach
+each-length standard s [] xs h = let e : [] ≡ xs = cc in rw (← e)
+each-length standard s (q ∷ qs) xs h =
+    let a = then-value (seenAt standard s q) h in
+    let c = then-value (seenEach standard s qs) (a .2) in
+    let y : a .0 ∷ c .0 ≡ xs = cc in
+    rw (← y) (ap suc (each-length standard s qs (c .0) (c .1)))
+
+pub seen-length : (standard : VbvStandard) (s : List ℕ) (xs : List SeenPicture) → seenPictures standard s ≡ value xs → length xs ≡ length (pictures s)
+unfolding seenPictures
+seen-length standard s xs h = each-length standard s (pictures s) xs h
+
 -- ---- where the pictures lie
 
 -- a coded delay is a number of 16 bits

@@ -1,7 +1,7 @@
 -- A walk goes from picture to picture.
 -- Assumes nothing.
 use mathlib.Core.Path.{_≡_, refl, sym, ap, _∙_}
-use Prim.Native.Nat.{ℕ, zero, suc, _+_, _≤_}
+use Prim.Native.Nat.{ℕ, zero, suc, _+_, _-_, _≤_}
 use mathlib.Core.List.{List, [], _∷_}
 use mathlib.Core.Bool.{Bool, true, false}
 use native.Mathlib.Omega.{arith}
@@ -277,6 +277,14 @@ ordered {s} {i} e clear (walk.step {start = a} {end = b} {next = k} h t) =
 
 pub in-order : PicturesInOrder
 in-order s = ordered 0 (λ a b k h. omega arith) (walk-gives s)
+
+-- no more of them than bytes
+few-between : {high low : ℕ} {qs : List Pic} → InOrder high low qs → length qs ≤ high - low
+few-between walk.none = omega arith
+few-between (walk.more l r b o) = omega (arith, few-between o)
+
+pub pictures-few : (s : List ℕ) → length (pictures s) ≤ length s
+pictures-few s = omega (arith, few-between (in-order s))
 
 -- where a search from the first byte finds a sequence header there are four bytes
 pub first-inside : (s : List ℕ) (o c : ℕ) → found (skip notSequence (codes s)) ≡ At o c → o + 4 ≤ length s

@@ -25,6 +25,7 @@ use Rattle.rate_control.proofs.Refusing.{writer-numbers}
 use Rattle.rate_control.proofs.Figures.{writer-figures, target-figures, rules, steering}
 use Rattle.hipokuta.proofs.FromC.{from-c}
 use Rattle.hipokuta.proofs.Refusals.{refusals}
+use Rattle.hipokuta.proofs.Places.{reports}
 use Rattle.hipokuta.proofs.Numbers.{numbers}
 use Rattle.theorems.specs.Theorems.{Theorems}
 
@@ -67,6 +68,7 @@ theorems = record {
   writer-numbers = writer-numbers;
   from-c = from-c;
   refusals = refusals;
+  reports = reports;
   entry-numbers = numbers;
   writer-figures = writer-figures;
   target-figures = target-figures;

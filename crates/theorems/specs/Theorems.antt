@@ -19,6 +19,7 @@ use Rattle.rate_control.specs.Demand.{Demand3}
 use Rattle.rate_control.specs.Numbers.{WriterNumbers}
 use Rattle.rate_control.specs.Figures.{WriterFigures, TargetFigures, Rules, Steering}
 use Rattle.hipokuta.specs.Calls.{OwedFromC, OwedOfRefusals}
+use Rattle.hipokuta.specs.Check.{OwedOfReports}
 use Rattle.hipokuta.specs.Numbers.{EntryNumbers}
 
 pub record Theorems : Type 0 where
@@ -92,6 +93,8 @@ pub record Theorems : Type 0 where
   pub from-c : OwedFromC
   -- From C a refusal leaves state and output part as they were, but that 21 closes the pending picture.
   pub refusals : OwedOfRefusals
+  -- The report alone is that of the check with a record place for each picture, and its count says how many that are.
+  pub reports : OwedOfReports
   -- What an entry returns is 0 for an answer that is no refusal, or one of paper 01's numbers for that entry.
   pub entry-numbers : EntryNumbers
   -- ---- figures

@@ -11,5 +11,6 @@ pub mod Lending
 pub mod Accepting
 pub mod Bounds
 pub mod Cases
+pub mod Places
 pub mod Numbering
 pub mod Due

@@ -2,7 +2,8 @@
 -- Assumes nothing.
 use mathlib.Core.Path.{refl}
 use mathlib.Core.List.{List, [], _∷_}
-use Prim.Native.Nat.{ℕ, suc, _+_}
+use Prim.Native.Nat.{ℕ, suc, _+_, _≤_}
+use lib.ListN.{length}
 use Rattle.bits.specs.Refusals.{Answer}
 use Rattle.bits.proofs.Flags.{pick-elim}
 use Rattle.vbv.specs.Annex.{gain}
@@ -10,17 +11,20 @@ use Rattle.vbv.specs.Model.{periods}
 use Rattle.bits.specs.Numbers.{Numbered, a-value, by-number, by-all}
 use Rattle.vbv.specs.declared.VbvParams.{VbvParams}
 use Rattle.bits.proofs.Numbering.{and-then, wider}
+use Rattle.scan.specs.Pictures.{pictures}
+use Rattle.pictures.specs.declared.VbvStandard.{VbvStandard}
 use Rattle.pictures.specs.declared.SeenPicture.{SeenPicture}
 use Rattle.pictures.proofs.Numbering.{front-numbers}
 use Rattle.verify.specs.Coded.{timed}
 use Rattle.verify.specs.Run.{removal, run}
-use Rattle.verify.specs.Check.{accepted, withPictures, verdict}
+use Rattle.verify.specs.Check.{accepted, verdict}
 use Rattle.verify.specs.Numbers.{CheckNumbers}
 use Rattle.verify.specs.declared.CodedPicture.{CodedPicture}
 use Rattle.verify.specs.declared.VbvPictureRecord.{VbvPictureRecord}
+use Rattle.verify.proofs.Places.{unplaced, placed-or-15, none-asked}
 
 abbrev alone : List ℕ
-alone = 14 ∷ 3 ∷ 1 ∷ 2 ∷ 6 ∷ 4 ∷ 5 ∷ 12 ∷ 15 ∷ 7 ∷ 8 ∷ []
+alone = 14 ∷ 3 ∷ 1 ∷ 2 ∷ 6 ∷ 4 ∷ 5 ∷ 12 ∷ 7 ∷ 8 ∷ []
 
 abbrev Of : {X : Type 0} → Answer X → Type 0
 Of a = Numbered alone [] (11 ∷ 9 ∷ 10 ∷ []) a
@@ -49,10 +53,10 @@ accepted-numbered : (p : VbvParams) (rs : List VbvPictureRecord) → Of (accepte
 accepted-numbered p [] = by-number refl
 accepted-numbered p (r ∷ rs) = a-value
 
-pictures-numbered : (places : ℕ) (p : VbvParams) (x : SeenPicture) (cs : List CodedPicture) → Of (withPictures places p x cs)
-unfolding withPictures
-pictures-numbered places p x cs =
-    pick-elim Of _ (λ e. by-number refl) λ e.
+-- ---- the check
+
+unplaced-numbered : (p : VbvParams) (x : SeenPicture) (cs : List CodedPicture) → Of (unplaced p x cs)
+unplaced-numbered p x cs =
     pick-elim Of _ (λ e. by-number refl) λ e.
     pick-elim Of _ (λ e. by-number refl) λ e.
     and-then (accepted p) (run-numbered p 0 0 _ cs) (accepted-numbered p)
@@ -61,4 +65,13 @@ pub check-numbers : CheckNumbers
 unfolding verdict
 check-numbers standard s places =
     and-then _ (wider refl refl refl (front-numbers .front-has standard s)) λ f.
-    pictures-numbered places (f .params) (f .first) (timed (f .first ∷ f .others))
+    placed-or-15 (Numbered (14 ∷ 3 ∷ 1 ∷ 2 ∷ 6 ∷ 4 ∷ 5 ∷ 12 ∷ 15 ∷ 7 ∷ 8 ∷ []) [] (11 ∷ 9 ∷ 10 ∷ [])) places (f .params) (f .first) (timed (f .first ∷ f .others))
+    (by-number refl) (wider refl refl refl (unplaced-numbered (f .params) (f .first) (timed (f .first ∷ f .others))))
+
+-- no 15 where each picture has a place
+pub enough-numbers : (standard : VbvStandard) (s : List ℕ) (places : ℕ) → length (pictures s) ≤ places
+    → Numbered (14 ∷ 3 ∷ 1 ∷ 2 ∷ 6 ∷ 4 ∷ 5 ∷ 12 ∷ 7 ∷ 8 ∷ []) [] (11 ∷ 9 ∷ 10 ∷ []) (verdict standard s places)
+enough-numbers standard s places l =
+    rw (none-asked standard s places l)
+    (and-then _ (wider refl refl refl (front-numbers .front-has standard s)) λ f.
+    unplaced-numbered (f .params) (f .first) (timed (f .first ∷ f .others)))

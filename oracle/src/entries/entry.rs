@@ -12,6 +12,15 @@ unsafe extern "C" {
         refusal: *mut u8,
         refusal_len: usize,
     ) -> u64;
+    pub fn vbv_report(
+        stream: *const u8,
+        stream_len: usize,
+        standard: u8,
+        report: *mut u8,
+        report_len: usize,
+        refusal: *mut u8,
+        refusal_len: usize,
+    ) -> u64;
     pub fn vbv_patch_delay(picture: *mut u8, picture_len: usize, vbv_delay: u16) -> u64;
     pub fn cbr_create(
         bit_rate_value: u32,

@@ -68,6 +68,12 @@ impl Left {
         self
     }
 
+    /// Without a place that another call does not have.
+    pub fn without(mut self, name: &str) -> Self {
+        self.places.retain(|p| p.0 != name);
+        self
+    }
+
     /// Where it is another than expected.
     pub fn unlike(&self, expected: &Self) -> String {
         let mut told = format!("returned {} for {}", self.number, expected.number);

@@ -1,6 +1,6 @@
 //! The check and the delay patch: streams and headers drawn like those of kinds 16 to 18, and the original's answers to them.
 //! Before some of the checks stands another one, of the same stream: with a place that is too short for a report or a refusal,
-//! or for a standard that there is none of.
+//! or for a standard that there is none of. After each check stands the report alone, of the same stream in the same places.
 
 use crate::entry;
 use crate::place::{Left, Place};
@@ -10,15 +10,19 @@ use oracle::draw::Draw;
 use oracle::format::number;
 use oracle::layout::{VBV_MPEG1, VBV_MPEG2, VBV_RECORD_BYTES, VBV_REFUSAL_BYTES, VBV_REPORT_BYTES};
 use oracle::model::patched;
+use oracle::spans::picture_codes;
 use original::vbv::VbvStandard;
 
 const CHECKS: [&str; 2] = ["checks of MPEG-1 streams", "checks of MPEG-2 streams"];
 const STOPPED: &str = "checks stopped before the stream";
+const REPORTS: [&str; 2] = ["reports alone of MPEG-1 streams", "reports alone of MPEG-2 streams"];
+const STOPPED_REPORTS: &str = "reports alone stopped before the stream";
 const PATCHES: &str = "patches";
 
+const MORE: &str = "accepted, with bytes after the records";
+/// The last two are the check's; the report alone has the others.
 const ANSWERS: [&str; 15] = [
     "accepted",
-    "accepted, with bytes after the records",
     "refused 1",
     "refused 2",
     "refused 3",
@@ -32,7 +36,9 @@ const ANSWERS: [&str; 15] = [
     "refused 11",
     "refused 12",
     "refused 15",
+    MORE,
 ];
+const REPORT_ANSWERS: &[&str] = ANSWERS.split_at(13).0;
 /// What stops a check, in the order in which it is tested.
 const STOPS: [&str; 7] = [
     "19: a short place, with no such standard",
@@ -45,10 +51,13 @@ const STOPS: [&str; 7] = [
 ];
 
 /// What has to be met.
-pub const OWED: [Owed; 4] = [
+pub const OWED: [Owed; 7] = [
     (CHECKS[0], &ANSWERS),
     (CHECKS[1], &ANSWERS),
     (STOPPED, &STOPS),
+    (REPORTS[0], REPORT_ANSWERS),
+    (REPORTS[1], REPORT_ANSWERS),
+    (STOPPED_REPORTS, &STOPS),
     (PATCHES, &["patched", "20: fewer than 8 bytes", "20: no picture start code"]),
 ];
 
@@ -84,7 +93,7 @@ fn expected(c: &Check) -> (Left, &'static str, String) {
     let ((number, _), words) = judged(standard, c.stream, left.at("records"));
     if number == 0 {
         let more = VBV_RECORD_BYTES * (words[2] as usize) < c.records.len();
-        return (left.with("report", &words), what, ANSWERS[usize::from(more)].into());
+        return (left.with("report", &words), what, if more { MORE } else { ANSWERS[0] }.into());
     }
     left.number = number.into();
     let refusal = [number.into(), words[0], words[1], words[2]];
@@ -110,6 +119,32 @@ fn checked(c: &Check, d: &mut Draw) -> Left {
     };
     let written = [("report", &report), ("records", &records), ("refusal", &refusal)];
     Left::after(number, &written, &[(&stream, c.stream)])
+}
+
+/// What is expected of the report alone: all that is expected of the check with a record place for each picture, but the records.
+fn expected_alone(c: &Check) -> (Left, &'static str, String) {
+    let places = VBV_RECORD_BYTES * picture_codes(c.stream);
+    let (left, what, why) = expected(&Check { records: vec![0; places], ..c.clone() });
+    let what = CHECKS.iter().position(|&w| w == what).map_or(STOPPED_REPORTS, |at| REPORTS[at]);
+    let why = if why == MORE { ANSWERS[0].into() } else { why };
+    (left.without("records"), what, why)
+}
+
+fn reported(c: &Check, d: &mut Draw) -> Left {
+    let mut stream = Place::new(c.stream, d);
+    let [mut report, mut refusal] = [&c.report, &c.refusal].map(|bytes| Place::new(bytes, d));
+    let number = unsafe {
+        entry::vbv_report(
+            stream.at(),
+            stream.len,
+            c.standard,
+            report.at(),
+            report.len,
+            refusal.at(),
+            refusal.len,
+        )
+    };
+    Left::after(number, &[("report", &report), ("refusal", &refusal)], &[(&stream, c.stream)])
 }
 
 /// The same check with something about it that is out of range.
@@ -138,6 +173,9 @@ impl Run {
     fn check(&mut self, c: &Check) {
         let (expected, what, why) = expected(c);
         let found = checked(c, &mut self.d);
+        self.met(what, &why, &found, &expected);
+        let (expected, what, why) = expected_alone(c);
+        let found = reported(c, &mut self.d);
         self.met(what, &why, &found, &expected);
     }
 

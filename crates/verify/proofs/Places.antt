@@ -1,0 +1,100 @@
+-- Record places: given one for each picture, or more, the verdict is the same; given fewer, it is the same or 15.
+-- Assumes nothing.
+use mathlib.Core.Path.{_≡_, refl, sym, ap, _∙_}
+use mathlib.Core.Bool.{not}
+use mathlib.Core.List.{List, _∷_}
+use Prim.Native.Nat.{ℕ, suc, _≤_}
+use native.Mathlib.Omega.{arith}
+use lib.Dec.{eqb}
+use lib.ListN.{length}
+use borrow.Author.Tests.{le-ltb}
+use Rattle.bits.specs.Bits.{pick}
+use Rattle.bits.specs.Refusals.{Answer, value, refused, refuse, andThen, number}
+use Rattle.bits.proofs.Flags.{pick-elim, pick-alike}
+use Rattle.vbv.specs.Annex.{firstDelivered}
+use Rattle.vbv.specs.Model.{paramsFit}
+use Rattle.vbv.specs.declared.VbvParams.{VbvParams}
+use Rattle.scan.specs.Pictures.{pictures}
+use Rattle.pictures.specs.Front.{Front, front}
+use Rattle.pictures.specs.Due as fr
+use Rattle.pictures.specs.Due.{FrontDue}
+use Rattle.pictures.specs.declared.VbvStandard.{VbvStandard}
+use Rattle.pictures.specs.declared.SeenPicture.{SeenPicture}
+use Rattle.pictures.proofs.Due.{front-due}
+use Rattle.pictures.proofs.Order.{seen-length}
+use Rattle.verify.specs.declared.CodedPicture.{CodedPicture}
+use Rattle.verify.specs.declared.VbvPictureRecord.{VbvPictureRecord}
+use Rattle.verify.specs.Coded.{timed}
+use Rattle.verify.specs.Run.{run}
+use Rattle.verify.specs.Check.{Accepted, accepted, withPictures, verdict}
+use Rattle.verify.specs.Accepted.{Along, none, more}
+use Rattle.verify.proofs.Rising.{timed-length}
+use Rattle.verify.proofs.Accepted.{passed}
+
+-- ---- after the front
+
+-- where no places are asked
+abbrev pub unplaced : VbvParams → SeenPicture → List CodedPicture → Answer Accepted
+unplaced p x cs =
+    refuse 5 (eqb (x .«vbv_delay») 0xFFFF)
+    (refuse 12 (not (paramsFit p))
+    (andThen (run p 0 0 (firstDelivered p (x .«pos_bits») (x .«vbv_delay»)) cs) (accepted p)))
+
+placed : (places : ℕ) (p : VbvParams) (x : SeenPicture) (cs : List CodedPicture) → length cs ≤ places → withPictures places p x cs ≡ unplaced p x cs
+unfolding withPictures pick
+placed places p x cs l = rw (le-ltb places (length cs) l)
+
+-- what holds of that answer and of 15 holds given any places
+pub placed-or-15 : (P : Answer Accepted → Type 0) (places : ℕ) (p : VbvParams) (x : SeenPicture) (cs : List CodedPicture) → P (refused 15 0 0 0) → P (unplaced p x cs)
+    → P (withPictures places p x cs)
+unfolding withPictures
+placed-or-15 P places p x cs few =
+    pick-alike (λ a b. P b → P a) _ (λ h. h) λ e.
+    pick-alike (λ a b. P b → P a) _ (λ h. h) λ e.
+    pick-elim (λ a. P (andThen (run p 0 0 (firstDelivered p (x .«pos_bits») (x .«vbv_delay»)) cs) (accepted p)) → P a) _ (λ e h. few) (λ e h. h)
+
+-- ---- a stream
+
+module _ (standard : VbvStandard) (s : List ℕ) where
+  -- by what the front answers
+  abbrev asked : ℕ → Answer Front → Answer Accepted
+  asked places a = andThen a (λ f. withPictures places (f .params) (f .first) (timed (f .first ∷ f .others)))
+
+  abbrev pub unasked : Answer Front → Answer Accepted
+  unasked a = andThen a (λ f. unplaced (f .params) (f .first) (timed (f .first ∷ f .others)))
+
+  all-placed : (places : ℕ) → length (pictures s) ≤ places → (a : Answer Front) → FrontDue standard s a → asked places a ≡ unasked a
+  all-placed places l (refused n k i j) d = refl
+  all-placed places l (value f) (fr.all-read {p} {x} {xs} r) =
+      placed places p x (timed (x ∷ xs)) (omega (arith, timed-length (x ∷ xs), seen-length standard s (x ∷ xs) (r .pictures-are)))
+
+  pub none-asked : (places : ℕ) → length (pictures s) ≤ places → verdict standard s places ≡ unasked (front standard s)
+  unfolding verdict
+  none-asked places l = all-placed places l (front standard s) (front-due standard s)
+
+  not-15 : (places : ℕ) (a : Answer Front) → (number (asked places a) ≡ 15 → ⊥) → asked places a ≡ unasked a
+  not-15 places (refused n k i j) h = refl
+  not-15 places (value f) h =
+      placed-or-15 (λ a. (number a ≡ 15 → ⊥) → a ≡ unasked (value f)) places (f .params) (f .first) (timed (f .first ∷ f .others)) (λ n. absurd (n refl)) (λ n. refl) h
+
+  pub enough-places : (places : ℕ) → length (pictures s) ≤ places → verdict standard s places ≡ verdict standard s (length (pictures s))
+  enough-places places l = none-asked places l ∙ sym (none-asked (length (pictures s)) (omega arith))
+
+  pub other-than-15 : (places : ℕ) → (number (verdict standard s places) ≡ 15 → ⊥) → verdict standard s places ≡ verdict standard s (length (pictures s))
+  unfolding verdict
+  other-than-15 places h = not-15 places (front standard s) h ∙ sym (none-asked (length (pictures s)) (omega arith))
+
+  -- ---- a stream that is accepted
+
+  along-length : {p : VbvParams} {Each : ℕ → ℕ → CodedPicture → VbvPictureRecord → Type 0} {previous d : ℕ} {cs : List CodedPicture} {rs : List VbvPictureRecord}
+      → Along p Each previous d cs rs → length rs ≡ length cs
+  along-length none = refl
+  along-length (more h t) = ap suc (along-length t)
+
+  -- has a record for each picture, and a place for each record
+  pub all-recorded : (places : ℕ) {a : Accepted} → verdict standard s places ≡ value a
+      → (length (a .first ∷ a .others) ≡ length (pictures s)) × (length (pictures s) ≤ places)
+  all-recorded places h =
+      let w = passed standard s places h in
+      let l = seen-length standard s (w .first ∷ w .others) (w .is-read .pictures-are) in
+      (along-length (w .removals) ∙ timed-length (w .first ∷ w .others) ∙ l, omega (arith, l, w .places-suffice))
