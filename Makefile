@@ -23,16 +23,18 @@ endif
 reading = tools/stream.c $(wildcard tools/input.c tools/container.c) c/refusal_text.c
 vbvreport = tools/vbvreport.c tools/plot.c tools/report.c $(wildcard tools/look.c tools/place.c) $(reading)
 cbrsend = tools/cbrsend.c tools/sending.c tools/split.c tools/why.c tools/report.c $(reading)
-entries = tests/c/entries.c tests/c/places.c
-sender = tests/c/sender.c tests/c/channel.c tests/c/rules.c tests/c/places.c
+entries = tests/c/entries.c tests/c/places.c c/refusal_text.c
+sender = tests/c/sender.c tests/c/channel.c tests/c/rules.c tests/c/places.c c/refusal_text.c
+texts = tests/c/texts.c c/refusal_text.c
 stamp = tests/c/stamp.c
-readme = target/tests/readme.c
+readme_check = target/tests/readme_check.c c/refusal_text.c
+readme_send = target/tests/readme_send.c c/refusal_text.c
 
 TOOLS = tools/vbvreport tools/cbrsend
-TESTS = $(addprefix target/tests/,entries sender stamp readme)
-SANITIZED_TOOLS = $(addprefix target/sanitized/,vbvreport cbrsend)
-SANITIZED_TESTS = $(addprefix target/sanitized/,entries sender stamp readme)
-SANITIZED = $(SANITIZED_TOOLS) $(SANITIZED_TESTS)
+PROGRAMS = entries sender texts stamp readme_check readme_send
+TESTS = $(addprefix target/tests/,$(PROGRAMS))
+SANITIZED_TOOLS = $(addprefix target/sanitized/,$(notdir $(TOOLS)))
+SANITIZED = $(SANITIZED_TOOLS) $(addprefix target/sanitized/,$(PROGRAMS))
 
 all: $(LIB) $(TOOLS)
 test-c: $(TESTS)
@@ -41,10 +43,12 @@ sanitized: $(SANITIZED)
 $(LIB): $(PROVED)
 	rt staticlib hipokuta
 
-# The program that stands in README.md.
-target/tests/readme.c: README.md
+# The programs that stand in README.md, the first and the second.
+target/tests/readme_check.c: nth = 1
+target/tests/readme_send.c: nth = 2
+target/tests/readme_check.c target/tests/readme_send.c: README.md
 	@mkdir -p $(@D)
-	awk '$$0 == "```" { inside = 0 } inside; $$0 == "```c" { inside = 1 }' README.md >$@
+	awk -v nth=$(nth) '$$0 == "```" { inside = 0 } inside; $$0 == "```c" { inside = ++seen == nth }' README.md >$@
 
 $(TOOLS) $(SANITIZED_TOOLS): CFLAGS += $(AVFORMAT_CFLAGS)
 $(TOOLS) $(SANITIZED_TOOLS): LIBS = $(AVFORMAT_LIBS)
