@@ -59,8 +59,29 @@ $(TOOLS) $(TESTS) $(SANITIZED): $$($$(notdir $$@)) $(HEADERS) $(LIB)
 	@mkdir -p $(@D)
 	$(CC) $(CFLAGS) $(filter %.c,$^) $(LIB) $(LIBS) -o $@
 
+# What is installed, by the folder below PREFIX that it goes to.
+PREFIX = /usr/local
+TO = $(DESTDIR)$(PREFIX)
+FOLDERS = bin lib lib/pkgconfig include share/hipokuta share/man/man1 share/man/man3
+bin = $(TOOLS)
+lib = $(LIB)
+lib/pkgconfig = target/hipokuta.pc
+include = include/hipokuta.h
+share/hipokuta = c/refusal_text.c
+share/man/man1 = man/vbvreport.1 man/cbrsend.1
+share/man/man3 = man/hipokuta.3
+
+install: all
+	sed 's,@PREFIX@,$(PREFIX),; s,@VERSION@,$(VERSION),' hipokuta.pc.in >target/hipokuta.pc
+	install -d $(FOLDERS:%="$(TO)/%")
+	$(foreach folder,$(FOLDERS),install -m $(if $(filter bin,$(folder)),755,644) $($(folder)) "$(TO)/$(folder)" &&) :
+
+uninstall:
+	rm -f $(foreach folder,$(FOLDERS),$(patsubst %,"$(TO)/$(folder)/%",$(notdir $($(folder)))))
+	if [ -d "$(TO)/share/hipokuta" ]; then rmdir "$(TO)/share/hipokuta"; fi
+
 clean:
 	rm -rf $(TOOLS) target/tests target/sanitized target/bench $(LIB)
 
 .DELETE_ON_ERROR:
-.PHONY: all test-c sanitized clean
+.PHONY: all test-c sanitized install uninstall clean
