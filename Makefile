@@ -26,12 +26,13 @@ cbrsend = tools/cbrsend.c tools/sending.c tools/split.c tools/why.c tools/report
 entries = tests/c/entries.c tests/c/places.c c/refusal_text.c
 sender = tests/c/sender.c tests/c/channel.c tests/c/rules.c tests/c/places.c c/refusal_text.c
 texts = tests/c/texts.c c/refusal_text.c
+structs = tests/c/structs.c
 stamp = tests/c/stamp.c
 readme_check = target/tests/readme_check.c c/refusal_text.c
 readme_send = target/tests/readme_send.c c/refusal_text.c
 
 TOOLS = tools/vbvreport tools/cbrsend
-PROGRAMS = entries sender texts stamp readme_check readme_send
+PROGRAMS = entries sender texts structs stamp readme_check readme_send
 TESTS = $(addprefix target/tests/,$(PROGRAMS))
 SANITIZED_TOOLS = $(addprefix target/sanitized/,$(notdir $(TOOLS)))
 SANITIZED = $(SANITIZED_TOOLS) $(addprefix target/sanitized/,$(PROGRAMS))
