@@ -40,8 +40,10 @@ int main(int count, char **words)
     char line[1024], name[64];
     size_t from, to, rows = 0, failed = 0;
     FILE *layout = count == 2 ? fopen(words[1], "r") : NULL;
-    if (layout == NULL)
-        return puts("structs: no layout to read"), 2;
+    if (layout == NULL) {
+        puts("structs: no layout to read");
+        return 2;
+    }
     while (fgets(line, sizeof line, layout) != NULL) {
         if (sscanf(line, "| %zu to %zu | `%63[a-z_]`", &from, &to, name) != 3)
             continue;

@@ -76,8 +76,10 @@ int main(int count, char **words)
 {
     static char marks[NUMBERS];
     FILE *header = count == 2 ? fopen(words[1], "r") : NULL;
-    if (header == NULL)
-        return puts("texts: no header to read"), 2;
+    if (header == NULL) {
+        puts("texts: no header to read");
+        return 2;
+    }
     size_t found = listed(header, marks);
     fclose(header);
     if (found != 20)
