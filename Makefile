@@ -1,5 +1,7 @@
 # make            the proved archive for C, tools/vbvreport and tools/cbrsend
-# make test-c     the C programs under tests/ and the one in README.md, which ./test runs
+# make install    these, the header, the texts of refusals, a pkg-config file and man pages, under PREFIX (below DESTDIR)
+# make uninstall  removes what that put there
+# make test-c     the C programs under tests/ and those in README.md, which ./test runs
 # make sanitized  all of these with the address and undefined-behaviour sanitizers, for tests/sanitized
 # make clean      removes what C was built to; proofs stay
 WARNINGS = -Wall -Wextra -Wpedantic -Wshadow -Wconversion -Wsign-conversion -Wcast-qual -Wwrite-strings \
@@ -8,18 +10,32 @@ CFLAGS = -std=c99 $(WARNINGS) -O2 -Iinclude
 LIB = target/staticlib/libhipokuta.a
 PROVED = $(shell find crates crates.txt -name '*.rt' -o -name '*.antt' -o -name crates.txt)
 HEADERS = include/hipokuta.h $(wildcard tools/*.h tests/c/*.h)
+VERSION = $(shell sed -n 's/^.define HIPOKUTA_VERSION "\(.*\)"$$/\1/p' include/hipokuta.h)
+
+# The tools take transport and program streams apart by libavformat, where it is installed; `make AVFORMAT=` leaves it out.
+AVFORMAT = $(shell pkg-config --exists libavformat libavcodec libavutil 2>/dev/null && echo libavformat libavcodec libavutil)
+ifneq ($(strip $(AVFORMAT)),)
+AVFORMAT_CFLAGS := -DHAVE_AVFORMAT $(patsubst -I%,-isystem %,$(shell pkg-config --cflags $(AVFORMAT)))
+AVFORMAT_LIBS := $(shell pkg-config --libs $(AVFORMAT))
+endif
 
 # The sources of each C program.
-vbvreport = tools/vbvreport.c tools/plot.c tools/report.c tools/stream.c c/refusal_text.c
-cbrsend = tools/cbrsend.c tools/sending.c tools/split.c tools/why.c tools/report.c tools/stream.c c/refusal_text.c
-entries = tests/c/entries.c tests/c/places.c
-sender = tests/c/sender.c tests/c/channel.c tests/c/rules.c tests/c/places.c
+reading = tools/stream.c $(wildcard tools/input.c tools/container.c) c/refusal_text.c
+vbvreport = tools/vbvreport.c tools/plot.c tools/report.c $(wildcard tools/look.c tools/place.c) $(reading)
+cbrsend = tools/cbrsend.c tools/sending.c tools/split.c tools/why.c tools/report.c $(reading)
+entries = tests/c/entries.c tests/c/places.c c/refusal_text.c
+sender = tests/c/sender.c tests/c/channel.c tests/c/rules.c tests/c/places.c c/refusal_text.c
+texts = tests/c/texts.c c/refusal_text.c
+structs = tests/c/structs.c
 stamp = tests/c/stamp.c
-readme = target/tests/readme.c
+readme_check = target/tests/readme_check.c c/refusal_text.c
+readme_send = target/tests/readme_send.c c/refusal_text.c
 
 TOOLS = tools/vbvreport tools/cbrsend
-TESTS = $(addprefix target/tests/,entries sender stamp readme)
-SANITIZED = $(addprefix target/sanitized/,vbvreport cbrsend entries sender stamp readme)
+PROGRAMS = entries sender texts structs stamp readme_check readme_send
+TESTS = $(addprefix target/tests/,$(PROGRAMS))
+SANITIZED_TOOLS = $(addprefix target/sanitized/,$(notdir $(TOOLS)))
+SANITIZED = $(SANITIZED_TOOLS) $(addprefix target/sanitized/,$(PROGRAMS))
 
 all: $(LIB) $(TOOLS)
 test-c: $(TESTS)
@@ -28,20 +44,45 @@ sanitized: $(SANITIZED)
 $(LIB): $(PROVED)
 	rt staticlib hipokuta
 
-# The program that stands in README.md.
-target/tests/readme.c: README.md
+# The programs that stand in README.md, the first and the second.
+target/tests/readme_check.c: nth = 1
+target/tests/readme_send.c: nth = 2
+target/tests/readme_check.c target/tests/readme_send.c: README.md
 	@mkdir -p $(@D)
-	awk '$$0 == "```" { inside = 0 } inside; $$0 == "```c" { inside = 1 }' README.md >$@
+	awk -v nth=$(nth) '$$0 == "```" { inside = 0 } inside; $$0 == "```c" { inside = ++seen == nth }' README.md >$@
 
+$(TOOLS) $(SANITIZED_TOOLS): CFLAGS += $(AVFORMAT_CFLAGS)
+$(TOOLS) $(SANITIZED_TOOLS): LIBS = $(AVFORMAT_LIBS)
 $(TESTS): CFLAGS += -gdwarf-4
 $(SANITIZED): CFLAGS += -g -fsanitize=address,undefined -fno-sanitize-recover=all
 .SECONDEXPANSION:
 $(TOOLS) $(TESTS) $(SANITIZED): $$($$(notdir $$@)) $(HEADERS) $(LIB)
 	@mkdir -p $(@D)
-	$(CC) $(CFLAGS) $(filter %.c,$^) $(LIB) -o $@
+	$(CC) $(CFLAGS) $(filter %.c,$^) $(LIB) $(LIBS) -o $@
+
+# What is installed, by the folder below PREFIX that it goes to.
+PREFIX = /usr/local
+TO = $(DESTDIR)$(PREFIX)
+FOLDERS = bin lib lib/pkgconfig include share/hipokuta share/man/man1 share/man/man3
+bin = $(TOOLS)
+lib = $(LIB)
+lib/pkgconfig = target/hipokuta.pc
+include = include/hipokuta.h
+share/hipokuta = c/refusal_text.c
+share/man/man1 = man/vbvreport.1 man/cbrsend.1
+share/man/man3 = man/hipokuta.3
+
+install: all
+	sed 's,@PREFIX@,$(PREFIX),; s,@VERSION@,$(VERSION),' hipokuta.pc.in >target/hipokuta.pc
+	install -d $(FOLDERS:%="$(TO)/%")
+	$(foreach folder,$(FOLDERS),install -m $(if $(filter bin,$(folder)),755,644) $($(folder)) "$(TO)/$(folder)" &&) :
+
+uninstall:
+	rm -f $(foreach folder,$(FOLDERS),$(patsubst %,"$(TO)/$(folder)/%",$(notdir $($(folder)))))
+	if [ -d "$(TO)/share/hipokuta" ]; then rmdir "$(TO)/share/hipokuta"; fi
 
 clean:
 	rm -rf $(TOOLS) target/tests target/sanitized target/bench $(LIB)
 
 .DELETE_ON_ERROR:
-.PHONY: all test-c sanitized clean
+.PHONY: all test-c sanitized install uninstall clean
