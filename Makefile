@@ -20,8 +20,9 @@ AVFORMAT_LIBS := $(shell pkg-config --libs $(AVFORMAT))
 endif
 
 # The sources of each C program.
-reading = tools/stream.c $(wildcard tools/input.c tools/container.c) c/refusal_text.c
-vbvreport = tools/vbvreport.c tools/plot.c tools/report.c $(wildcard tools/look.c tools/place.c) $(reading)
+reading = tools/stream.c tools/input.c tools/container.c c/refusal_text.c
+vbvreport = tools/vbvreport.c tools/plot.c tools/report.c tools/look.c tools/place.c tools/caution.c tools/words.c tools/script.c \
+    $(wildcard tools/label.c) $(reading)
 cbrsend = tools/cbrsend.c tools/sending.c tools/split.c tools/why.c tools/report.c $(reading)
 entries = tests/c/entries.c tests/c/places.c
 sender = tests/c/sender.c tests/c/channel.c tests/c/rules.c tests/c/places.c
