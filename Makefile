@@ -10,16 +10,17 @@ PROVED = $(shell find crates crates.txt -name '*.rt' -o -name '*.antt' -o -name 
 HEADERS = include/hipokuta.h $(wildcard tools/*.h tests/c/*.h)
 
 # The sources of each C program.
-vbvreport = tools/vbvreport.c tools/plot.c tools/report.c tools/stream.c c/refusal_text.c
+vbvreport = tools/vbvreport.c tools/plot.c tools/label.c tools/report.c tools/stream.c c/refusal_text.c
 cbrsend = tools/cbrsend.c tools/sending.c tools/split.c tools/why.c tools/report.c tools/stream.c c/refusal_text.c
 entries = tests/c/entries.c tests/c/places.c
 sender = tests/c/sender.c tests/c/channel.c tests/c/rules.c tests/c/places.c
 stamp = tests/c/stamp.c
+drawings = tests/c/drawings.c tools/plot.c tools/label.c
 readme = target/tests/readme.c
 
 TOOLS = tools/vbvreport tools/cbrsend
-TESTS = $(addprefix target/tests/,entries sender stamp readme)
-SANITIZED = $(addprefix target/sanitized/,vbvreport cbrsend entries sender stamp readme)
+TESTS = $(addprefix target/tests/,entries sender stamp drawings readme)
+SANITIZED = $(addprefix target/sanitized/,vbvreport cbrsend entries sender stamp drawings readme)
 
 all: $(LIB) $(TOOLS)
 test-c: $(TESTS)
@@ -33,8 +34,8 @@ target/tests/readme.c: README.md
 	@mkdir -p $(@D)
 	awk '$$0 == "```" { inside = 0 } inside; $$0 == "```c" { inside = 1 }' README.md >$@
 
-$(TESTS): CFLAGS += -gdwarf-4
-$(SANITIZED): CFLAGS += -g -fsanitize=address,undefined -fno-sanitize-recover=all
+$(TESTS): CFLAGS += -Itools -gdwarf-4
+$(SANITIZED): CFLAGS += -Itools -g -fsanitize=address,undefined -fno-sanitize-recover=all
 .SECONDEXPANSION:
 $(TOOLS) $(TESTS) $(SANITIZED): $$($$(notdir $$@)) $(HEADERS) $(LIB)
 	@mkdir -p $(@D)

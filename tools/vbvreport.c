@@ -59,6 +59,21 @@ static void print_refusal(const struct vbv_refusal *r)
     printf("  %s\n", vbv_refusal_text(r->number));
 }
 
+/* The records as removals; NULL where memory does not suffice. */
+static struct removal *removals(const struct vbv_report *report, const struct vbv_record *records)
+{
+    struct removal *of = calloc(report->pictures + 1, sizeof *of);
+    double seconds = (double)records[0].occupancy_before / (double)report->bit_rate;
+    for (uint64_t n = 0; of != NULL && n < report->pictures; n++) {
+        double before = (double)records[n].occupancy_before, after = before - (double)records[n].data_bits;
+        struct removal r = { seconds, before, after, 0, n };
+        of[n] = r;
+        if (n + 1 < report->pictures)
+            seconds += ((double)records[n + 1].occupancy_before - after) / (double)report->bit_rate;
+    }
+    return of;
+}
+
 static int draw(const char *to, const char *name, const struct vbv_report *report, const struct vbv_record *records)
 {
     if (same_file(name, to))
@@ -66,7 +81,11 @@ static int draw(const char *to, const char *name, const struct vbv_report *repor
     FILE *file = fopen(to, "w");
     if (file == NULL)
         return trouble(to, strerror(errno));
-    plot(file, name, report, records);
+    struct removal *of = removals(report, records);
+    struct drawing d = { name, "accepted", report->bit_rate, report->buffer_bits, "?", of, of != NULL ? report->pictures : 0, NULL,
+                         { 0, 0, 0, 0, 0 }, 0, 0 };
+    plot(file, &d);
+    free(of);
     int bad = ferror(file);
     if (fclose(file) != 0 || bad)
         return trouble(to, "cannot be written");
