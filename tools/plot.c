@@ -8,8 +8,9 @@ enum { WIDTH = 1200, HEIGHT = 580, MARGIN = 20, AFTER = 60, BELOW = 110, NAME = 
 /* Words of a refusal: how wide a line, how many at most, and how far apart. */
 enum { WORDS_ROOM = 540, WORDS_LINES = 4, WORDS_APART = 17 };
 
-/* Pixels: the least for a picture in a curve, and for its letter; the least that a refused picture passes a bound by. */
-enum { TOOTH = 2, LETTER = 10, PASSED = 8 };
+/* How many teeth a column has at most in a curve. Pixels from a letter to the next, and by which a refused picture passes a bound,
+ * at least. */
+enum { TEETH = 2, LETTER = 10, PASSED = 8 };
 
 static const double MOST_SECONDS = 1e12, LEAST_SECONDS = .001;
 
@@ -97,15 +98,15 @@ static void set_time(struct sheet *s)
     s->good = s->end < d->count ? s->end : d->count;
 }
 
-/* The bits to show: from empty to full, and what is beyond in a refused picture up to half a buffer. */
+/* The bits to show: from empty to full, and what is beyond in a refused picture up to a third of a buffer. */
 static void set_bits(struct sheet *s)
 {
     const struct drawing *d = s->d;
     double full = d->buffer_bits > 0 ? (double)d->buffer_bits : 1;
     s->highest = full * 1.08;
     if (shows_refused(s)) {
-        s->highest = within(d->bad.before * 1.05, s->highest, full * 1.5);
-        s->lowest = within(d->bad.after * 1.05, full * -.5, full * -.08);
+        s->highest = within(d->bad.before * 1.05, s->highest, full * 1.3);
+        s->lowest = within(d->bad.after * 1.05, full * -.3, full * -.08);
     }
     for (size_t n = s->first; n < s->good; n++) {
         const struct removal *r = d->of + n;
@@ -137,7 +138,7 @@ static void set_field(struct sheet *s)
     char label[LABEL_BYTES];
     s->left = MARGIN + 26 + text_width(grouped((uint64_t)s->highest, label), LETTERS);
     s->right = WIDTH - AFTER;
-    s->top = WORDS + 14 + word_lines(s) * WORDS_APART;
+    s->top = WORDS + 20 + word_lines(s) * WORDS_APART;
     s->bottom = HEIGHT - BELOW;
 }
 
@@ -159,6 +160,8 @@ static void heading(const struct sheet *s)
                 grouped(removal(d, s->end - 1)->picture, last));
     else if (s->end > s->first)
         fprintf(s->to, ", picture %s", grouped(removal(d, s->first)->picture, first));
+    else
+        fprintf(s->to, ", no picture removed");
     if (s->missed)
         fprintf(s->to, "; nothing is at the time asked for, so all is drawn");
     if (d->mark != NULL && !shows_refused(s))
@@ -239,16 +242,15 @@ struct column {
     double least, most;
 };
 
-/* How many columns: two pictures to each, if there are as many, and a pixel at least. */
+/* How many columns: about a pixel each. */
 static size_t columns(const struct sheet *s)
 {
-    size_t pixels = (size_t)(s->right - s->left), pairs = (s->good - s->first) / 2;
-    return pairs < pixels ? pairs : pixels;
+    return (size_t)(s->right - s->left);
 }
 
 static int is_band(const struct sheet *s)
 {
-    return (double)(s->good - s->first) * TOOTH > s->right - s->left;
+    return s->good - s->first > columns(s) * TEETH;
 }
 
 static void fill_columns(const struct sheet *s, struct column *c, size_t count)
@@ -299,8 +301,8 @@ static void bounds(const struct sheet *s)
     double full = up(s, (double)s->d->buffer_bits), empty = up(s, 0);
     fprintf(s->to, "<g stroke='#c00' stroke-width='1.5'><path id='empty' d='M%.2f %.2fH%.2f'/><path id='full' d='M%.2f %.2fH%.2f'/>"
                    "</g>\n", s->left, empty, s->right, s->left, full, s->right);
-    fprintf(s->to, "<g fill='#c00'><text x='%.2f' y='%.2f'>full</text><text x='%.2f' y='%.2f'>empty</text></g>\n", s->right + 8,
-            full + 4.5, s->right + 8, empty + 4.5);
+    fprintf(s->to, "<g fill='#c00'><text x='%.2f' y='%.2f'>%s</text><text x='%.2f' y='%.2f'>empty</text></g>\n", s->right + 8,
+            full + 4.5, full < empty ? "full" : "", s->right + 8, empty + 4.5);
 }
 
 static int has_letter(const struct removal *r, int all)
@@ -329,7 +331,7 @@ static void letters(const struct sheet *s, int all)
     for (size_t n = s->first; n < s->end; n++) {
         const struct removal *r = removal(s->d, n);
         if (has_letter(r, all))
-            fprintf(s->to, "<text x='%.2f' y='%.2f'%s>%c</text>\n", across(s, r->seconds), s->top - 2,
+            fprintf(s->to, "<text x='%.2f' y='%.2f'%s>%c</text>\n", across(s, r->seconds), s->top - 8,
                     n < s->good ? "" : " fill='#c00'", r->type);
     }
     fprintf(s->to, "</g>\n");
@@ -348,18 +350,25 @@ static double bad_foot(const struct sheet *s)
     return is_under(s->d) ? within(up(s, 0) + PASSED, y, s->bottom) : y;
 }
 
-/* The rise to the refused picture and its tooth. */
+/* When the rise to the refused picture reaches a height; its removal where it does not. */
+static double reached(const struct drawing *d, double bits)
+{
+    double start = d->count > 0 ? d->of[d->count - 1].seconds : 0, from = held(d, d->count, start);
+    return d->bad.before > bits ? start + (d->bad.seconds - start) * (bits - from) / (d->bad.before - from) : d->bad.seconds;
+}
+
+/* The rise to the refused picture, red where it is beyond full and broken where it is beyond the field; then its tooth. */
 static void bad_tooth(const struct sheet *s)
 {
     const struct drawing *d = s->d;
-    size_t n = d->count;
-    double start = n > s->first ? d->of[n - 1].seconds : s->from, x = across(s, d->bad.seconds);
-    double from = n > s->first ? d->of[n - 1].after : held(d, n, start);
-    double reached = d->bad.seconds;
-    if (d->bad.before > s->highest) /* leaves the field on the way */
-        reached = start + (d->bad.seconds - start) * (s->highest - from) / (d->bad.before - from);
-    fprintf(s->to, "<path id='refused' fill='none' stroke='#c00' stroke-width='1.5' d='M%.2f %.2fL%.2f %.2fH%.2fV%.2fV%.2f'/>\n",
-            across(s, start), up(s, from), across(s, reached), up(s, d->bad.before), x, bad_peak(s), bad_foot(s));
+    double start = d->count > s->first ? d->of[d->count - 1].seconds : s->from, full = (double)d->buffer_bits;
+    double passed = reached(d, full), left = reached(d, s->highest), x = across(s, d->bad.seconds);
+    fprintf(s->to, "<path id='last' stroke='#0a4a8f' stroke-width='1.2' d='M%.2f %.2fL%.2f %.2f'/>\n", across(s, start),
+            up(s, held(d, d->count, start)), across(s, passed), up(s, held(d, d->count, passed)));
+    fprintf(s->to, "<g id='refused' stroke='#c00' stroke-width='1.5'><path d='M%.2f %.2fL%.2f %.2f'/>", across(s, passed),
+            up(s, held(d, d->count, passed)), across(s, left), up(s, held(d, d->count, left)));
+    fprintf(s->to, "<path stroke-dasharray='4 3' d='M%.2f %.2fH%.2f'/><path d='M%.2f %.2fV%.2f'/></g>\n", across(s, left),
+            up(s, d->bad.before), x, x, bad_peak(s), bad_foot(s));
 }
 
 /* The words in lines, above the place where the mark's line begins. */
@@ -381,7 +390,7 @@ static void mark(const struct sheet *s)
     double x = across(s, s->d->bad.seconds), y = is_over(s->d) || !is_under(s->d) ? bad_peak(s) : bad_foot(s);
     bad_tooth(s);
     bad_words(s, x);
-    fprintf(s->to, "<path stroke='#c00' stroke-dasharray='4 3' d='M%.2f %.2fV%.2f'/>\n", x, s->top + 2, y);
+    fprintf(s->to, "<path stroke='#c00' stroke-dasharray='4 3' d='M%.2f %.2fV%.2f'/>\n", x, s->top - 4, y);
     fprintf(s->to, "<path id='mark' stroke='#c00' stroke-width='2.5' d='M%.2f %.2fl12 12m0 -12l-12 12'/>\n", x - 6, y - 6);
 }
 

@@ -2,8 +2,8 @@
  *
  *     drawings              the kinds of drawing there are, a line each
  *     drawings KIND         one of them, as an SVG
- *     drawings KIND list    what it shows: bits of the buffer, and the time asked for; then each removal's time, bits before and
- *                           after, and type, the refused one last
+ *     drawings KIND list    what it is of: bits of the buffer, the time asked for, 1 if refused; then each removal's time, bits
+ *                           before and after, and type, the refused one last
  *     drawings FILE [list]  that of a file, which must be an MPEG-2 stream that is accepted
  *
  * Exit status 2: bad use, or no such kind or stream. */
@@ -51,6 +51,8 @@ static const struct kind kinds[] = {
     { "nothing", 0, 4000000, 1835008, NULL, 0, 0, 0, 0, .8, "nothing.m2v" },
     { "no-buffer", 0, 4000000, 0, OVERFLOW, 1, 0, 0, 0, .8, "no-buffer.m2v" },
     { "minute", 1500, 4000000, 1835008, NULL, 0, 0, 0, 0, .8, "minute.m2v" },
+    { "half-minute", 750, 4000000, 1835008, NULL, 0, 0, 0, 0, .8, "half-minute.m2v" },
+    { "two-minutes", 3000, 4000000, 1835008, NULL, 0, 0, 0, 0, .8, "two-minutes.m2v" },
     { "many", 100000, 4000000, 1835008, NULL, 0, 0, 0, 0, .8, "many.m2v" },
     { "many-refused", 90000, 4000000, 1835008, MISMATCH, 0, .6, 0, 0, .8, "many-refused.m2v" },
     { "many-closer", 100000, 4000000, 1835008, NULL, 0, 0, 600, 603.5, .8, "many-closer.m2v" },
@@ -157,7 +159,7 @@ static struct removal *fill_file(const char *name, struct drawing *d)
 
 static void list(const struct drawing *d)
 {
-    printf("%llu %.17g %.17g\n", (unsigned long long)d->buffer_bits, d->from, d->to);
+    printf("%llu %.17g %.17g %d\n", (unsigned long long)d->buffer_bits, d->from, d->to, d->mark != NULL);
     for (size_t n = 0; n < d->count + (d->mark != NULL); n++) {
         const struct removal *r = n < d->count ? d->of + n : &d->bad;
         printf("%.17g %.17g %.17g %c\n", r->seconds, r->before, r->after, r->type);
