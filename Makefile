@@ -21,18 +21,19 @@ endif
 
 # The sources of each C program.
 reading = tools/stream.c tools/input.c tools/container.c c/refusal_text.c
-vbvreport = tools/vbvreport.c tools/plot.c tools/report.c tools/look.c tools/place.c tools/caution.c tools/words.c tools/script.c \
-    $(wildcard tools/label.c) $(reading)
+vbvreport = tools/vbvreport.c tools/plot.c tools/label.c tools/report.c tools/look.c tools/place.c tools/caution.c tools/words.c \
+    tools/script.c $(reading)
 cbrsend = tools/cbrsend.c tools/sending.c tools/split.c tools/why.c tools/report.c $(reading)
 entries = tests/c/entries.c tests/c/places.c
 sender = tests/c/sender.c tests/c/channel.c tests/c/rules.c tests/c/places.c
 stamp = tests/c/stamp.c
+drawings = tests/c/drawings.c tools/plot.c tools/label.c
 readme = target/tests/readme.c
 
 TOOLS = tools/vbvreport tools/cbrsend
-TESTS = $(addprefix target/tests/,entries sender stamp readme)
+TESTS = $(addprefix target/tests/,entries sender stamp drawings readme)
 SANITIZED_TOOLS = $(addprefix target/sanitized/,vbvreport cbrsend)
-SANITIZED_TESTS = $(addprefix target/sanitized/,entries sender stamp readme)
+SANITIZED_TESTS = $(addprefix target/sanitized/,entries sender stamp drawings readme)
 SANITIZED = $(SANITIZED_TOOLS) $(SANITIZED_TESTS)
 
 all: $(LIB) $(TOOLS)
@@ -49,8 +50,8 @@ target/tests/readme.c: README.md
 
 $(TOOLS) $(SANITIZED_TOOLS): CFLAGS += $(AVFORMAT_CFLAGS)
 $(TOOLS) $(SANITIZED_TOOLS): LIBS = $(AVFORMAT_LIBS)
-$(TESTS): CFLAGS += -gdwarf-4
-$(SANITIZED): CFLAGS += -g -fsanitize=address,undefined -fno-sanitize-recover=all
+$(TESTS): CFLAGS += -Itools -gdwarf-4
+$(SANITIZED): CFLAGS += -Itools -g -fsanitize=address,undefined -fno-sanitize-recover=all
 .SECONDEXPANSION:
 $(TOOLS) $(TESTS) $(SANITIZED): $$($$(notdir $$@)) $(HEADERS) $(LIB)
 	@mkdir -p $(@D)
