@@ -193,23 +193,32 @@ static int agrees(const struct answer *a, const struct place *p, uint64_t positi
     return ticks == a->refusal.expected;
 }
 
-/* When the refused picture is removed, and by how much too early or too late. Left untold where it would not agree with the
+/* When the picture is due, by those before it, and what the buffer holds then. */
+static void find_time(const struct question *q, struct place *p)
+{
+    const struct answer *a = q->a;
+    struct stream first = part(q->s, a->shown[0].at, q->s->length);
+    uint64_t halves = 0, before = p->picture > 0 ? BYTE * a->shown[p->picture - 1].end : 0;
+    for (size_t n = 0; n < p->picture; n++)
+        halves += a->shown[n].halves;
+    p->delivered = delivered_after(a, field_value(&first, DELAY), halves);
+    p->timed = p->delivered.whole >= before;
+    p->held = less(p->delivered, p->timed ? before : 0);
+}
+
+/* When the refused picture is due, and by how much too early or too late. Left untold where it would not agree with the
  * library. */
 static void measure(const struct question *q, struct place *p)
 {
     const struct answer *a = q->a;
-    uint64_t halves = 0, buffer = a->declared.buffer_bits;
-    struct stream first = part(q->s, a->shown[0].at, q->s->length);
-    for (size_t n = 0; n < p->picture; n++)
-        halves += a->shown[n].halves;
-    uint64_t before = p->picture > 0 ? BYTE * a->shown[p->picture - 1].end : 0;
+    uint64_t buffer = a->declared.buffer_bits;
     uint64_t position = BYTE * (a->shown[p->picture].at + CODE_BYTES), end = BYTE * a->shown[p->picture].end;
-    p->delivered = delivered_after(a, field_value(&first, DELAY), halves);
+    find_time(q, p);
     if (!agrees(a, p, position, end))
-        return;
-    p->timed = p->delivered.whole >= before;
-    p->held = less(p->delivered, p->timed ? before : 0);
+        p->timed = 0;
     p->measured = p->timed;
+    if (!p->timed)
+        return;
     if (a->number == VBV_OVERFLOW && p->held.whole >= buffer)
         p->over = less(p->held, buffer);
     else if (a->number == VBV_UNDERFLOW)
@@ -220,13 +229,17 @@ static void measure(const struct question *q, struct place *p)
         p->measured = 0;
 }
 
-/* The records of the pictures before the refused one, where these are accepted. */
+/* The records of the pictures before the refused one, where these are accepted; after them a picture whose header is refused has
+ * a time too. */
 static void take_records(const struct question *q)
 {
     struct answer *a = q->a;
     size_t pictures = a->place.picture;
-    if (a->place.in_picture && pictures > 0 && verdict_of_first(q, pictures) == 0)
-        a->recorded = pictures;
+    if (!a->place.in_picture || pictures == 0 || verdict_of_first(q, pictures) != 0)
+        return;
+    a->recorded = pictures;
+    if (is_header_refusal(a->number))
+        find_time(q, &a->place);
 }
 
 static void place_refusal(const struct question *q)
