@@ -29,10 +29,12 @@ sender = tests/c/sender.c tests/c/channel.c tests/c/rules.c tests/c/places.c
 stamp = tests/c/stamp.c
 drawings = tests/c/drawings.c tools/plot.c tools/label.c
 readme = target/tests/readme.c
+fuzz-vbvreport = tests/c/fuzz.c $(vbvreport)
+fuzz-cbrsend = tests/c/fuzz.c $(cbrsend)
 
 TOOLS = tools/vbvreport tools/cbrsend
 TESTS = $(addprefix target/tests/,entries sender stamp drawings readme)
-SANITIZED_TOOLS = $(addprefix target/sanitized/,vbvreport cbrsend)
+SANITIZED_TOOLS = $(addprefix target/sanitized/,vbvreport cbrsend fuzz-vbvreport fuzz-cbrsend)
 SANITIZED_TESTS = $(addprefix target/sanitized/,entries sender stamp drawings readme)
 SANITIZED = $(SANITIZED_TOOLS) $(SANITIZED_TESTS)
 
@@ -50,6 +52,7 @@ target/tests/readme.c: README.md
 
 $(TOOLS) $(SANITIZED_TOOLS): CFLAGS += $(AVFORMAT_CFLAGS)
 $(TOOLS) $(SANITIZED_TOOLS): LIBS = $(AVFORMAT_LIBS)
+target/sanitized/fuzz-%: CFLAGS += -Dmain=tool_main -Wno-missing-prototypes
 $(TESTS): CFLAGS += -Itools -gdwarf-4
 $(SANITIZED): CFLAGS += -Itools -g -fsanitize=address,undefined -fno-sanitize-recover=all
 .SECONDEXPANSION:

@@ -37,15 +37,15 @@ static void of_headers(const struct stream *s, uint8_t standard, const struct an
     const struct look *l = &a->look;
     char text[80] = "";
     if (l->first_code > 0 && l->first_code < s->length)
-        add(c, "bytes before the first start code", "%zu bytes stand before the first start code; they count as the first "
-            "picture's data.", l->first_code);
+        add(c, "bytes before the first start code", "Bytes before the first start code: %zu. They count as the first picture's "
+            "data.", l->first_code);
     if (l->early > 0)
-        add(c, "pictures before the first sequence header", "%zu of %zu pictures stand before the first sequence header, at byte "
-            "%zu: a set cannot show them.", l->early, l->pictures, l->sequence);
+        add(c, "pictures before the first sequence header", "Pictures before the first sequence header, at byte %zu: %zu of %zu. "
+            "A set cannot show them.", l->sequence, l->early, l->pictures);
     if (l->changes > 0) {
         struct declared later = declared_at(s, l->change, standard);
-        add(c, "another sequence header", "%zu later sequence headers declare something else, the first at byte %zu (%s); only "
-            "the first of the stream is read.", l->changes, l->change, changed(&a->declared, &later, text, sizeof text));
+        add(c, "another sequence header", "Later sequence headers that declare something else: %zu, the first at byte %zu (%s). "
+            "This check reads the stream's first alone.", l->changes, l->change, changed(&a->declared, &later, text, sizeof text));
     }
 }
 
@@ -53,7 +53,7 @@ static void of_pictures(const struct answer *a, struct cautions *c)
 {
     const struct look *l = &a->look;
     if (l->repeats > 0)
-        add(c, "repeated fields", "%zu of %zu pictures repeat a field, which this check does not read: a set removes pictures "
+        add(c, "repeated fields", "Pictures that repeat a field: %zu of %zu. This check does not read that: a set removes pictures "
             "later than here, and its buffer may overflow.", l->repeats, l->pictures);
     if (a->declared.rate_extensions != 0)
         add(c, "frame rate extensions", "The frame rate extensions are not 0; this check does not read them, so that its times "
@@ -110,8 +110,8 @@ void find_cautions(const struct input *in, uint8_t standard, const struct answer
 {
     c->count = 0;
     if (in->damaged > 0)
-        add(c, "damaged packets", "%zu packets of the container are damaged or follow a lost one: bytes of the video are missing.",
-            in->damaged);
+        add(c, "damaged container", "Packets of the container that are damaged, or follow a lost one: %zu. Bytes of the video are "
+            "missing or wrong.", in->damaged);
     of_headers(&in->stream, standard, a, c);
     of_pictures(a, c);
     of_end(&in->stream, standard, a, c);

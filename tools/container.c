@@ -149,7 +149,48 @@ struct track {
 struct tracks {
     struct track *of;
     size_t count;
+    size_t faults; /* of the container, whatever the track */
 };
+
+/* What libavformat calls an error is counted, where it is about a container. */
+static void count_error(void *context, int level, const char *format, va_list values)
+{
+    (void)format;
+    (void)values;
+    if (level <= AV_LOG_ERROR && context != NULL && *(const AVClass **)context == avformat_get_class()) {
+        size_t *faults = ((AVFormatContext *)context)->opaque;
+        if (faults != NULL)
+            ++*faults;
+    }
+}
+
+/* Where the packet of a program stream at `at` ends; `at` itself where none stands there. */
+static size_t packet_end(const struct stream *s, size_t at)
+{
+    struct stream p = part(s, at, s->length);
+    if (p.length < PACK_BYTES || next_code(&p, 0) != 0 || code_at(&p, 0) < SYSTEM)
+        return at;
+    if (code_at(&p, 0) == PACK)
+        return at + ((p.bytes[4] & 0xC0) == 0x40 ? PACK_BYTES + (p.bytes[13] & 7u) : OLD_PACK_BYTES);
+    return at + (code_at(&p, 0) == SYSTEM ? CODE_BYTES : 6 + 256u * p.bytes[4] + p.bytes[5]);
+}
+
+/* How often a program stream's packets do not follow one another; libavformat passes over that without a word. */
+static size_t count_gaps(const struct stream *s)
+{
+    size_t gaps = 0;
+    for (size_t at = 0; at + PACK_BYTES <= s->length;) {
+        size_t end = packet_end(s, at);
+        if (end == at) {
+            gaps++;
+            do
+                end = next_code(s, end + 1);
+            while (end < s->length && code_at(s, end) != PACK);
+        }
+        at = end;
+    }
+    return gaps;
+}
 
 static int read_bytes(void *opaque, uint8_t *to, int size)
 {
@@ -179,7 +220,7 @@ static int64_t seek_bytes(void *opaque, int64_t offset, int whence)
 }
 
 /* Opens the container, its packets left as they are. NULL where it cannot be read. */
-static AVFormatContext *open_container(const struct container *c, struct source_bytes *from)
+static AVFormatContext *open_container(const struct container *c, struct source_bytes *from, size_t *faults)
 {
     AVFormatContext *f = avformat_alloc_context();
     void *buffer = av_malloc(BUFFER_BYTES);
@@ -192,6 +233,7 @@ static AVFormatContext *open_container(const struct container *c, struct source_
         return NULL;
     }
     f->pb = io;
+    f->opaque = faults;
     f->flags |= AVFMT_FLAG_CUSTOM_IO | AVFMT_FLAG_NOPARSE | AVFMT_FLAG_NOFILLIN;
     if (avformat_open_input(&f, NULL, av_find_input_format(c->format), NULL) == 0)
         return f;
@@ -252,12 +294,13 @@ static int take_packet(const AVFormatContext *f, const AVPacket *p, struct track
 static int take_packets(AVFormatContext *f, struct tracks *t)
 {
     AVPacket *packet = av_packet_alloc();
-    int bad = packet == NULL;
-    while (!bad && av_read_frame(f, packet) >= 0) {
+    int bad = packet == NULL, got = 0;
+    while (!bad && (got = av_read_frame(f, packet)) >= 0) {
         bad = take_packet(f, packet, t);
         av_packet_unref(packet);
     }
     av_packet_free(&packet);
+    t->faults += got != AVERROR_EOF;
     for (size_t i = 0; !bad && i < t->count; i++) {
         enum AVCodecID codec = f->streams[i]->codecpar->codec_id;
         t->of[i].id = f->streams[i]->id;
@@ -321,10 +364,10 @@ static int list_choices(const char *name, const struct container *c, const struc
 }
 
 /* Hands over one track's bytes. */
-static void hand_over(const struct container *c, struct track *t, struct input *in)
+static void hand_over(const struct container *c, struct track *t, size_t faults, struct input *in)
 {
     describe(c, t, in->about, sizeof in->about);
-    in->damaged = t->damaged;
+    in->damaged = t->damaged + faults + (c == &PROGRAM ? count_gaps(&in->stream) : 0);
     in->stream = (struct stream){ t->bytes, t->length };
     free(in->held);
     in->held = t->bytes;
@@ -353,18 +396,18 @@ static int choose(const char *name, const char *which, const struct container *c
         return way_out(name, c, "and no video was found in it");
     if (chosen == NULL || (which == NULL && choices > 1))
         return list_choices(name, c, t, which);
-    hand_over(c, chosen, in);
+    hand_over(c, chosen, t->faults, in);
     return 0;
 }
 
 int unpack(const char *name, const char *which, const struct container *c, struct input *in)
 {
     struct source_bytes from = { in->stream, 0 };
-    struct tracks t = { NULL, 0 };
+    struct tracks t = { NULL, 0, 0 };
     if (c->format == NULL)
         return way_out(name, c, "and none can be taken out");
-    av_log_set_level(AV_LOG_QUIET);
-    AVFormatContext *f = open_container(c, &from);
+    av_log_set_callback(count_error);
+    AVFormatContext *f = open_container(c, &from, &t.faults);
     if (f == NULL)
         return way_out(name, c, "and libavformat cannot read it");
     int status = take_packets(f, &t) != 0 ? trouble(name, "no memory for its video") : choose(name, which, c, &t, in);
