@@ -33,7 +33,7 @@ fuzz-vbvreport = tests/c/fuzz.c $(vbvreport)
 fuzz-cbrsend = tests/c/fuzz.c $(cbrsend)
 
 TOOLS = tools/vbvreport tools/cbrsend
-TESTS = $(addprefix target/tests/,entries sender stamp drawings readme)
+TESTS = $(addprefix target/tests/,entries sender stamp drawings readme vbvreport)
 SANITIZED_TOOLS = $(addprefix target/sanitized/,vbvreport cbrsend fuzz-vbvreport fuzz-cbrsend)
 SANITIZED_TESTS = $(addprefix target/sanitized/,entries sender stamp drawings readme)
 SANITIZED = $(SANITIZED_TOOLS) $(SANITIZED_TESTS)

@@ -119,6 +119,8 @@ static int way_out(const char *name, const struct container *c, const char *why)
 
 #ifndef HAVE_AVFORMAT
 
+const char CONTAINERS[] = "without libavformat";
+
 int unpack(const char *name, const char *which, const struct container *c, struct input *in)
 {
     (void)which;
@@ -129,6 +131,8 @@ int unpack(const char *name, const char *which, const struct container *c, struc
 #else
 
 #include <libavformat/avformat.h>
+
+const char CONTAINERS[] = "with libavformat";
 
 enum { BUFFER_BYTES = 1 << 16 };
 

@@ -11,6 +11,9 @@ struct container {
     const char *word;   /* what a stream's number in it is called: "PID"; NULL where it is not told */
 };
 
+/* Whether containers are taken apart: "with libavformat", or "without libavformat". */
+extern const char CONTAINERS[];
+
 /* The container that the bytes are; NULL for an elementary stream, or for what cannot be told. */
 const struct container *container_of(const struct stream *s);
 

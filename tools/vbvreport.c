@@ -1,6 +1,7 @@
 /* vbvreport: the buffer report of streams and recordings. All judgement is the library's. */
 #define _XOPEN_SOURCE 700
 #include "caution.h"
+#include "container.h"
 #include "hipokuta.h"
 #include "input.h"
 #include "place.h"
@@ -290,6 +291,12 @@ static int print(const char *text)
     return fputs(text, stdout) < 0 || fflush(stdout) != 0 ? TROUBLE : 0;
 }
 
+static int print_version(void)
+{
+    printf("vbvreport (Hipokuta) %s, %s\n", HIPOKUTA_VERSION, CONTAINERS);
+    return print("");
+}
+
 static int check_files(char **names, const struct options *o)
 {
     int status = ACCEPTED;
@@ -311,7 +318,7 @@ int main(int count, char **words)
         if (option == 'h')
             return print(help);
         if (option == VERSION)
-            return print("vbvreport (Hipokuta) " HIPOKUTA_VERSION "\n");
+            return print_version();
         const char *bad = take_option(&o, option);
         why = why != NULL ? why : bad;
     }
