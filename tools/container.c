@@ -25,7 +25,7 @@ static const struct {
     { 0, "\x30\x26\xB2\x75", { "ASF file", "asf", NULL } },
     { 0, "OggS", { "Ogg file", NULL, NULL } },
     { 8, "WAVE", { "WAVE file", NULL, NULL } },
-    { 0, "\x1F\x8B", { "gzip file", NULL, NULL } },
+    { 0, "\x1F\x8B\x08", { "gzip file", NULL, NULL } },
     { 0, "PK\x03\x04", { "zip file", NULL, NULL } },
     { 0, "\xFD" "7zXZ", { "xz file", NULL, NULL } },
     { 0, "\x28\xB5\x2F\xFD", { "zstd file", NULL, NULL } },
@@ -36,7 +36,7 @@ static const struct {
 
 /* Transport packets are looked for this far from the front; pack headers further. */
 enum { PACKETS_WITHIN = 1 << 16, PACKS_WITHIN = 1 << 20, SYNC = 0x47, SYNCS = 5 };
-enum { PACK = 0xBA, PACK_BYTES = 14, OLD_PACK_BYTES = 12, PES = 0xBC };
+enum { PACK = 0xBA, PACK_BYTES = 14, OLD_PACK_BYTES = 12 };
 
 /* Packets of this size from here on: five in a row, or three or more up to the end. */
 static int packets_at(const struct stream *s, size_t at, size_t size)
@@ -73,7 +73,7 @@ static int is_program(const struct stream *s)
 {
     struct stream front = part(s, 0, s->length < PACKS_WITHIN ? s->length : PACKS_WITHIN);
     size_t at = next_code(&front, 0);
-    if (code_at(&front, at) == PACK || code_at(&front, at) >= PES)
+    if (code_at(&front, at) >= SYSTEM)
         return 1;
     while (at < front.length && !is_pack(&front, at))
         at = next_code(&front, at + CODE_BYTES);

@@ -56,8 +56,9 @@ struct options {
     double from, to;
 };
 
-/* The file that is worked on, for the signal handler. */
+/* The file that is worked on, and whether that was said, for the signal handler. */
 static const char *volatile at_work;
+static volatile sig_atomic_t said;
 
 static void say(const char *text)
 {
@@ -72,6 +73,7 @@ static void on_alarm(int number)
     say(program);
     say(": still at work on ");
     say(at_work);
+    said = 1;
 }
 
 /* On a terminal, says after two seconds and then each second that there is work going on. */
@@ -91,6 +93,9 @@ static void end_progress(void)
 {
     struct itimerval none = { { 0, 0 }, { 0, 0 } };
     setitimer(ITIMER_REAL, &none, NULL);
+    if (said)
+        say("\r\033[K");
+    said = 0;
 }
 
 /* The refused picture's removal; false where it is not told. */
@@ -243,10 +248,17 @@ static double seconds(const char *text)
 enum { FROM = 256, TO, JSON_FORM, CSV_FORM, STRICT, STREAM, VERSION };
 
 static const struct option long_options[] = {
-    { "records", no_argument, NULL, 'r' },     { "plot", required_argument, NULL, 'p' },   { "from", required_argument, NULL, FROM },
-    { "to", required_argument, NULL, TO },     { "json", no_argument, NULL, JSON_FORM },   { "csv", no_argument, NULL, CSV_FORM },
-    { "strict", no_argument, NULL, STRICT },   { "stream", required_argument, NULL, STREAM }, { "version", no_argument, NULL, VERSION },
-    { "help", no_argument, NULL, 'h' },        { NULL, 0, NULL, 0 },
+    { "records", no_argument, NULL, 'r' },
+    { "plot", required_argument, NULL, 'p' },
+    { "from", required_argument, NULL, FROM },
+    { "to", required_argument, NULL, TO },
+    { "json", no_argument, NULL, JSON_FORM },
+    { "csv", no_argument, NULL, CSV_FORM },
+    { "strict", no_argument, NULL, STRICT },
+    { "stream", required_argument, NULL, STREAM },
+    { "version", no_argument, NULL, VERSION },
+    { "help", no_argument, NULL, 'h' },
+    { NULL, 0, NULL, 0 },
 };
 
 /* Takes an option. Returns NULL, or what is wrong with it. */
