@@ -24,19 +24,22 @@ reading = tools/stream.c tools/input.c tools/container.c c/refusal_text.c
 vbvreport = tools/vbvreport.c tools/plot.c tools/label.c tools/report.c tools/look.c tools/place.c tools/caution.c tools/words.c \
     tools/script.c $(reading)
 cbrsend = tools/cbrsend.c tools/sending.c tools/split.c tools/why.c tools/report.c $(reading)
-entries = tests/c/entries.c tests/c/places.c
-sender = tests/c/sender.c tests/c/channel.c tests/c/rules.c tests/c/places.c
+entries = tests/c/entries.c tests/c/places.c c/refusal_text.c
+sender = tests/c/sender.c tests/c/channel.c tests/c/rules.c tests/c/places.c c/refusal_text.c
+texts = tests/c/texts.c c/refusal_text.c
+structs = tests/c/structs.c
 stamp = tests/c/stamp.c
 drawings = tests/c/drawings.c tools/plot.c tools/label.c
-readme = target/tests/readme.c
+readme_check = target/tests/readme_check.c c/refusal_text.c
+readme_send = target/tests/readme_send.c c/refusal_text.c
 fuzz-vbvreport = tests/c/fuzz.c $(vbvreport)
 fuzz-cbrsend = tests/c/fuzz.c $(cbrsend)
 
 TOOLS = tools/vbvreport tools/cbrsend
-TESTS = $(addprefix target/tests/,entries sender stamp drawings readme vbvreport)
-SANITIZED_TOOLS = $(addprefix target/sanitized/,vbvreport cbrsend fuzz-vbvreport fuzz-cbrsend)
-SANITIZED_TESTS = $(addprefix target/sanitized/,entries sender stamp drawings readme)
-SANITIZED = $(SANITIZED_TOOLS) $(SANITIZED_TESTS)
+PROGRAMS = entries sender texts structs stamp drawings readme_check readme_send
+TESTS = $(addprefix target/tests/,$(PROGRAMS) vbvreport)
+SANITIZED_TOOLS = $(addprefix target/sanitized/,$(notdir $(TOOLS)) fuzz-vbvreport fuzz-cbrsend)
+SANITIZED = $(SANITIZED_TOOLS) $(addprefix target/sanitized/,$(PROGRAMS))
 
 all: $(LIB) $(TOOLS)
 test-c: $(TESTS)
@@ -45,10 +48,12 @@ sanitized: $(SANITIZED)
 $(LIB): $(PROVED)
 	rt staticlib hipokuta
 
-# The program that stands in README.md.
-target/tests/readme.c: README.md
+# The programs that stand in README.md, the first and the second.
+target/tests/readme_check.c: nth = 1
+target/tests/readme_send.c: nth = 2
+target/tests/readme_check.c target/tests/readme_send.c: README.md
 	@mkdir -p $(@D)
-	awk '$$0 == "```" { inside = 0 } inside; $$0 == "```c" { inside = 1 }' README.md >$@
+	awk -v nth=$(nth) '$$0 == "```" { inside = 0 } inside; $$0 == "```c" { inside = ++seen == nth }' README.md >$@
 
 $(TOOLS) $(SANITIZED_TOOLS): CFLAGS += $(AVFORMAT_CFLAGS)
 $(TOOLS) $(SANITIZED_TOOLS): LIBS = $(AVFORMAT_LIBS)
@@ -60,8 +65,29 @@ $(TOOLS) $(TESTS) $(SANITIZED): $$($$(notdir $$@)) $(HEADERS) $(LIB)
 	@mkdir -p $(@D)
 	$(CC) $(CFLAGS) $(filter %.c,$^) $(LIB) $(LIBS) -o $@
 
+# What is installed, by the folder below PREFIX that it goes to.
+PREFIX = /usr/local
+TO = $(DESTDIR)$(PREFIX)
+FOLDERS = bin lib lib/pkgconfig include share/hipokuta share/man/man1 share/man/man3
+bin = $(TOOLS)
+lib = $(LIB)
+lib/pkgconfig = target/hipokuta.pc
+include = include/hipokuta.h
+share/hipokuta = c/refusal_text.c
+share/man/man1 = man/vbvreport.1 man/cbrsend.1
+share/man/man3 = man/hipokuta.3
+
+install: all
+	sed 's,@PREFIX@,$(PREFIX),; s,@VERSION@,$(VERSION),' hipokuta.pc.in >target/hipokuta.pc
+	install -d $(FOLDERS:%="$(TO)/%")
+	$(foreach folder,$(FOLDERS),install -m $(if $(filter bin,$(folder)),755,644) $($(folder)) "$(TO)/$(folder)" &&) :
+
+uninstall:
+	rm -f $(foreach folder,$(FOLDERS),$(patsubst %,"$(TO)/$(folder)/%",$(notdir $($(folder)))))
+	if [ -d "$(TO)/share/hipokuta" ]; then rmdir "$(TO)/share/hipokuta"; fi
+
 clean:
 	rm -rf $(TOOLS) target/tests target/sanitized target/bench $(LIB)
 
 .DELETE_ON_ERROR:
-.PHONY: all test-c sanitized clean
+.PHONY: all test-c sanitized install uninstall clean

@@ -1,10 +1,10 @@
 /* Hipokuta: the buffer model of ISO/IEC 13818-2, Annex C, at a constant rate, proved: the check of an MPEG stream, and the
  * writer of an MPEG-2 one.
  *
- * Numbers in lent bytes are 64-bit words, low byte first; docs/LAYOUT.md has each layout byte by byte. Pointers need no
- * alignment. A null pointer may stand with the length 0, and with no other. What a call may write must not overlap
- * anything else that the same call is lent. Nothing is kept between calls but what the caller holds, no memory is
- * allocated, and calls may run at the same time on different memory.
+ * A program links the archive, libhipokuta.a, and lends each call its bytes. The structs below lie over the places that a call
+ * writes: numbers are 64-bit words, low byte first (docs/LAYOUT.md). Pointers need no alignment. A null pointer may stand with
+ * the length 0, and with no other. What a call may write must not overlap anything else that the same call is lent. Nothing is
+ * kept between calls but what the caller holds, no memory is allocated, and calls may run at the same time on different memory.
  */
 #ifndef HIPOKUTA_H
 #define HIPOKUTA_H
@@ -21,104 +21,113 @@ extern "C" {
 #define VBV_MPEG1 1
 #define VBV_MPEG2 2
 
-/* Refusals: the value that an entry returns, where it is not 0 (docs/REFUSALS.md). */
+/* Refusals: the value that an entry returns, where it is not 0 (docs/REFUSALS.md). No entry returns any other number. */
 enum {
-    VBV_SHORT_HEADER = 1,   /* the bytes end inside a header */
-    VBV_BAD_HEADER = 2,     /* a header with a value, code or prefix that it must not have */
-    VBV_NO_SEQUENCE = 3,    /* no sequence header */
-    VBV_NO_PICTURE = 4,     /* no picture */
-    VBV_VARIABLE_RATE = 5,  /* the first delay is 0xFFFF */
-    VBV_FRAME_RATE = 6,     /* a frame rate code that is not 1 to 8 */
-    VBV_EARLY = 7,          /* a picture's start code lies beyond the bits delivered at its removal */
-    VBV_DELAY_TOO_LONG = 8, /* an expected delay above 0xFFFE */
-    VBV_OVERFLOW = 9,       /* the buffer overflows */
-    VBV_UNDERFLOW = 10,     /* a picture is not yet all delivered at its removal */
+    VBV_SHORT_HEADER = 1,    /* the bytes end inside a header */
+    VBV_BAD_HEADER = 2,      /* a header with a value, code or prefix that it must not have */
+    VBV_NO_SEQUENCE = 3,     /* no sequence header */
+    VBV_NO_PICTURE = 4,      /* no picture */
+    VBV_VARIABLE_RATE = 5,   /* the first delay is 0xFFFF */
+    VBV_FRAME_RATE = 6,      /* a frame rate code that is not 1 to 8 */
+    VBV_EARLY = 7,           /* a picture's start code lies beyond the bits delivered at its removal */
+    VBV_DELAY_TOO_LONG = 8,  /* an expected delay above 0xFFFE */
+    VBV_OVERFLOW = 9,        /* the buffer overflows */
+    VBV_UNDERFLOW = 10,      /* a picture is not yet all delivered at its removal */
     VBV_DELAY_MISMATCH = 11, /* coded and expected delay are more than a tick apart */
-    VBV_PARAMETER = 12,     /* a parameter out of its range, a buffer of above 65,534 ticks, or state bytes that hold no writer */
-    VBV_TOO_FAR = 14,       /* the stream passes 2^48 bits */
-    VBV_RECORD_PLACES = 15, /* fewer record places than pictures */
-    CBR_OTHER_KIND = 17,    /* another kind is pending, or the last picture was placed */
-    CBR_HEADERS = 18,       /* the headers do not fit */
-    CBR_ROOM = 19,          /* the output part, or a place for a report, refusal, answer or new state, is too short */
-    CBR_LAYER = 20,         /* the layer does not fit, or no picture header to patch */
-    CBR_TOO_LARGE = 21,     /* too large at quantiser 31 */
-    CBR_STUFFING = 22       /* the stuffed end lies beyond the bits delivered */
+    VBV_PARAMETER = 12,      /* a parameter out of range, a buffer of above 65,534 ticks, or state bytes that hold no writer */
+    VBV_TOO_FAR = 14,        /* the stream passes 2^48 bits */
+    VBV_RECORD_PLACES = 15,  /* fewer record places than pictures */
+    CBR_OTHER_KIND = 17,     /* another kind is pending, or the last picture was placed */
+    CBR_HEADERS = 18,        /* the headers do not fit: see cbr_offer */
+    CBR_ROOM = 19,           /* the output part, or a place for a report, refusal, answer or new state, is too short */
+    CBR_LAYER = 20,          /* the layer does not fit: see cbr_offer; or no picture header to patch */
+    CBR_TOO_LARGE = 21,      /* too large at quantiser 31 */
+    CBR_STUFFING = 22        /* the stuffed end lies beyond the bits delivered */
 };
 
-/* A refusal's name, such as "overflow", and what it means for a set or for whoever sends, both in a sentence or less; NULL for a
- * number that is none. Not in the archive: a program that wants them links c/refusal_text.c too. */
+/* A refusal's name, such as "overflow"; and in one line what it means and what to do. Both NULL for a number that is none.
+ * They are not in the archive: a program that wants them compiles c/refusal_text.c too. */
 const char *vbv_refusal_name(uint64_t number);
 const char *vbv_refusal_text(uint64_t number);
 
-/* Bytes of a report, of each record, and of a refusal, and structs that lie over them. */
+/* ---- the check ---- */
+
+/* Bytes of a report, of each record, and of a refusal, and the structs that lie over them. */
 #define VBV_REPORT_BYTES 40
 #define VBV_RECORD_BYTES 32
 #define VBV_REFUSAL_BYTES 32
 
 struct vbv_report {
-    uint64_t bit_rate;    /* R, bits a second */
-    uint64_t buffer_bits; /* B */
-    uint64_t pictures;
-    uint64_t min_after;  /* bits, the least left after a removal */
-    uint64_t max_before; /* bits, the most held before a removal */
+    uint64_t bit_rate;    /* bits a second, as the sequence header says */
+    uint64_t buffer_bits; /* what the receiver's buffer holds, as it says */
+    uint64_t pictures;    /* in the stream: so many record places are needed */
+    uint64_t min_after;   /* bits, the least left after a removal */
+    uint64_t max_before;  /* bits, the most held before a removal */
 };
 
 struct vbv_record {
-    uint64_t delay;     /* as coded, in ticks of 1/90,000 s */
-    uint64_t expected;  /* the delay that the model expects */
-    uint64_t data_bits; /* from the last picture's end to this one's */
+    uint64_t delay;            /* as coded, in ticks of 1/90,000 s */
+    uint64_t expected;         /* the delay that the model expects */
+    uint64_t data_bits;        /* from the last picture's end to this one's */
     uint64_t occupancy_before; /* bits held just before the removal */
 };
 
 struct vbv_refusal {
     uint64_t number;
-    uint64_t picture, coded, expected; /* of 9, 10 and 11; else 0 */
+    uint64_t picture;         /* the first is 0 */
+    uint64_t coded, expected; /* its delay, and the model's. All three are of 9, 10 and 11, else 0 */
 };
 
-/* Checks a stream. Returns 0 where it is accepted, else the number of the refusal (docs/REFUSALS.md).
+/* Checks a stream. Returns 0 where it is accepted, else the number of the refusal.
  *
- * Accepted: report holds bit_rate, buffer_bits, pictures, min_after, max_before; records holds for each picture, in
- * order, delay, expected, data_bits, occupancy_before. refusal is untouched.
- * Refused: refusal holds number, picture, coded, expected; report and records are untouched.
+ * Accepted: report holds a struct vbv_report, records one struct vbv_record for each picture, in order; refusal is untouched.
+ * Refused: refusal holds a struct vbv_refusal; report and records are untouched.
  * Bytes of a place after what is written stay as they were.
  *
- * standard is VBV_MPEG1 or VBV_MPEG2, else 12. There are records_len / VBV_RECORD_BYTES record places; fewer than pictures is 15.
- * A report_len under VBV_REPORT_BYTES or a refusal_len under VBV_REFUSAL_BYTES is 19, before anything else; a refusal place
- * that is too short is untouched.
+ * standard is VBV_MPEG1 or VBV_MPEG2, else 12. There are records_len / VBV_RECORD_BYTES record places; fewer than pictures is
+ * 15: vbv_report, which takes none, tells in pictures how many are needed. A report_len under VBV_REPORT_BYTES or a refusal_len
+ * under VBV_REFUSAL_BYTES is 19, before anything else; a refusal place that is too short is untouched.
  */
 uint64_t vbv_check(const uint8_t *stream, size_t stream_len, uint8_t standard,
-                   uint8_t *report, size_t report_len,
-                   uint8_t *records, size_t records_len,
-                   uint8_t *refusal, size_t refusal_len);
+                   void *report, size_t report_len,
+                   void *records, size_t records_len,
+                   void *refusal, size_t refusal_len);
 
 /* Writes vbv_delay into the picture header that begins at picture, all other bits staying as they were. Returns 0, or 20
  * with nothing changed where there are fewer than 8 bytes or they do not begin 00 00 01 00.
  */
 uint64_t vbv_patch_delay(uint8_t *picture, size_t picture_len, uint16_t vbv_delay);
 
-/* Bytes of a writer's state, and of the answer to an offer, and structs that lie over them. */
+/* ---- the writer ---- */
+
+/* Bytes of a writer's state, and of the answer to an offer, and the structs that lie over them. A program may copy a state and
+ * go on from the copy; it reads the words, and writes none. */
 #define CBR_STATE_BYTES 152
 #define CBR_ANSWER_BYTES 72
 
 struct cbr_state {
-    uint64_t bit_rate, buffer_size_bits, frn, frd, whole, rest, prev_end_bits;
-    uint64_t removed;        /* pictures placed */
-    uint64_t started;        /* 1 once a picture was placed */
-    uint64_t target_bits[3]; /* for I, P and B */
-    uint64_t q[3];           /* the quantisers to encode the next I, P and B picture with: q[CBR_I] */
-    uint64_t pending;        /* 0 none, or the kind + 1 of the picture that is wanted again */
-    uint64_t pending_q;      /* the quantiser to encode that with */
-    uint64_t stuffing_bytes; /* handed out as stuffing so far */
+    uint64_t bit_rate, buffer_size_bits, frn, frd; /* frn / frd frames a second */
+    uint64_t whole, rest;    /* bits delivered at the next removal, and the part of a bit above them */
+    uint64_t prev_end_bits;  /* handed out so far, stuffing too */
+    uint64_t removed;        /* pictures placed so far */
+    uint64_t started;        /* 1 once a picture was placed: from then on no sequence header */
+    uint64_t target_bits[3]; /* for I, P and B, by kind */
+    uint64_t q[3];           /* by kind: the quantiser to encode the next picture with, q[CBR_I], q[CBR_P] or q[CBR_B] */
+    uint64_t pending;        /* 0, or 1 + the kind of the picture that is wanted again */
+    uint64_t pending_q;      /* the quantiser to encode that one with; 0 where none is pending */
+    uint64_t stuffing_bytes; /* zeros handed out as stuffing so far */
     uint64_t finished;       /* 1 once the last picture was placed */
 };
 
 struct cbr_answer {
-    uint64_t outcome; /* CBR_PLACED, CBR_AGAIN or CBR_REFUSED */
-    uint64_t number, picture, coded, expected;
-    uint64_t quantiser; /* placed with, or to encode with next */
-    uint64_t delay;     /* as written into the picture's header */
-    uint64_t bytes;     /* handed out */
-    uint64_t stuffing;  /* zeros among these */
+    uint64_t outcome;         /* CBR_PLACED, CBR_AGAIN or CBR_REFUSED */
+    uint64_t number;          /* of the refusal, the value returned */
+    uint64_t picture;         /* of a 9, the first is 0 */
+    uint64_t coded, expected; /* 0 */
+    uint64_t quantiser;       /* placed with; or to encode this picture again with */
+    uint64_t delay;           /* placed: as written into the picture's header */
+    uint64_t bytes;           /* placed: handed out, the first ones of out */
+    uint64_t stuffing;        /* zeros among these */
 };
 
 /* Kinds of picture; the interval from a picture's removal to the next one's; how an answer came out. */
@@ -147,32 +156,48 @@ struct cbr_answer {
  */
 uint64_t cbr_create(uint32_t bit_rate_value, uint16_t vbv_buffer_size_value, uint8_t frame_rate_code, uint8_t quantiser,
                     uint8_t b_between, uint8_t anchors_per_gop,
-                    uint8_t *state, size_t state_len);
+                    void *state, size_t state_len);
 
-/* Offers a picture: headers to stand before it (may be none; until a picture is placed each offer brings a sequence header
- * and its extension, and after that none does), and its layer, from the picture start code to the end of the slices; the
- * delay in it may be anything. last is 1 for the stream's last picture, else 0. Returns 0, or the number of the refusal.
+/* Offers a picture. Returns 0, or the number of the refusal; answer holds a struct cbr_answer, unused words 0.
  *
- * answer holds outcome, number, picture, coded, expected, quantiser, delay, bytes, stuffing; unused words are 0.
- * CBR_PLACED: the first bytes of out are the stream's next ones, stuffing zeros among them; quantiser is the one placed
- * with. state has gone on.
- * CBR_AGAIN (also 0): too large; encode this picture again with quantiser and offer that, or withdraw it. out is untouched.
- * CBR_REFUSED: number is the value returned. state and out are untouched, but that 21 closes the pending picture.
+ * CBR_PLACED: the first bytes of out are the stream's next ones, for the line to take at the rate, without a gap. state has
+ * gone on.
+ * CBR_AGAIN (also 0): too large; encode this picture again with answer's quantiser and offer that, or withdraw it. out is
+ * untouched.
+ * CBR_REFUSED: state and out are untouched, but that 21 closes the pending picture.
  * An out_len of CBR_BUFFER_UNIT / 8 times vbv_buffer_size_value is always enough.
  *
- * State bytes that hold no writer are 12, before anything else; an answer_len under CBR_ANSWER_BYTES is 19; any other kind,
- * interval or last is 12; then 17, 18, 20, 14, 7, 9, too large (21 at quantiser 31), 22, 19. An answer place that is too short
- * is never touched.
+ * headers, to stand before the picture, fit if they are none, or begin 00 00 01 and hold no start codes but B2 (user data), B3
+ * (sequence header), B5 (extension) and B8 (group), and do not end 00 00 01. Until a picture is placed each offer's headers
+ * begin with B3, the only one, and its sequence extension follows at the next start code; both are well formed and agree with
+ * the creation: the rate, buffer and frame rate that they say are the writer's, the frame rate extensions 0. After that no
+ * headers hold B3. Anything else is 18.
+ *
+ * layer fits if it is one MPEG-2 picture from its start code to the end of its slices: 00 at byte 0 and nowhere else, next the
+ * picture coding extension, then any of B5 and B2, then slices (01 to AF), at least one, and nothing after them; it does not
+ * end 00 00 01. Both headers are well formed; the type is kind, the structure a frame for CBR_FRAME and a field for CBR_FIELD;
+ * repeat_first_field is 0; of a P or B picture the full-pel flags are 0 and the codes beside them 7 (MPEG-1's vectors have
+ * others); between the picture header and the coding extension are only zeros. The delay may be any. Anything else is 20.
+ *
+ * last is 1 for the stream's last picture, which needs no stuffing and is followed by a sequence end code, else 0. A channel
+ * without an end never says 1: each picture is stuffed as the next removal needs it, and after each the check accepts all that
+ * was handed out, so that the channel may stop there. To close it in form, or before 14 (2^48 bits, at 4,000,000 bits a second
+ * 814 days), offer a picture with last 1; then create a new writer, whose first offer brings a sequence header.
+ *
+ * Order of the tests: state bytes that hold no writer are 12, before anything else; an answer_len under CBR_ANSWER_BYTES is 19;
+ * any other kind, interval or last is 12; then 17, 18, 20, 14, 7 and 9 (headers too long), too large (21 at quantiser 31), 22,
+ * 19. An answer place that is too short is never touched.
  */
-uint64_t cbr_offer(uint8_t *state, size_t state_len,
+uint64_t cbr_offer(void *state, size_t state_len,
                    const uint8_t *headers, size_t headers_len,
                    uint8_t kind, uint8_t interval, uint8_t last,
                    const uint8_t *layer, size_t layer_len,
                    uint8_t *out, size_t out_len,
-                   uint8_t *answer, size_t answer_len);
+                   void *answer, size_t answer_len);
 
-/* Gives up the picture that is wanted again, if there is one. Returns 0, or 12 where the bytes hold no writer. */
-uint64_t cbr_withdraw(uint8_t *state, size_t state_len);
+/* Gives up the picture that is wanted again, if there is one; the next one offered takes its place. Returns 0, or 12 where the
+ * bytes hold no writer. */
+uint64_t cbr_withdraw(void *state, size_t state_len);
 
 #ifdef __cplusplus
 }

@@ -70,6 +70,9 @@ int summary(const char *program, const uint8_t *needed, size_t count)
     for (size_t i = 0; i < count; i++)
         if (!met[needed[i]])
             fail("the answers", "one was not met");
+    for (int i = 1; i < 256; i++)
+        if (met[i] && vbv_refusal_text((uint64_t)i) == NULL)
+            fail("the answers", "one has no text");
     printf("%s: %d calls, answers", program, calls);
     for (int i = 0; i < 256; i++)
         if (met[i])

@@ -35,7 +35,8 @@ void fail(const char *name, const char *what);
 /* Counts a call, and holds its value to what is expected. */
 void answered(const char *name, uint64_t answer, uint64_t expected);
 
-/* Prints the counts; each of the needed answers must have been met. The program's exit status. */
+/* Prints the counts; each of the needed answers must have been met, and each one met must have a text. The program's exit
+ * status. */
 int summary(const char *program, const uint8_t *needed, size_t count);
 
 #endif
