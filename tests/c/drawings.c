@@ -61,7 +61,7 @@ static const struct kind kinds[] = {
     { "instant", 100, 4000000, 1835008, NULL, 0, 0, 2, 2.0000001, .8, "instant.m2v" },
     { "empty-range", 100, 4000000, 1835008, NULL, 0, 0, 2, 2, .8, "empty-range.m2v" },
     { "beyond", 100, 4000000, 1835008, NULL, 0, 0, 100, 200, .8, "beyond.m2v" },
-    { "from-only", 100, 4000000, 1835008, NULL, 0, 0, 3, 1e300, .8, "from-only.m2v" },
+    { "from-only", 100, 4000000, 1835008, NULL, 0, 0, 3.07, 1e300, .8, "from-only.m2v" },
     { "refused-later", 200, 4000000, 1835008, MISMATCH, 0, .6, 2, 4, .8, "refused-later.m2v" },
     { "nearly-full", 300, 4000000, 1835008, NULL, 0, 0, 0, 0, 1, "nearly-full.m2v" },
     { "long-name", 50, 4000000, 1835008, NULL, 0, 0, 0, 0, .8, LONG_NAME LONG_NAME LONG_NAME LONG_NAME "in-flight-entertainment.ts" },
