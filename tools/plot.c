@@ -8,11 +8,11 @@ enum { WIDTH = 1200, HEIGHT = 580, MARGIN = 20, AFTER = 60, BELOW = 110, NAME = 
 /* Words of a refusal: how wide a line, how many at most, and how far apart. */
 enum { WORDS_ROOM = 540, WORDS_LINES = 4, WORDS_APART = 17 };
 
-/* How many teeth a column has at most in a curve. Pixels from a letter to the next, and by which a refused picture passes a bound,
- * at least. */
+/* How many teeth a column has at most in a curve. The least pixels from a letter to the next, and of a refused picture beyond a
+ * bound. */
 enum { TEETH = 2, LETTER = 10, PASSED = 8 };
 
-static const double MOST_SECONDS = 1e12, LEAST_SECONDS = .001;
+static const double MOST_SECONDS = 1e12, LEAST_SECONDS = .001, MOST_BITS = 1e18;
 
 /* A drawing in work: where its field lies, what it shows, and the removals within. */
 struct sheet {
@@ -192,9 +192,9 @@ struct ticks {
 /* Times to label, as close as their labels allow. */
 static struct ticks time_ticks(const struct sheet *s)
 {
-    static const struct ticks some[] = { { .0001, 4 }, { .0002, 4 }, { .0005, 4 }, { .001, 3 }, { .002, 3 }, { .005, 3 }, { .01, 2 },
-        { .02, 2 }, { .05, 2 }, { .1, 1 }, { .2, 1 }, { .5, 1 }, { 1, 0 }, { 2, 0 }, { 5, 0 }, { 10, 0 }, { 15, 0 }, { 30, 0 },
-        { 60, 0 }, { 120, 0 }, { 300, 0 }, { 600, 0 }, { 900, 0 }, { 1800, 0 }, { 3600, 0 } };
+    static const struct ticks some[] = { { .0001, 4 }, { .0002, 4 }, { .0005, 4 }, { .001, 3 }, { .002, 3 }, { .005, 3 },
+        { .01, 2 }, { .02, 2 }, { .05, 2 }, { .1, 1 }, { .2, 1 }, { .5, 1 }, { 1, 0 }, { 2, 0 }, { 5, 0 }, { 10, 0 }, { 15, 0 },
+        { 30, 0 }, { 60, 0 }, { 120, 0 }, { 300, 0 }, { 600, 0 }, { 900, 0 }, { 1800, 0 }, { 3600, 0 } };
     char label[LABEL_BYTES];
     size_t n = 0;
     struct ticks t = some[0];
@@ -213,23 +213,23 @@ static void time_axis(const struct sheet *s)
     char label[LABEL_BYTES];
     struct ticks t = time_ticks(s);
     double n = (double)(uint64_t)(s->from / t.apart);
-    fprintf(s->to, "<path fill='none' stroke='#444' d='M%.2f %.2fV%.2fH%.2f'/>\n<g text-anchor='middle'>\n", s->left, s->top, s->bottom,
-            s->right);
+    fprintf(s->to, "<path fill='none' stroke='#444' d='M%.2f %.2fV%.2fH%.2f'/>\n", s->left, s->top, s->bottom, s->right);
+    fprintf(s->to, "<g text-anchor='middle'>\n");
     for (n += n * t.apart < s->from; n * t.apart <= s->until; n++) {
         double x = across(s, n * t.apart);
-        fprintf(s->to, "<path stroke='#444' d='M%.2f %.2fv5'/><text x='%.2f' y='%.2f'>%s</text>\n", x, s->bottom, x, s->bottom + 20,
-                clocked(n * t.apart, t.decimals, label));
+        fprintf(s->to, "<path stroke='#444' d='M%.2f %.2fv5'/><text x='%.2f' y='%.2f'>%s</text>\n", x, s->bottom, x,
+                s->bottom + 20, clocked(n * t.apart, t.decimals, label));
     }
-    fprintf(s->to, "<text x='%.2f' y='%.2f'>time from the first bit, minutes and seconds</text>\n</g>\n", (s->left + s->right) / 2,
-            s->bottom + 42);
+    fprintf(s->to, "<text x='%.2f' y='%.2f'>time from the first bit, minutes and seconds</text>\n</g>\n",
+            (s->left + s->right) / 2, s->bottom + 42);
 }
 
 /* Up to each removal, then straight down. */
 static void curve(const struct sheet *s)
 {
     const struct drawing *d = s->d;
-    fprintf(s->to, "<path id='curve' fill='none' stroke='#0a4a8f' stroke-width='1.2' stroke-linejoin='bevel' d='M%.2f %.2f\n", across(s, s->from),
-            up(s, held(d, s->first, s->from)));
+    fprintf(s->to, "<path id='curve' fill='none' stroke='#0a4a8f' stroke-width='1.2' stroke-linejoin='bevel' d='M%.2f %.2f\n",
+            across(s, s->from), up(s, held(d, s->first, s->from)));
     for (size_t n = s->first; n < s->good; n++)
         fprintf(s->to, "L%.2f %.2fV%.2f\n", across(s, d->of[n].seconds), up(s, d->of[n].before), up(s, d->of[n].after));
     if (s->end < removals(d))
@@ -267,23 +267,30 @@ static void fill_columns(const struct sheet *s, struct column *c, size_t count)
     }
 }
 
-/* There along the most of each column, and back along the least. */
+/* An edge of a column, from one side to the other. */
+static void edge(const struct sheet *s, char command, double from, double to, double bits)
+{
+    double wide = (s->right - s->left) / (double)columns(s);
+    fprintf(s->to, "%c%.2f %.2fH%.2f\n", command, s->left + from * wide, up(s, bits), s->left + to * wide);
+}
+
+/* There along the most of each column, and back along the least; past columns that have none. */
 static void band(const struct sheet *s)
 {
     struct column c[WIDTH];
     size_t count = columns(s);
-    double wide = (s->right - s->left) / (double)count;
-    char to = 'M';
+    char command = 'M';
     fill_columns(s, c, count);
     fprintf(s->to, "<path id='band' fill='#9dbde0' stroke='#0a4a8f' stroke-width='.7' d='");
-    for (size_t n = 0; n < count; n++)
-        if (c[n].most >= c[n].least) {
-            fprintf(s->to, "%c%.2f %.2fH%.2f\n", to, s->left + (double)n * wide, up(s, c[n].most), s->left + (double)(n + 1) * wide);
-            to = 'L';
-        }
+    for (size_t n = 0; n < count; n++) {
+        if (c[n].most < c[n].least)
+            continue;
+        edge(s, command, (double)n, (double)(n + 1), c[n].most);
+        command = 'L';
+    }
     for (size_t n = count; n-- > 0;)
         if (c[n].most >= c[n].least)
-            fprintf(s->to, "L%.2f %.2fH%.2f\n", s->left + (double)(n + 1) * wide, up(s, c[n].least), s->left + (double)n * wide);
+            edge(s, 'L', (double)(n + 1), (double)n, c[n].least);
     fprintf(s->to, "Z'/>\n");
 }
 
@@ -299,8 +306,8 @@ static void rise(const struct sheet *s)
 static void bounds(const struct sheet *s)
 {
     double full = up(s, (double)s->d->buffer_bits), empty = up(s, 0);
-    fprintf(s->to, "<g stroke='#c00' stroke-width='1.5'><path id='empty' d='M%.2f %.2fH%.2f'/><path id='full' d='M%.2f %.2fH%.2f'/>"
-                   "</g>\n", s->left, empty, s->right, s->left, full, s->right);
+    fprintf(s->to, "<g stroke='#c00' stroke-width='1.5'>\n<path id='empty' d='M%.2f %.2fH%.2f'/>\n", s->left, empty, s->right);
+    fprintf(s->to, "<path id='full' d='M%.2f %.2fH%.2f'/>\n</g>\n", s->left, full, s->right);
     fprintf(s->to, "<g fill='#c00'><text x='%.2f' y='%.2f'>%s</text><text x='%.2f' y='%.2f'>empty</text></g>\n", s->right + 8,
             full + 4.5, full < empty ? "full" : "", s->right + 8, empty + 4.5);
 }
@@ -419,7 +426,8 @@ static void legend(const struct sheet *s, const char *types)
     double x = s->left, y = HEIGHT - 44;
     if (is_band(s)) {
         fprintf(s->to, "<rect x='%.2f' y='%.2f' width='24' height='12' fill='#9dbde0' stroke='#0a4a8f'/>\n", x, y - 6);
-        x = entry(s, x + 32, y, "from the least after a removal to the most before one, in each column");
+        x = entry(s, x + 32, y,
+                  "from the least after a removal to the most before one, in each column (--from and --to draw a part)");
     } else {
         fprintf(s->to, "<path fill='none' stroke='#0a4a8f' d='M%.2f %.2fl12 -10v10l12 -10v10'/>\n", x, y + 5);
         x = entry(s, x + 32, y, "bits held, falling where a picture is removed");
@@ -432,19 +440,23 @@ static void legend(const struct sheet *s, const char *types)
     }
 }
 
-/* The second: the dots, with their amounts, pictures and times. */
+/* An entry for a dot: what it is, its amount, and the removal's picture and time. */
+static double dot_entry(const struct sheet *s, double x, double y, const char *what, double bits, const struct removal *r)
+{
+    char words[200], amount[LABEL_BYTES], picture[LABEL_BYTES], at[LABEL_BYTES];
+    snprintf(words, sizeof words, "%s: %s, picture %s, %s", what, grouped((uint64_t)within(bits, 0, MOST_BITS), amount),
+             grouped(r->picture, picture), clocked(r->seconds, 3, at));
+    return entry(s, x, y, words);
+}
+
+/* The second line: the dots. */
 static void legend_of_dots(const struct sheet *s)
 {
-    char words[200], bits[LABEL_BYTES], picture[LABEL_BYTES], at[LABEL_BYTES];
     double x = s->left, y = HEIGHT - 20;
     dot(s, "most-sample", "#0a4a8f", x + 12, y);
-    snprintf(words, sizeof words, "most before a removal: %s, picture %s, %s", grouped((uint64_t)within(s->most->before, 0, 1e18), bits),
-             grouped(s->most->picture, picture), clocked(s->most->seconds, 3, at));
-    x = entry(s, x + 32, y, words);
+    x = dot_entry(s, x + 32, y, "most before a removal", s->most->before, s->most);
     dot(s, "least-sample", "#fff", x + 4, y);
-    snprintf(words, sizeof words, "least after one: %s, picture %s, %s", grouped((uint64_t)within(s->least->after, 0, 1e18), bits),
-             grouped(s->least->picture, picture), clocked(s->least->seconds, 3, at));
-    entry(s, x + 18, y, words);
+    dot_entry(s, x + 18, y, "least after one", s->least->after, s->least);
 }
 
 static void content(const struct sheet *s)
@@ -474,7 +486,8 @@ void plot(FILE *to, const struct drawing *d)
     set_time(&s);
     set_bits(&s);
     set_field(&s);
-    fprintf(to, "<svg xmlns='http://www.w3.org/2000/svg' width='%d' height='%d' viewBox='0 0 %d %d' ", WIDTH, HEIGHT, WIDTH, HEIGHT);
+    fprintf(to, "<svg xmlns='http://www.w3.org/2000/svg' width='%d' height='%d' viewBox='0 0 %d %d' ", WIDTH, HEIGHT, WIDTH,
+            HEIGHT);
     fprintf(to, "font-family='sans-serif' font-size='%d'>\n<rect width='%d' height='%d' fill='#fff'/>\n", LETTERS, WIDTH, HEIGHT);
     heading(&s);
     bits_axis(&s);

@@ -25,7 +25,9 @@ struct kind {
     const char *name;
 };
 
-#define LONG_NAME "recordings/2026-11-16/rack-07/channel-03/"
+#define FOLDERS "recordings/2026-11-16/rack-07/channel-03/"
+#define LONG_NAME FOLDERS FOLDERS FOLDERS FOLDERS "in-flight-entertainment.ts"
+#define ODD_NAME "a<b>&'\"\n\x7F\xFF\xED\xA0\x80 ]]> \xC3\xBC\xE6\x98\xA0\xE7\x94\xBB\xF0\x9F\x8E\xAC"
 #define OVERFLOW "overflow at byte 1,610,984: 3.1 bits more than the buffer holds. Bytes are lost and pictures smear."
 #define UNDERFLOW "underflow: 81,920 bits are still to come when this picture is due. The picture freezes or breaks up."
 #define MISMATCH "delay mismatch: coded 30,000, expected 27,350. A set that tunes in there starts too early or too late,\n" \
@@ -61,11 +63,11 @@ static const struct kind kinds[] = {
     { "instant", 100, 4000000, 1835008, NULL, 0, 0, 2, 2.0000001, .8, "instant.m2v" },
     { "empty-range", 100, 4000000, 1835008, NULL, 0, 0, 2, 2, .8, "empty-range.m2v" },
     { "beyond", 100, 4000000, 1835008, NULL, 0, 0, 100, 200, .8, "beyond.m2v" },
-    { "from-only", 100, 4000000, 1835008, NULL, 0, 0, 3, 1e300, .8, "from-only.m2v" },
+    { "from-only", 100, 4000000, 1835008, NULL, 0, 0, 3.07, 1e300, .8, "from-only.m2v" },
     { "refused-later", 200, 4000000, 1835008, MISMATCH, 0, .6, 2, 4, .8, "refused-later.m2v" },
     { "nearly-full", 300, 4000000, 1835008, NULL, 0, 0, 0, 0, 1, "nearly-full.m2v" },
-    { "long-name", 50, 4000000, 1835008, NULL, 0, 0, 0, 0, .8, LONG_NAME LONG_NAME LONG_NAME LONG_NAME "in-flight-entertainment.ts" },
-    { "odd-name", 50, 4000000, 1835008, NULL, 0, 0, 0, 0, .8, "a<b>&'\"\n\x7F\xFF\xED\xA0\x80 ]]> \xC3\xBC\xE6\x98\xA0\xE7\x94\xBB\xF0\x9F\x8E\xAC" },
+    { "long-name", 50, 4000000, 1835008, NULL, 0, 0, 0, 0, .8, LONG_NAME },
+    { "odd-name", 50, 4000000, 1835008, NULL, 0, 0, 0, 0, .8, ODD_NAME },
 };
 
 /* Pictures at 25 a second, each twelfth an I and each third a P picture, of sizes that keep the buffer within its bounds. */
@@ -101,8 +103,8 @@ static struct removal *fill_kind(const struct kind *k, struct drawing *d)
         last = of[k->pictures - 1];
     double before = k->before > 0 ? full * k->before : last.after + rate / 25;
     struct removal bad = { last.seconds + (before - last.after) / rate, before, full * k->after, 'P', k->pictures };
-    struct drawing made = { k->name, k->mark != NULL ? refused : accepted, k->bit_rate, k->buffer_bits, "25", of, k->pictures, k->mark,
-                            bad, k->from, k->to };
+    struct drawing made = { k->name, k->mark != NULL ? refused : accepted, k->bit_rate, k->buffer_bits, "25", of,
+                            k->pictures, k->mark, bad, k->from, k->to };
     *d = made;
     return of;
 }
@@ -142,8 +144,8 @@ static struct removal *fill_file(const char *name, struct drawing *d)
     struct removal *of = calloc(MOST, sizeof *of);
     size_t length = bytes != NULL ? take_bytes(name, bytes, ROOM) : 0;
     int is_accepted = records != NULL && of != NULL &&
-        vbv_check(bytes, length, VBV_MPEG2, (uint8_t *)&report, sizeof report, (uint8_t *)records, MOST * sizeof *records, refusal,
-                  sizeof refusal) == 0;
+        vbv_check(bytes, length, VBV_MPEG2, (uint8_t *)&report, sizeof report, (uint8_t *)records, MOST * sizeof *records,
+                  refusal, sizeof refusal) == 0;
     if (is_accepted) {
         take_records(&report, records, bytes, length, of);
         struct drawing made = { name, accepted, report.bit_rate, report.buffer_bits, "25", of, (size_t)report.pictures, NULL,
