@@ -1,0 +1,132 @@
+#define _POSIX_C_SOURCE 200809L
+#include "input.h"
+
+#include "hipokuta.h"
+
+#include <errno.h>
+#include <fcntl.h>
+#include <signal.h>
+#include <stdio.h>
+#include <stdlib.h>
+#include <string.h>
+#include <sys/mman.h>
+#include <sys/stat.h>
+#include <unistd.h>
+
+/* The file whose pages are read, for the signal handler. */
+static const char *volatile mapped_name;
+
+static void say(const char *text)
+{
+    ssize_t written = write(STDERR_FILENO, text, strlen(text));
+    (void)written;
+}
+
+/* A page of a mapped file is gone. */
+static void on_bus_error(int number)
+{
+    (void)number;
+    say(program);
+    say(": ");
+    say(mapped_name);
+    say(": shrank while it was read, so there is no answer; try again when it is whole\n");
+    _exit(2);
+}
+
+static void watch(const char *name)
+{
+    struct sigaction action = { .sa_handler = on_bus_error };
+    sigemptyset(&action.sa_mask);
+    mapped_name = name;
+    sigaction(SIGBUS, &action, NULL);
+}
+
+static int map_file(const char *name, int file, size_t length, struct input *in)
+{
+    if (length == 0)
+        return 0;
+    void *bytes = mmap(NULL, length, PROT_READ, MAP_PRIVATE, file, 0);
+    if (bytes == MAP_FAILED)
+        return trouble(name, strerror(errno));
+    in->mapped = bytes;
+    in->mapped_length = length;
+    in->stream = (struct stream){ bytes, length };
+    watch(name);
+    return 0;
+}
+
+/* Reads to the end, into memory. */
+static int read_all(const char *name, int file, struct input *in)
+{
+    uint8_t *bytes = NULL;
+    size_t room = 0, length = 0;
+    for (ssize_t got = 1; got > 0; length += got > 0 ? (size_t)got : 0) {
+        if (length == room) {
+            room = room == 0 ? 1 << 16 : 2 * room;
+            uint8_t *more = realloc(bytes, room);
+            if (more == NULL) {
+                free(bytes);
+                return trouble(name, "no memory for its bytes");
+            }
+            bytes = more;
+        }
+        got = read(file, bytes + length, room - length);
+        if (got < 0) {
+            free(bytes);
+            return trouble(name, strerror(errno));
+        }
+    }
+    in->held = bytes;
+    in->stream = (struct stream){ bytes, length };
+    return 0;
+}
+
+/* A file, mapped; a FIFO or a terminal, read. */
+static int open_input(const char *name, struct input *in)
+{
+    struct stat about;
+    int file = strcmp(name, "-") == 0 ? STDIN_FILENO : open(name, O_RDONLY);
+    int status;
+    if (file < 0 || fstat(file, &about) != 0)
+        status = trouble(name, strerror(errno));
+    else if (S_ISREG(about.st_mode) && file != STDIN_FILENO)
+        status = map_file(name, file, (size_t)about.st_size, in);
+    else if (S_ISDIR(about.st_mode))
+        status = trouble(name, "a folder; give the streams in it by name");
+    else
+        status = read_all(name, file, in);
+    if (file > STDIN_FILENO)
+        close(file);
+    return status;
+}
+
+/* MPEG-2 has a sequence extension right after the sequence header, MPEG-1 has none. */
+static uint8_t told_standard(const struct stream *s)
+{
+    size_t at = find_code(s, SEQUENCE);
+    if (at == s->length)
+        return 0;
+    at = next_code(s, at + CODE_BYTES);
+    if (code_at(s, at) != EXTENSION)
+        return VBV_MPEG1;
+    struct stream extension = part(s, at, s->length);
+    return field_value(&extension, EXTENSION_ID) == SEQUENCE_EXTENSION ? VBV_MPEG2 : VBV_MPEG1;
+}
+
+int take_in(const char *name, const char *which, struct input *in)
+{
+    (void)which;
+    *in = (struct input){ .about = "" };
+    if (open_input(name, in) != 0)
+        return 2;
+    in->standard = told_standard(&in->stream);
+    return 0;
+}
+
+void let_go(struct input *in)
+{
+    if (in->mapped != NULL)
+        munmap(in->mapped, in->mapped_length);
+    free(in->held);
+    *in = (struct input){ .about = "" };
+}
