@@ -11,7 +11,8 @@ HEADERS = include/hipokuta.h $(wildcard tools/*.h tests/c/*.h)
 
 # The sources of each C program.
 vbvreport = tools/vbvreport.c tools/plot.c tools/report.c tools/stream.c c/refusal_text.c
-cbrsend = tools/cbrsend.c tools/sending.c tools/split.c tools/why.c tools/report.c tools/stream.c c/refusal_text.c
+cbrsend = tools/cbrsend.c tools/request.c tools/advice.c tools/sending.c tools/split.c tools/why.c tools/outfile.c tools/progress.c \
+    tools/input.c tools/report.c tools/stream.c c/refusal_text.c
 entries = tests/c/entries.c tests/c/places.c
 sender = tests/c/sender.c tests/c/channel.c tests/c/rules.c tests/c/places.c
 stamp = tests/c/stamp.c
