@@ -1,7 +1,7 @@
 #define _POSIX_C_SOURCE 200809L
 #include "input.h"
 
-#include "hipokuta.h"
+#include "container.h"
 
 #include <errno.h>
 #include <fcntl.h>
@@ -100,27 +100,31 @@ static int open_input(const char *name, struct input *in)
     return status;
 }
 
-/* MPEG-2 has a sequence extension right after the sequence header, MPEG-1 has none. */
-static uint8_t told_standard(const struct stream *s)
+/* Video start codes and a picture among them, though no sequence header: a stream that was cut. */
+static int is_cut_video(const struct stream *s)
 {
-    size_t at = find_code(s, SEQUENCE);
-    if (at == s->length)
-        return 0;
-    at = next_code(s, at + CODE_BYTES);
-    if (code_at(s, at) != EXTENSION)
-        return VBV_MPEG1;
-    struct stream extension = part(s, at, s->length);
-    return field_value(&extension, EXTENSION_ID) == SEQUENCE_EXTENSION ? VBV_MPEG2 : VBV_MPEG1;
+    size_t first = next_code(s, 0);
+    return first < s->length && code_at(s, first) < SYSTEM && find_code(s, PICTURE) < s->length;
 }
 
 int take_in(const char *name, const char *which, struct input *in)
 {
-    (void)which;
     *in = (struct input){ .about = "" };
     if (open_input(name, in) != 0)
         return 2;
-    in->standard = told_standard(&in->stream);
-    return 0;
+    const struct container *c = container_of(&in->stream);
+    int status = 0;
+    if (c != NULL)
+        status = unpack(name, which, c, in);
+    else if (in->stream.length == 0)
+        status = trouble(name, "not an MPEG video stream: it is empty");
+    else if (find_code(&in->stream, SEQUENCE) == in->stream.length && !is_cut_video(&in->stream))
+        status = trouble(name, "not an MPEG video stream: no start codes of one are in it; give the recording, or its video");
+    if (status == 0)
+        in->standard = told_standard(&in->stream);
+    else
+        let_go(in);
+    return status;
 }
 
 void let_go(struct input *in)

@@ -8,6 +8,9 @@
 #include <sys/mman.h>
 #include <sys/stat.h>
 #include <unistd.h>
+#ifdef __SSE2__
+#include <emmintrin.h>
+#endif
 
 const struct field FRAME_RATE_CODE = { 60, 4 }, BIT_RATE = { 64, 18 }, VBV_BUFFER_SIZE = { 83, 10 };
 const struct field EXTENSION_ID = { 32, 4 }, BIT_RATE_EXTENSION = { 51, 12 }, VBV_BUFFER_SIZE_EXTENSION = { 64, 8 },
@@ -48,11 +51,43 @@ struct stream part(const struct stream *s, size_t from, size_t to)
     return (struct stream){ s->bytes + from, to - from };
 }
 
+#ifdef __SSE2__
+/* Passes over blocks of 32 bytes in which no 01 could end a prefix; `at` is where the prefix would begin. */
+static size_t pass_over(const uint8_t *bytes, size_t at, size_t length)
+{
+    const __m128i one = _mm_set1_epi8(1), zero = _mm_setzero_si128();
+    for (; at + 34 <= length; at += 32) {
+        __m128i low = _mm_cmpeq_epi8(_mm_loadu_si128((const __m128i *)(const void *)(bytes + at + 2)), one);
+        __m128i high = _mm_cmpeq_epi8(_mm_loadu_si128((const __m128i *)(const void *)(bytes + at + 18)), one);
+        if (_mm_movemask_epi8(_mm_or_si128(low, high)) == 0)
+            continue;
+        __m128i before_low = _mm_cmpeq_epi8(_mm_loadu_si128((const __m128i *)(const void *)(bytes + at + 1)), zero);
+        __m128i before_high = _mm_cmpeq_epi8(_mm_loadu_si128((const __m128i *)(const void *)(bytes + at + 17)), zero);
+        low = _mm_and_si128(low, before_low);
+        high = _mm_and_si128(high, before_high);
+        if (_mm_movemask_epi8(_mm_or_si128(low, high)) != 0)
+            break;
+    }
+    return at;
+}
+#else
+/* Goes on to where the next 01 could end a prefix. */
+static size_t pass_over(const uint8_t *bytes, size_t at, size_t length)
+{
+    const uint8_t *one = at + 2 < length ? memchr(bytes + at + 2, 1, length - at - 2) : NULL;
+    return one == NULL ? length : (size_t)(one - bytes) - 2;
+}
+#endif
+
 size_t next_code(const struct stream *s, size_t at)
 {
-    for (; at + CODE_BYTES <= s->length; at++)
-        if (s->bytes[at] == 0 && s->bytes[at + 1] == 0 && s->bytes[at + 2] == 1)
-            return at;
+    const uint8_t *b = s->bytes;
+    while (at + CODE_BYTES <= s->length) {
+        at = pass_over(b, at, s->length);
+        for (size_t end = at + 32; at < end && at + CODE_BYTES <= s->length; at++)
+            if (b[at + 2] == 1 && b[at + 1] == 0 && b[at] == 0)
+                return at;
+    }
     return s->length;
 }
 
