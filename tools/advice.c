@@ -66,7 +66,8 @@ void print_size(const struct source *in, uint64_t bytes)
 
 void print_place(const struct source *in, const struct sending *end)
 {
-    printf("picture %zu (the first is 0), byte %zu", end->picture, in->pictures.of[end->picture].layer);
+    printf("picture %zu (the first is 0), byte %zu%s", end->picture, in->pictures.of[end->picture].layer,
+           in->unpacked ? " of its video" : "");
 }
 
 void print_cause(const struct source *in, const struct sending *end)

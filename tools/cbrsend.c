@@ -95,7 +95,7 @@ static uint64_t verdict(const struct stream *s, size_t pictures, struct vbv_repo
 
 static int check(const struct job *j, const struct outfile *out, uint64_t bytes, struct vbv_report *report)
 {
-    void *mapped = fflush(out->file) == 0 ? mmap(NULL, bytes, PROT_READ, MAP_SHARED, fileno(out->file), 0) : MAP_FAILED;
+    void *mapped = mmap(NULL, bytes, PROT_READ, MAP_SHARED, fileno(out->file), 0);
     if (mapped == MAP_FAILED)
         return trouble(out->name, strerror(errno));
     struct stream s = { mapped, bytes };
@@ -144,13 +144,15 @@ static int send_to(struct job *j, struct outfile *out)
 {
     struct vbv_report report;
     struct sending end = send_all(&j->in, j->want.at, out->file);
-    end_progress(&j->in.progress);
-    if (end.unwritten != 0)
-        return trouble(out->name, strerror(end.unwritten));
     if (end.number != 0)
         return refuse(j, &end);
-    if (check(j, out, end.bytes, &report) != 0)
-        return TROUBLE;
+    show_stage(&j->in.progress, "writing to the disk, and checking");
+    int status = end.unwritten != 0 ? trouble(out->name, strerror(end.unwritten)) : settle_out(out);
+    if (status == 0)
+        status = check(j, out, end.bytes, &report);
+    end_progress(&j->in.progress);
+    if (status != 0)
+        return status;
     print_sent(j, &end, &report);
     return said();
 }
@@ -219,7 +221,7 @@ static int run(struct job *j)
         return TROUBLE;
     if (set_aside_output(j) != 0 || take_in(j->asked.from, j->asked.which, &j->input) != 0)
         return TROUBLE;
-    j->in = (struct source){ .name = j->asked.from, .stream = j->input.stream };
+    j->in = (struct source){ .name = j->asked.from, .stream = j->input.stream, .unpacked = j->input.about[0] != 0 };
     int status = work(j);
     close_source(&j->in);
     let_go(&j->input);

@@ -180,18 +180,20 @@ static int copy(int from, int to)
     return got < 0 ? -1 : 0;
 }
 
+int settle_out(struct outfile *out)
+{
+    int bad = fflush(out->file) != 0 || ferror(out->file) || (out->target != NULL && fsync(fileno(out->file)) != 0);
+    return bad ? trouble(out->name, strerror(errno)) : 0;
+}
+
 int keep_out(struct outfile *out, int data)
 {
-    int bad = fflush(out->file) != 0 || ferror(out->file);
-    if (out->target == NULL)
-        bad = bad || copy(fileno(out->file), data) != 0;
-    else
-        bad = bad || fsync(fileno(out->file)) != 0 || rename(beside, out->target) != 0;
-    int status = bad ? trouble(out->name, strerror(errno)) : 0;
-    if (!bad && out->target != NULL)
-        sync_folder(out->target);
-    if (!bad)
+    int bad = out->target == NULL ? copy(fileno(out->file), data) : rename(beside, out->target);
+    int status = bad != 0 ? trouble(out->name, strerror(errno)) : 0;
+    if (status == 0 && out->target != NULL) {
         beside[0] = 0;
+        sync_folder(out->target);
+    }
     drop_out(out);
     return status;
 }

@@ -17,7 +17,10 @@ int may_write(const char *from, const char *to);
 /* Opens a new file beside OUT, with the permissions of an old OUT. A signal that ends the program removes it. */
 int open_out(const char *name, struct outfile *out);
 
-/* Puts the new file in OUT's place, or copies it to `data`, which is standard output's. Either of these ends with it: */
+/* Sees to it that all of the new file is on the disk. */
+int settle_out(struct outfile *out);
+
+/* Puts the new file in OUT's place, or copies it to `data`, which is standard output's. Either of these is the last: */
 int keep_out(struct outfile *out, int data);
 void drop_out(struct outfile *out);
 

@@ -21,18 +21,32 @@ void begin_progress(struct progress *p)
     *p = (struct progress){ .begun = now(), .terminal = isatty(STDERR_FILENO) };
 }
 
-void show_progress(struct progress *p, size_t done, size_t all)
+/* Begins a line, where one is due this long after the last. */
+static int begin_line(struct progress *p, double after)
 {
     if (!p->terminal)
-        return;
+        return 0;
     double t = now();
-    if (t < p->begun + quiet || t < p->shown + pause_between)
-        return;
+    if (t < p->begun + quiet || t < p->shown + after)
+        return 0;
     p->shown = t;
     fprintf(stderr, "\r%s: ", program);
+    return 1;
+}
+
+void show_progress(struct progress *p, size_t done, size_t all)
+{
+    if (!begin_line(p, pause_between))
+        return;
     if (p->tries > 0)
         fprintf(stderr, "looking for a rate and buffer, try %d, ", p->tries);
     fprintf(stderr, "picture %zu of %zu  ", done, all);
+}
+
+void show_stage(struct progress *p, const char *words)
+{
+    if (begin_line(p, 0))
+        fprintf(stderr, "%-40s", words);
 }
 
 void end_progress(struct progress *p)

@@ -15,6 +15,9 @@ void begin_progress(struct progress *p);
 /* Says it from two seconds on, a few times a second. */
 void show_progress(struct progress *p, size_t done, size_t all);
 
+/* Says what comes next, where it has taken two seconds so far. */
+void show_stage(struct progress *p, const char *words);
+
 /* Takes the line away. */
 void end_progress(struct progress *p);
 

@@ -15,6 +15,7 @@ struct setting {
 struct source {
     const char *name;
     struct stream stream;
+    int unpacked; /* from a container */
     struct pictures pictures;
     size_t header, extension; /* the first sequence header and its extension, among the kept headers; their length for none */
     uint8_t *placed;          /* memory for a placed picture */
