@@ -15,12 +15,16 @@ struct setting usable(struct setting at)
     return at;
 }
 
-static void print_rate(uint32_t rate, int asked)
+struct wanted complete(const struct source *in, struct setting asked)
 {
-    if (!asked && is_no_rate(rate))
-        printf(" no rate (%s)", rate == 0 ? "0" : "all ones");
-    else
-        printf(" %" PRIu64 " bits a second", (uint64_t)rate * CBR_RATE_UNIT);
+    struct setting own = declared(in);
+    uint32_t rate = asked.rate != 0 ? asked.rate : own.rate, buffer = asked.buffer != 0 ? asked.buffer : own.buffer;
+    return (struct wanted){ { rate, buffer }, asked };
+}
+
+int names_no_rate(const struct wanted *w)
+{
+    return w->asked.rate == 0 && is_no_rate(w->at.rate);
 }
 
 static const char *plural(uint32_t count)
@@ -40,13 +44,16 @@ static const char *who(uint32_t asked)
 
 void print_wanted(const struct wanted *w)
 {
-    int rate = w->asked.rate != 0, buffer = w->asked.buffer != 0;
-    printf("  %s", who(w->asked.rate));
-    print_rate(w->at.rate, rate);
-    if (rate == buffer)
-        printf(",");
-    else
-        printf(".\n  %s", who(w->asked.buffer));
+    int same = (w->asked.rate != 0) == (w->asked.buffer != 0);
+    if (names_no_rate(w)) {
+        printf("  IN's header names no rate (it has %s), so say which with -b.\n", w->at.rate == 0 ? "0" : "all ones");
+        same = 0;
+    } else {
+        uint64_t rate = (uint64_t)w->at.rate * CBR_RATE_UNIT;
+        printf("  %s %" PRIu64 " bits a second%s", who(w->asked.rate), rate, same ? "," : ".\n");
+    }
+    if (!same)
+        printf("  %s", who(w->asked.buffer));
     print_buffer(w->at.buffer);
     printf(".\n");
 }
@@ -56,9 +63,10 @@ int is_swollen(const struct source *in, uint64_t bytes)
     return bytes / 2 > in->stream.length;
 }
 
-void print_size(const struct source *in, uint64_t bytes)
+/* What OUT would have. */
+static void print_size(const struct source *in, uint64_t bytes)
 {
-    printf("%" PRIu64 " bytes; IN has %zu", bytes, in->stream.length);
+    printf("      OUT would have %" PRIu64 " bytes; IN has %zu", bytes, in->stream.length);
     if (is_swollen(in, bytes))
         printf(", so that it would be %.1f times as long, most of it stuffing", (double)bytes / (double)in->stream.length);
     printf(".\n");
@@ -93,7 +101,6 @@ static int is_hopeless(const struct trial *t)
 static void print_trial(const struct source *in, const struct request *r, const struct trial *t)
 {
     print_command(r, t->at);
-    printf("      OUT would have ");
     print_size(in, t->end.bytes);
 }
 
@@ -131,9 +138,10 @@ static void try_all(struct source *in, const struct request *r, struct setting a
 
 void advise(struct source *in, const struct request *r, const struct wanted *w)
 {
+    struct setting at = usable(w->at);
     struct trial of[TRIALS];
     int said = 0;
-    try_all(in, r, usable(w->at), of);
+    try_all(in, r, at, of);
     end_progress(&in->progress);
     for (int i = 0; i < TRIALS; i++)
         if (is_hopeless(&of[i])) {
@@ -141,7 +149,7 @@ void advise(struct source *in, const struct request *r, const struct wanted *w)
             return;
         }
     if (!carries(&of[0]) && r->to != NULL)
-        printf("  With a buffer of %" PRIu32 " unit%s no rate was found.\n", usable(w->at).buffer, plural(usable(w->at).buffer));
+        printf("  With a buffer of %" PRIu32 " unit%s no rate was found.\n", at.buffer, plural(at.buffer));
     for (int i = 0; i < TRIALS; i++)
         if (carries(&of[i])) {
             if (!said++)
@@ -149,7 +157,7 @@ void advise(struct source *in, const struct request *r, const struct wanted *w)
             print_trial(in, r, &of[i]);
         }
     if (!said)
-        printf("  No rate from %d to %d bits a second and no buffer from 1 to %d units was found that would carry it. Encode it\n"
-               "  again with smaller pictures.\n",
+        printf("  No rate from %d to %d bits a second and no buffer from 1 to %d units was found that would carry it.\n"
+               "  Encode it again with smaller pictures.\n",
                CBR_RATE_UNIT, CBR_MOST_RATE * CBR_RATE_UNIT, CBR_MOST_BUFFER);
 }

@@ -4,26 +4,31 @@
 
 #include "request.h"
 
-/* A rate and buffer as they are tried, and where they come from. */
+/* A rate and buffer, and where they come from. */
 struct wanted {
-    struct setting at;    /* as asked for, else as IN's header has it */
+    struct setting at;    /* as asked for, else as IN's header has them */
     struct setting asked; /* 0 where IN's header decides */
 };
 
-/* Says what was tried, and who asked for it. */
+/* With what IN's header says, where nothing is asked for. */
+struct wanted complete(const struct source *in, struct setting asked);
+
+/* Whether nobody has said a rate. */
+int names_no_rate(const struct wanted *w);
+
+/* Says what is wanted, and by whom. */
 void print_wanted(const struct wanted *w);
 
-/* Commands that would do, or the picture that no rate and buffer would carry. */
+/* The commands that would do, or the picture that no rate and buffer carries. */
 void advise(struct source *in, const struct request *r, const struct wanted *w);
 
-/* The buffer to try first, in the writer's range. */
+/* A buffer in the writer's range, and a rate in it or 0: what the search begins with. */
 struct setting usable(struct setting at);
 
-/* What a sending would make of IN's bytes, where it is more than twice as many. */
+/* Whether so many bytes are more than twice IN's. */
 int is_swollen(const struct source *in, uint64_t bytes);
-void print_size(const struct source *in, uint64_t bytes);
 
-/* The picture that a sending was refused at, and why. */
+/* The picture that a sending was refused at, and why that is. */
 void print_place(const struct source *in, const struct sending *end);
 void print_cause(const struct source *in, const struct sending *end);
 

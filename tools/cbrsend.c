@@ -74,9 +74,10 @@ static int refuse(struct job *j, const struct sending *end)
 /* Nobody has asked for a rate: then none is chosen here, but one is told. */
 static int refuse_no_rate(struct job *j)
 {
-    print_name(j, "refused\n");
-    printf("  IN's header names no rate (it has %s), so say which with -b.\n", j->want.at.rate == 0 ? "0" : "all ones");
+    print_name(j, "refused");
+    printf("\n");
     print_damage(j);
+    print_wanted(&j->want);
     advise(&j->in, &j->asked, &j->want);
     return REFUSED;
 }
@@ -101,7 +102,8 @@ static int check(const struct job *j, const struct outfile *out, uint64_t bytes,
     struct stream s = { mapped, bytes };
     uint64_t number = verdict(&s, j->in.pictures.count, report);
     munmap(mapped, bytes);
-    return number != 0 ? trouble(out->name, "refused by the check: a defect of this program or of the library, please report it") : 0;
+    return number == 0 ? 0
+        : trouble(out->name, "refused by the check: a defect of this program or of the library, please report it");
 }
 
 static void print_left_out(const struct source *in)
@@ -129,7 +131,8 @@ static void print_sent(const struct job *j, const struct sending *end, const str
     if (is_swollen(&j->in, end->bytes)) {
         struct request least = j->asked;
         least.to = NULL;
-        printf("  OUT has %" PRIu64 " bytes and IN %zu. This says the least rate that would do:\n", end->bytes, j->in.stream.length);
+        printf("  OUT has %" PRIu64 " bytes and IN %zu. This says the least rate that would do:\n", end->bytes,
+               j->in.stream.length);
         print_command(&least, j->want.at);
     }
 }
@@ -185,7 +188,9 @@ static int tell_least(struct job *j)
     printf(" for a buffer of %" PRIu32 " units, in bits a second\n  OUT would have %" PRIu64 " bytes; IN has %zu.\n", at.buffer,
            t.end.bytes, j->in.stream.length);
     print_damage(j);
-    return dprintf(j->data, "%" PRIu32 "\n", t.at.rate * CBR_RATE_UNIT) < 0 ? trouble("standard output", strerror(errno)) : SENT;
+    if (dprintf(j->data, "%" PRIu32 "\n", t.at.rate * CBR_RATE_UNIT) < 0)
+        return trouble("standard output", strerror(errno));
+    return SENT;
 }
 
 static int work(struct job *j)
@@ -195,14 +200,13 @@ static int work(struct job *j)
     struct sending end = { .number = find_sequence(&j->in) };
     if (end.number != 0)
         return refuse(j, &end);
-    struct setting own = declared(&j->in), asked = j->asked.at;
-    j->want = (struct wanted){ { asked.rate != 0 ? asked.rate : own.rate, asked.buffer != 0 ? asked.buffer : own.buffer }, asked };
+    j->want = complete(&j->in, j->asked.at);
     end = send_first(&j->in);
     if (end.number != 0 && !is_of_setting(end.number))
         return refuse(j, &end);
     if (j->asked.to == NULL)
         return tell_least(j);
-    return asked.rate == 0 && is_no_rate(own.rate) ? refuse_no_rate(j) : send_job(j);
+    return names_no_rate(&j->want) ? refuse_no_rate(j) : send_job(j);
 }
 
 /* Words go to standard error where standard output is for something else. */

@@ -58,6 +58,8 @@ static int same(const char *from, const struct stat *out)
 int may_write(const char *from, const char *to)
 {
     struct stat out, link;
+    if (*to == 0)
+        return trouble("OUT", "it has no name");
     int there = (is_standard(to) ? fstat(STDOUT_FILENO, &out) : stat(to, &out)) == 0;
     if (there && same(from, &out))
         return trouble(to, "the same file as IN; name another OUT");

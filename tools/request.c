@@ -144,8 +144,8 @@ static int read_option(int option, char **words, struct request *r, int *least)
 
 static int bad_use(const char *what)
 {
-    fprintf(stderr, "%s: %s\nusage: cbrsend [-b RATE] [-B BUFFER] IN OUT, or cbrsend --least-rate [-B BUFFER] IN; --help says more\n",
-            program, what);
+    fprintf(stderr, "%s: %s\n", program, what);
+    fprintf(stderr, "usage: cbrsend [-b RATE] [-B BUFFER] IN OUT, or cbrsend --least-rate [-B BUFFER] IN   (--help says more)\n");
     return 2;
 }
 
@@ -164,8 +164,10 @@ int read_words(int count, char **words, struct request *r)
         return bad_use("--least-rate finds a rate: leave out -b");
     if (least && names != 1)
         return bad_use(names < 1 ? "IN is missing" : "--least-rate takes IN alone");
-    if (!least && names != 2)
-        return bad_use(names < 1 ? "IN and OUT are missing" : names < 2 ? "OUT is missing" : "there are more names than IN and OUT");
+    if (!least && names < 2)
+        return bad_use(names < 1 ? "IN and OUT are missing" : "OUT is missing");
+    if (!least && names > 2)
+        return bad_use("there are more names than IN and OUT");
     r->from = words[optind];
     r->to = least ? NULL : words[optind + 1];
     return GO;

@@ -55,7 +55,8 @@ void print_why_headers(const struct stream *headers, int first)
     if (headers->length > 0 && next_code(headers, 0) != 0)
         printf("  Bytes that are no header stand before the first start code: cut them off.\n");
     else if (strange >= 0)
-        printf("  There is a start code %02X among them: %s. Copy or capture it again.\n", (unsigned)strange, code_name(strange));
+        printf("  There is a start code %02X among them: %s. Copy or capture it again.\n", (unsigned)strange,
+               code_name(strange));
     else if (first)
         printf("  %s\n", why_first_headers(headers));
     else
