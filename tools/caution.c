@@ -92,7 +92,7 @@ static void of_end(const struct stream *s, uint8_t standard, const struct answer
 {
     const struct look *l = &a->look;
     struct stream last = part(s, l->last_code, s->length);
-    size_t open = s->length >= 3 && memcmp(s->bytes + s->length - 3, "\0\0\1", 3) == 0;
+    int open = s->length >= 3 && memcmp(s->bytes + s->length - 3, "\0\0\1", 3) == 0;
     if (open)
         add(c, "cut in a start code", "The stream ends inside a start code: it is cut off.");
     else if (last.length < least_bytes(&last))
@@ -102,7 +102,7 @@ static void of_end(const struct stream *s, uint8_t standard, const struct answer
     else if (l->pictures > 0 && (uint32_t)l->last_slice < rows(a, standard))
         add(c, "cut in a picture", "The last picture, at byte %zu, has slices up to row %d of %u alone: it is cut off.",
             l->last.at, l->last_slice, (unsigned)rows(a, standard));
-    if (l->end_code == s->length || l->end_code < l->last.at)
+    else if (l->end_code == s->length || l->end_code < l->last.at)
         add(c, "no sequence end", "No sequence end code stands at the end: whether the last picture is whole cannot be told.");
 }
 

@@ -15,23 +15,23 @@ static const struct {
     const char *bytes;
     struct container is;
 } known[] = {
-    { 4, "ftyp", { "MP4 or QuickTime file", "mov", "track" } },
-    { 4, "moov", { "MP4 or QuickTime file", "mov", "track" } },
-    { 4, "mdat", { "MP4 or QuickTime file", "mov", "track" } },
-    { 4, "wide", { "MP4 or QuickTime file", "mov", "track" } },
-    { 0, "\x1A\x45\xDF\xA3", { "Matroska file", "matroska", "track" } },
-    { 8, "AVI ", { "AVI file", "avi", "track" } },
-    { 0, "\x06\x0E\x2B\x34", { "MXF file", "mxf", "track" } },
-    { 0, "\x30\x26\xB2\x75", { "ASF file", "asf", "track" } },
-    { 0, "OggS", { "Ogg file", NULL, "" } },
-    { 8, "WAVE", { "WAVE file", NULL, "" } },
-    { 0, "\x1F\x8B", { "gzip file", NULL, "" } },
-    { 0, "PK\x03\x04", { "zip file", NULL, "" } },
-    { 0, "\xFD" "7zXZ", { "xz file", NULL, "" } },
-    { 0, "\x28\xB5\x2F\xFD", { "zstd file", NULL, "" } },
-    { 0, "\x89PNG", { "PNG picture", NULL, "" } },
-    { 0, "\xFF\xD8\xFF", { "JPEG picture", NULL, "" } },
-    { 0, "%PDF", { "PDF file", NULL, "" } },
+    { 4, "ftyp", { "MP4 or QuickTime file", "mov", NULL } },
+    { 4, "moov", { "MP4 or QuickTime file", "mov", NULL } },
+    { 4, "mdat", { "MP4 or QuickTime file", "mov", NULL } },
+    { 4, "wide", { "MP4 or QuickTime file", "mov", NULL } },
+    { 0, "\x1A\x45\xDF\xA3", { "Matroska file", "matroska", NULL } },
+    { 8, "AVI ", { "AVI file", "avi", NULL } },
+    { 0, "\x06\x0E\x2B\x34", { "MXF file", "mxf", NULL } },
+    { 0, "\x30\x26\xB2\x75", { "ASF file", "asf", NULL } },
+    { 0, "OggS", { "Ogg file", NULL, NULL } },
+    { 8, "WAVE", { "WAVE file", NULL, NULL } },
+    { 0, "\x1F\x8B", { "gzip file", NULL, NULL } },
+    { 0, "PK\x03\x04", { "zip file", NULL, NULL } },
+    { 0, "\xFD" "7zXZ", { "xz file", NULL, NULL } },
+    { 0, "\x28\xB5\x2F\xFD", { "zstd file", NULL, NULL } },
+    { 0, "\x89PNG", { "PNG picture", NULL, NULL } },
+    { 0, "\xFF\xD8\xFF", { "JPEG picture", NULL, NULL } },
+    { 0, "%PDF", { "PDF file", NULL, NULL } },
 };
 
 /* Transport packets are looked for this far from the front; pack headers further. */
@@ -109,7 +109,7 @@ uint8_t told_standard(const struct stream *s)
 /* What to do where the video cannot be taken out here. Returns 2. */
 static int way_out(const char *name, const struct container *c, const char *why)
 {
-    fprintf(stderr, "%s: %s: a %s, not an MPEG video stream, %s. ", program, name, c->name, why);
+    fprintf(stderr, "%s: %s: %s, not an MPEG video stream, %s. ", program, name, c->name, why);
     if (c->format == NULL)
         fprintf(stderr, "Give the video stream itself.\n");
     else
@@ -272,10 +272,26 @@ static int is_choice(const struct track *t)
     return t->mpeg && t->length > 0;
 }
 
-/* A program stream's numbers are told as they stand in the stream, without the prefix. */
+static const char *video_name(const struct track *t)
+{
+    struct stream s = { t->bytes, t->length };
+    uint8_t standard = told_standard(&s);
+    return standard == VBV_MPEG2 ? "MPEG-2 video" : standard == VBV_MPEG1 ? "MPEG-1 video" : "MPEG video";
+}
+
+/* The number of a stream in its container: a PID, or the code of a program stream's packets, which has a prefix here. */
 static unsigned number_of(const struct track *t)
 {
     return (unsigned)t->id & 0xFFFF & (t->id >= 0x1BC && t->id <= 0x1FF ? 0xFF : ~0u);
+}
+
+/* "transport stream, PID 0x100, MPEG-2 video" */
+static void describe(const struct container *c, const struct track *t, char *text, size_t room)
+{
+    if (c->word != NULL)
+        snprintf(text, room, "%s, %s 0x%X, %s", c->name, c->word, number_of(t), video_name(t));
+    else
+        snprintf(text, room, "%s, %s", c->name, video_name(t));
 }
 
 /* Whether `which` names the track that is the n-th choice, from 1. */
@@ -287,31 +303,27 @@ static int is_named(const struct track *t, size_t n, const char *which)
     return *which != 0 && *end == 0 && value == (hexadecimal ? number_of(t) : n);
 }
 
-static const char *video_name(const struct track *t)
-{
-    struct stream s = { t->bytes, t->length };
-    uint8_t standard = told_standard(&s);
-    return standard == VBV_MPEG2 ? "MPEG-2 video" : standard == VBV_MPEG1 ? "MPEG-1 video" : "MPEG video";
-}
-
 static int list_choices(const char *name, const struct container *c, const struct tracks *t, const char *which)
 {
     size_t n = 0;
+    char text[160];
     if (which != NULL)
-        fprintf(stderr, "%s: %s: a %s without a video stream %s; it has:\n", program, name, c->name, which);
+        fprintf(stderr, "%s: %s: there is no video stream %s in it; choose one:\n", program, name, which);
     else
-        fprintf(stderr, "%s: %s: a %s with several video streams; choose one:\n", program, name, c->name);
-    for (size_t i = 0; i < t->count; i++)
-        if (is_choice(t->of + i))
-            fprintf(stderr, "  --stream %zu   %s 0x%X, %s, %zu bytes\n", ++n, c->word, number_of(t->of + i), video_name(t->of + i),
-                    t->of[i].length);
+        fprintf(stderr, "%s: %s: there are several video streams in it; choose one:\n", program, name);
+    for (size_t i = 0; i < t->count; i++) {
+        if (is_choice(t->of + i)) {
+            describe(c, t->of + i, text, sizeof text);
+            fprintf(stderr, "  --stream %zu   %s, %zu bytes\n", ++n, text, t->of[i].length);
+        }
+    }
     return 2;
 }
 
 /* Hands over one track's bytes. */
 static void hand_over(const struct container *c, struct track *t, struct input *in)
 {
-    snprintf(in->about, sizeof in->about, "%s, %s 0x%X, %s", c->name, c->word, number_of(t), video_name(t));
+    describe(c, t, in->about, sizeof in->about);
     in->damaged = t->damaged;
     in->stream = (struct stream){ t->bytes, t->length };
     free(in->held);
@@ -333,7 +345,7 @@ static int choose(const char *name, const char *which, const struct container *c
             chosen = t->of + i;
     }
     if (choices == 0 && other < t->count) {
-        fprintf(stderr, "%s: %s: a %s, its video %s; only MPEG-1 and MPEG-2 video can be checked\n", program, name, c->name,
+        fprintf(stderr, "%s: %s: %s, its video %s; only MPEG-1 and MPEG-2 video can be taken\n", program, name, c->name,
                 t->of[other].codec);
         return 2;
     }

@@ -8,7 +8,7 @@
 struct container {
     const char *name;   /* such as "transport stream" */
     const char *format; /* libavformat's name; NULL where it does not read this */
-    const char *word;   /* what a stream's number in it is called: "PID" */
+    const char *word;   /* what a stream's number in it is called: "PID"; NULL where it is not told */
 };
 
 /* The container that the bytes are; NULL for an elementary stream, or for what cannot be told. */

@@ -116,6 +116,8 @@ int take_in(const char *name, const char *which, struct input *in)
     int status = 0;
     if (c != NULL)
         status = unpack(name, which, c, in);
+    else if (which != NULL && strcmp(which, "1") != 0)
+        status = trouble(name, "no container, so there is no stream to choose in it; leave out --stream");
     else if (in->stream.length == 0)
         status = trouble(name, "not an MPEG video stream: it is empty");
     else if (find_code(&in->stream, SEQUENCE) == in->stream.length && !is_cut_video(&in->stream))

@@ -30,15 +30,41 @@ uint64_t rate_under(uint32_t code)
 struct question {
     const struct stream *s;
     uint8_t standard;
+    int records;
     struct answer *a;
 };
 
-/* The library's verdict: for now with records, whose places are at hand. */
-static uint64_t verdict(const struct question *q, const struct stream *s, uint8_t standard, struct vbv_refusal *refusal)
+/* As vbv_report, until the library has it: vbv_check, with places for the records. */
+static uint64_t report_of(const uint8_t *stream, size_t stream_len, uint8_t standard, uint8_t *report, size_t report_len,
+                          uint8_t *refusal, size_t refusal_len)
 {
-    struct answer *a = q->a;
-    return vbv_check(s->bytes, s->length, standard, (uint8_t *)&a->report, sizeof a->report, (uint8_t *)a->records,
-                     (a->look.pictures + 1) * sizeof *a->records, (uint8_t *)refusal, sizeof *refusal);
+    struct stream s = { stream, stream_len };
+    size_t pictures = picture_codes(&s);
+    uint8_t *records = calloc(pictures + 1, VBV_RECORD_BYTES);
+    uint64_t number = VBV_RECORD_PLACES;
+    if (records != NULL)
+        number = vbv_check(stream, stream_len, standard, report, report_len, records, pictures * VBV_RECORD_BYTES, refusal,
+                           refusal_len);
+    free(records);
+    return number;
+}
+
+/* The verdict about a part alone. */
+static uint64_t verdict(const struct stream *s, uint8_t standard)
+{
+    struct vbv_report report;
+    struct vbv_refusal refusal;
+    return report_of(s->bytes, s->length, standard, (uint8_t *)&report, sizeof report, (uint8_t *)&refusal, sizeof refusal);
+}
+
+/* The whole answer, with records where there are places. */
+static uint64_t full_answer(const struct stream *s, uint8_t standard, struct answer *a)
+{
+    uint8_t *report = (uint8_t *)&a->report, *refusal = (uint8_t *)&a->refusal;
+    if (a->records == NULL)
+        return report_of(s->bytes, s->length, standard, report, sizeof a->report, refusal, sizeof a->refusal);
+    return vbv_check(s->bytes, s->length, standard, report, sizeof a->report, (uint8_t *)a->records,
+                     a->look.pictures * sizeof *a->records, refusal, sizeof a->refusal);
 }
 
 static int is_header_refusal(uint64_t number)
@@ -46,24 +72,37 @@ static int is_header_refusal(uint64_t number)
     return number == VBV_SHORT_HEADER || number == VBV_BAD_HEADER;
 }
 
-/* The verdict about the first pictures alone: the stream up to their end, the first sequence header put behind that where it comes
- * later. 15 where memory does not suffice. */
+/* The stream's first pictures: up to their end, the first sequence header put behind that where it comes later. */
+struct cut {
+    struct stream s;
+    uint8_t *joined;
+};
+
+/* Returns 0, or 1 where memory does not suffice. */
+static int cut_after(const struct question *q, size_t pictures, struct cut *c)
+{
+    size_t sequence = q->a->look.sequence, length = sequence_length(q->s, sequence, q->standard);
+    size_t end = pictures > 0 ? q->a->shown[pictures - 1].end : 0;
+    *c = (struct cut){ part(q->s, 0, end), NULL };
+    if (sequence + length <= end)
+        return 0;
+    c->joined = malloc(end + length);
+    if (c->joined == NULL)
+        return 1;
+    memcpy(c->joined, q->s->bytes, end);
+    memcpy(c->joined + end, q->s->bytes + sequence, length);
+    c->s = (struct stream){ c->joined, end + length };
+    return 0;
+}
+
+/* The verdict about the first pictures; 15 where memory does not suffice. */
 static uint64_t verdict_of_first(const struct question *q, size_t pictures)
 {
-    const struct look *l = &q->a->look;
-    struct vbv_refusal refusal;
-    size_t end = pictures > 0 ? q->a->shown[pictures - 1].end : 0, length = sequence_length(q->s, l->sequence, q->standard);
-    struct stream cut = part(q->s, 0, end);
-    if (l->sequence + length <= end)
-        return verdict(q, &cut, q->standard, &refusal);
-    uint8_t *joined = malloc(end + length);
-    if (joined == NULL)
+    struct cut c;
+    if (cut_after(q, pictures, &c) != 0)
         return VBV_RECORD_PLACES;
-    memcpy(joined, q->s->bytes, end);
-    memcpy(joined + end, q->s->bytes + l->sequence, length);
-    cut = (struct stream){ joined, end + length };
-    uint64_t number = verdict(q, &cut, q->standard, &refusal);
-    free(joined);
+    uint64_t number = verdict(&c.s, q->standard);
+    free(c.joined);
     return number;
 }
 
@@ -86,19 +125,17 @@ static size_t first_refused(const struct question *q)
 static const char *bad_sequence(const struct question *q)
 {
     size_t at = q->a->look.sequence;
-    struct vbv_refusal refusal;
     struct stream header = part(q->s, at, at + sequence_length(q->s, at, VBV_MPEG1));
     struct stream both = part(q->s, at, at + sequence_length(q->s, at, q->standard));
-    if (is_header_refusal(verdict(q, &header, VBV_MPEG1, &refusal)))
+    if (is_header_refusal(verdict(&header, VBV_MPEG1)))
         return "sequence header";
-    return is_header_refusal(verdict(q, &both, q->standard, &refusal)) ? "sequence extension" : NULL;
+    return is_header_refusal(verdict(&both, q->standard)) ? "sequence extension" : NULL;
 }
 
 /* Whether the header alone of a picture is refused: as MPEG-1, which has no extension, behind the sequence header. */
 static int is_bad_header(const struct question *q, const struct shown *p)
 {
     const struct look *l = &q->a->look;
-    struct vbv_refusal refusal;
     size_t sequence = sequence_length(q->s, l->sequence, VBV_MPEG1), length = p->end - p->at;
     if (q->standard == VBV_MPEG1 || p->type == D_PICTURE)
         return 1;
@@ -108,7 +145,7 @@ static int is_bad_header(const struct question *q, const struct shown *p)
     memcpy(joined, q->s->bytes + l->sequence, sequence);
     memcpy(joined + sequence, q->s->bytes + p->at, length);
     struct stream s = { joined, sequence + length };
-    int bad = is_header_refusal(verdict(q, &s, VBV_MPEG1, &refusal));
+    int bad = is_header_refusal(verdict(&s, VBV_MPEG1));
     free(joined);
     return bad;
 }
@@ -193,23 +230,32 @@ static int agrees(const struct answer *a, const struct place *p, uint64_t positi
     return ticks == a->refusal.expected;
 }
 
-/* When the refused picture is removed, and by how much too early or too late. Left untold where it would not agree with the
+/* When the picture is due, by those before it, and what the buffer holds then. */
+static void find_time(const struct question *q, struct place *p)
+{
+    const struct answer *a = q->a;
+    struct stream first = part(q->s, a->shown[0].at, q->s->length);
+    uint64_t halves = 0, before = p->picture > 0 ? BYTE * a->shown[p->picture - 1].end : 0;
+    for (size_t n = 0; n < p->picture; n++)
+        halves += a->shown[n].halves;
+    p->delivered = delivered_after(a, field_value(&first, DELAY), halves);
+    p->timed = p->delivered.whole >= before;
+    p->held = less(p->delivered, p->timed ? before : 0);
+}
+
+/* When the refused picture is due, and by how much too early or too late. Left untold where it would not agree with the
  * library. */
 static void measure(const struct question *q, struct place *p)
 {
     const struct answer *a = q->a;
-    uint64_t halves = 0, buffer = a->declared.buffer_bits;
-    struct stream first = part(q->s, a->shown[0].at, q->s->length);
-    for (size_t n = 0; n < p->picture; n++)
-        halves += a->shown[n].halves;
-    uint64_t before = p->picture > 0 ? BYTE * a->shown[p->picture - 1].end : 0;
+    uint64_t buffer = a->declared.buffer_bits;
     uint64_t position = BYTE * (a->shown[p->picture].at + CODE_BYTES), end = BYTE * a->shown[p->picture].end;
-    p->delivered = delivered_after(a, field_value(&first, DELAY), halves);
+    find_time(q, p);
     if (!agrees(a, p, position, end))
-        return;
-    p->timed = p->delivered.whole >= before;
-    p->held = less(p->delivered, p->timed ? before : 0);
+        p->timed = 0;
     p->measured = p->timed;
+    if (!p->timed)
+        return;
     if (a->number == VBV_OVERFLOW && p->held.whole >= buffer)
         p->over = less(p->held, buffer);
     else if (a->number == VBV_UNDERFLOW)
@@ -224,9 +270,20 @@ static void measure(const struct question *q, struct place *p)
 static void take_records(const struct question *q)
 {
     struct answer *a = q->a;
+    struct vbv_report report;
+    struct vbv_refusal refusal;
+    struct cut c;
     size_t pictures = a->place.picture;
-    if (a->place.in_picture && pictures > 0 && verdict_of_first(q, pictures) == 0)
+    if (!a->place.in_picture || pictures == 0)
+        return;
+    free(a->records);
+    a->records = calloc(pictures, sizeof *a->records);
+    if (a->records == NULL || cut_after(q, pictures, &c) != 0)
+        return;
+    if (vbv_check(c.s.bytes, c.s.length, q->standard, (uint8_t *)&report, sizeof report, (uint8_t *)a->records,
+                  pictures * sizeof *a->records, (uint8_t *)&refusal, sizeof refusal) == 0)
         a->recorded = pictures;
+    free(c.joined);
 }
 
 static void place_refusal(const struct question *q)
@@ -246,7 +303,10 @@ static void place_refusal(const struct question *q)
         place_picture(p, a, told ? (size_t)a->refusal.picture : first_refused(q));
         measure(q, p);
     }
-    take_records(q);
+    if (q->records || is_header_refusal(a->number))
+        take_records(q);
+    if (is_header_refusal(a->number) && a->recorded > 0)
+        find_time(q, p);
 }
 
 static int list_pictures(const struct question *q)
@@ -261,18 +321,16 @@ static int list_pictures(const struct question *q)
 
 int ask(const struct stream *s, uint8_t standard, int records, struct answer *a)
 {
-    struct question q = { s, standard, a };
+    struct question q = { s, standard, records, a };
     memset(a, 0, sizeof *a);
     look(s, standard, &a->look, NULL);
     if (a->look.sequence < s->length)
         a->declared = declared_at(s, a->look.sequence, standard);
-    a->records = calloc(a->look.pictures + 1, sizeof *a->records);
-    if (a->records == NULL || (records && list_pictures(&q) != 0))
+    if (records && ((a->records = calloc(a->look.pictures + 1, sizeof *a->records)) == NULL || list_pictures(&q) != 0))
         return 1;
-    a->number = verdict(&q, s, standard, &a->refusal);
-    if (a->number == 0) {
-        a->recorded = a->look.pictures;
-    } else {
+    a->number = full_answer(s, standard, a);
+    a->recorded = records && a->number == 0 ? a->look.pictures : 0;
+    if (a->number != 0) {
         if (a->shown == NULL && list_pictures(&q) != 0)
             return 1;
         place_refusal(&q);

@@ -52,22 +52,19 @@ struct stream part(const struct stream *s, size_t from, size_t to)
 }
 
 #ifdef __SSE2__
-/* Passes over blocks of 32 bytes in which no 01 could end a prefix; `at` is where the prefix would begin. */
+/* Of 16 bytes: which are 00 and have 01 after them. */
+static __m128i zero_one(const uint8_t *bytes)
+{
+    __m128i zeros = _mm_cmpeq_epi8(_mm_loadu_si128((const __m128i *)(const void *)bytes), _mm_setzero_si128());
+    __m128i ones = _mm_cmpeq_epi8(_mm_loadu_si128((const __m128i *)(const void *)(bytes + 1)), _mm_set1_epi8(1));
+    return _mm_and_si128(zeros, ones);
+}
+
+/* Passes over blocks of 32 bytes in which no 00 01 could end a prefix; `at` is where the prefix would begin. */
 static size_t pass_over(const uint8_t *bytes, size_t at, size_t length)
 {
-    const __m128i one = _mm_set1_epi8(1), zero = _mm_setzero_si128();
-    for (; at + 34 <= length; at += 32) {
-        __m128i low = _mm_cmpeq_epi8(_mm_loadu_si128((const __m128i *)(const void *)(bytes + at + 2)), one);
-        __m128i high = _mm_cmpeq_epi8(_mm_loadu_si128((const __m128i *)(const void *)(bytes + at + 18)), one);
-        if (_mm_movemask_epi8(_mm_or_si128(low, high)) == 0)
-            continue;
-        __m128i before_low = _mm_cmpeq_epi8(_mm_loadu_si128((const __m128i *)(const void *)(bytes + at + 1)), zero);
-        __m128i before_high = _mm_cmpeq_epi8(_mm_loadu_si128((const __m128i *)(const void *)(bytes + at + 17)), zero);
-        low = _mm_and_si128(low, before_low);
-        high = _mm_and_si128(high, before_high);
-        if (_mm_movemask_epi8(_mm_or_si128(low, high)) != 0)
-            break;
-    }
+    while (at + 34 <= length && _mm_movemask_epi8(_mm_or_si128(zero_one(bytes + at + 1), zero_one(bytes + at + 17))) == 0)
+        at += 32;
     return at;
 }
 #else

@@ -28,7 +28,7 @@ static void print_byte(const struct told *t)
     printf("at byte %zu%s", t->answer->place.byte, t->in->about[0] != 0 ? " of the video" : "");
 }
 
-/* The picture, with its delays where the library tells them; when it is removed. */
+/* The picture, with its delays where the library tells them; when it is due. */
 static void print_picture(const struct told *t)
 {
     const struct answer *a = t->answer;
@@ -43,7 +43,7 @@ static void print_picture(const struct told *t)
         printf("of type %c, ", type_letter(a->shown[a->place.picture].type));
     print_byte(t);
     if (a->place.timed)
-        printf(", removed at %s", clock_time(a->place.delivered, a->declared.bit_rate, time));
+        printf(", due at %s", clock_time(a->place.delivered, a->declared.bit_rate, time));
     printf("\n");
 }
 
