@@ -32,7 +32,7 @@ static const char *plural(uint32_t count)
     return count == 1 ? "" : "s";
 }
 
-static void print_buffer(uint32_t buffer)
+void print_buffer(uint32_t buffer)
 {
     printf(" a buffer of %" PRIu32 " unit%s (%" PRIu64 " bits)", buffer, plural(buffer), (uint64_t)buffer * CBR_BUFFER_UNIT);
 }
@@ -63,8 +63,7 @@ int is_swollen(const struct source *in, uint64_t bytes)
     return bytes / 2 > in->stream.length;
 }
 
-/* What OUT would have. */
-static void print_size(const struct source *in, uint64_t bytes)
+void print_size(const struct source *in, uint64_t bytes)
 {
     printf("      OUT would have %" PRIu64 " bytes; IN has %zu", bytes, in->stream.length);
     if (is_swollen(in, bytes))
@@ -98,12 +97,6 @@ static int is_hopeless(const struct trial *t)
     return t->at.rate != 0 && t->end.number != 0;
 }
 
-static void print_trial(const struct source *in, const struct request *r, const struct trial *t)
-{
-    print_command(r, t->at);
-    print_size(in, t->end.bytes);
-}
-
 static void print_hopeless(const struct source *in, const struct trial *t)
 {
     printf("  No rate and buffer would carry IN: ");
@@ -124,7 +117,6 @@ enum { TRIALS = 3 };
 
 static void try_all(struct source *in, const struct request *r, struct setting at, struct trial of[TRIALS])
 {
-    of[0] = least_rate(in, at);
     of[1] = of[2] = (struct trial){ { 0, 0 }, { .number = 0 } };
     if (is_hopeless(&of[0]))
         return;
@@ -136,11 +128,23 @@ static void try_all(struct source *in, const struct request *r, struct setting a
         of[2] = least_of_both(in, CBR_MOST_BUFFER);
 }
 
-void advise(struct source *in, const struct request *r, const struct wanted *w)
+/* Returns how many there are. */
+static int print_commands(const struct source *in, const struct request *r, const struct trial of[TRIALS])
 {
-    struct setting at = usable(w->at);
-    struct trial of[TRIALS];
-    int said = 0;
+    int count = 0;
+    for (int i = 0; i < TRIALS; i++)
+        if (carries(&of[i])) {
+            if (count++ == 0)
+                printf("  What would carry it:\n");
+            print_command(r, of[i].at);
+            print_size(in, of[i].end.bytes);
+        }
+    return count;
+}
+
+void advise(struct source *in, const struct request *r, struct setting at, struct trial rate)
+{
+    struct trial of[TRIALS] = { rate };
     try_all(in, r, at, of);
     end_progress(&in->progress);
     for (int i = 0; i < TRIALS; i++)
@@ -148,15 +152,9 @@ void advise(struct source *in, const struct request *r, const struct wanted *w)
             print_hopeless(in, &of[i]);
             return;
         }
-    if (!carries(&of[0]) && r->to != NULL)
+    if (!carries(&rate) && r->to != NULL)
         printf("  With a buffer of %" PRIu32 " unit%s no rate was found.\n", at.buffer, plural(at.buffer));
-    for (int i = 0; i < TRIALS; i++)
-        if (carries(&of[i])) {
-            if (!said++)
-                printf("  What would carry it:\n");
-            print_trial(in, r, &of[i]);
-        }
-    if (!said)
+    if (print_commands(in, r, of) == 0)
         printf("  No rate from %d to %d bits a second and no buffer from 1 to %d units was found that would carry it.\n"
                "  Encode it again with smaller pictures.\n",
                CBR_RATE_UNIT, CBR_MOST_RATE * CBR_RATE_UNIT, CBR_MOST_BUFFER);

@@ -32,15 +32,24 @@ struct job {
 /* The stream's name, and of a container what was taken from it. */
 static void print_name(const struct job *j, const char *words)
 {
-    printf("%s: %s", j->in.name, words);
+    printf("%s", j->in.name);
     if (j->input.about[0] != 0)
         printf(" (%s)", j->input.about);
+    printf(": %s", words);
 }
 
 static void print_damage(const struct job *j)
 {
     if (j->input.damaged > 0)
         printf("  Packets of IN that are torn or follow a lost one: %zu. Capture it again, if you can.\n", j->input.damaged);
+}
+
+/* What is wanted, and what would do instead. */
+static void advise_job(struct job *j)
+{
+    struct setting at = usable(j->want.at);
+    print_wanted(&j->want);
+    advise(&j->in, &j->asked, at, least_rate(&j->in, at));
 }
 
 /* What is refused, and why. */
@@ -64,10 +73,8 @@ static int refuse(struct job *j, const struct sending *end)
     if (end->number == VBV_PARAMETER)
         printf("  Rates go from %d to %d bits a second, buffers from 1 to %d units of %d bits.\n", CBR_RATE_UNIT,
                CBR_MOST_RATE * CBR_RATE_UNIT, CBR_MOST_BUFFER, CBR_BUFFER_UNIT);
-    if (is_of_setting(end->number)) {
-        print_wanted(&j->want);
-        advise(&j->in, &j->asked, &j->want);
-    }
+    if (is_of_setting(end->number))
+        advise_job(j);
     return REFUSED;
 }
 
@@ -77,12 +84,11 @@ static int refuse_no_rate(struct job *j)
     print_name(j, "refused");
     printf("\n");
     print_damage(j);
-    print_wanted(&j->want);
-    advise(&j->in, &j->asked, &j->want);
+    advise_job(j);
     return REFUSED;
 }
 
-/* The library's check of what was written. */
+/* The library's check of what was written; 15 where memory does not suffice. */
 static uint64_t verdict(const struct stream *s, size_t pictures, struct vbv_report *report)
 {
     struct vbv_refusal refusal;
@@ -102,8 +108,9 @@ static int check(const struct job *j, const struct outfile *out, uint64_t bytes,
     struct stream s = { mapped, bytes };
     uint64_t number = verdict(&s, j->in.pictures.count, report);
     munmap(mapped, bytes);
-    return number == 0 ? 0
-        : trouble(out->name, "refused by the check: a defect of this program or of the library, please report it");
+    if (number == VBV_RECORD_PLACES)
+        return trouble(out->name, "no memory for the check");
+    return number == 0 ? 0 : trouble(out->name, "refused by the check: a defect of this program or the library, please report it");
 }
 
 static void print_left_out(const struct source *in)
@@ -178,16 +185,16 @@ static int tell_least(struct job *j)
     struct setting at = usable(j->want.at);
     struct trial t = least_rate(&j->in, at);
     end_progress(&j->in.progress);
-    if (t.at.rate == 0 || t.end.number != 0) {
-        print_name(j, "no rate was found");
-        printf(" for a buffer of %" PRIu32 " units\n", at.buffer);
-        advise(&j->in, &j->asked, &(struct wanted){ at, at });
+    int found = t.at.rate != 0 && t.end.number == 0;
+    print_name(j, found ? "the least rate for" : "no rate was found for");
+    print_buffer(at.buffer);
+    printf("\n");
+    print_damage(j);
+    if (!found) {
+        advise(&j->in, &j->asked, at, t);
         return REFUSED;
     }
-    print_name(j, "the least rate");
-    printf(" for a buffer of %" PRIu32 " units, in bits a second\n  OUT would have %" PRIu64 " bytes; IN has %zu.\n", at.buffer,
-           t.end.bytes, j->in.stream.length);
-    print_damage(j);
+    print_size(&j->in, t.end.bytes);
     if (dprintf(j->data, "%" PRIu32 "\n", t.at.rate * CBR_RATE_UNIT) < 0)
         return trouble("standard output", strerror(errno));
     return SENT;
@@ -241,7 +248,7 @@ static int fill_standard(void)
     while (file >= 0 && file <= STDERR_FILENO);
     if (file > STDERR_FILENO)
         close(file);
-    return file < 0;
+    return file < 0 ? trouble("/dev/null", strerror(errno)) : 0;
 }
 
 int main(int count, char **words)
