@@ -106,13 +106,15 @@ static uint64_t verdict_of_first(const struct question *q, size_t pictures)
     return number;
 }
 
-/* The first picture with which the verdict is the refusal's, by halves. */
+/* The first picture with which the verdict is the refusal's, by halves; their count where memory does not suffice. */
 static size_t first_refused(const struct question *q)
 {
-    size_t from = 0, to = q->a->look.pictures - 1;
+    size_t pictures = q->a->look.pictures, from = 0, to = pictures - 1;
     while (from < to) {
         size_t middle = from + (to - from) / 2;
         uint64_t number = verdict_of_first(q, middle + 1);
+        if (number == VBV_RECORD_PLACES)
+            return pictures;
         if (number == q->a->number || (is_header_refusal(number) && is_header_refusal(q->a->number)))
             to = middle;
         else
@@ -159,6 +161,8 @@ static size_t extension_of(const struct question *q, const struct shown *p)
 
 static void place_picture(struct place *p, const struct answer *a, size_t picture)
 {
+    if (picture >= a->look.pictures)
+        return;
     p->in_picture = 1;
     p->picture = picture;
     p->byte = a->shown[picture].at;
@@ -174,6 +178,9 @@ static void place_header(const struct question *q, struct place *p)
             p->byte = next_code(q->s, p->byte + sequence_length(q->s, p->byte, VBV_MPEG1) - 2);
     } else if (q->a->look.pictures > 0) {
         place_picture(p, q->a, first_refused(q));
+        p->byte = p->in_picture ? p->byte : q->s->length;
+        if (!p->in_picture)
+            return;
         const struct shown *picture = q->a->shown + p->picture;
         int header = is_bad_header(q, picture);
         p->header = header ? "picture header" : "picture coding extension";
@@ -301,7 +308,8 @@ static void place_refusal(const struct question *q)
     } else if (a->number >= VBV_EARLY && a->number <= VBV_DELAY_MISMATCH) {
         int told = a->number >= VBV_OVERFLOW;
         place_picture(p, a, told ? (size_t)a->refusal.picture : first_refused(q));
-        measure(q, p);
+        if (p->in_picture)
+            measure(q, p);
     }
     if (q->records || is_header_refusal(a->number))
         take_records(q);

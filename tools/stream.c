@@ -1,13 +1,9 @@
 #define _POSIX_C_SOURCE 200809L
 #include "stream.h"
 
-#include <errno.h>
-#include <fcntl.h>
 #include <stdio.h>
 #include <string.h>
-#include <sys/mman.h>
 #include <sys/stat.h>
-#include <unistd.h>
 #ifdef __SSE2__
 #include <emmintrin.h>
 #endif
@@ -118,27 +114,6 @@ int trouble(const char *name, const char *what)
 {
     fprintf(stderr, "%s: %s: %s\n", program, name, what);
     return 2;
-}
-
-int map(const char *name, struct stream *s)
-{
-    struct stat about;
-    int file = open(name, O_RDONLY);
-    if (file < 0)
-        return trouble(name, strerror(errno));
-    int bad = fstat(file, &about) != 0;
-    if (!bad && !S_ISREG(about.st_mode)) {
-        close(file);
-        return trouble(name, "not a file");
-    }
-    s->length = bad ? 0 : (size_t)about.st_size;
-    void *bytes = s->length > 0 ? mmap(NULL, s->length, PROT_READ, MAP_PRIVATE, file, 0) : NULL;
-    bad = bad || bytes == MAP_FAILED;
-    s->bytes = bytes;
-    if (bad)
-        trouble(name, strerror(errno));
-    close(file);
-    return bad ? 2 : 0;
 }
 
 int same_file(const char *one, const char *other)
