@@ -98,12 +98,10 @@ uint8_t told_standard(const struct stream *s)
 {
     size_t sequence = find_code(s, SEQUENCE);
     size_t from = sequence < s->length ? sequence : find_code(s, PICTURE);
-    size_t at = from < s->length ? next_code(s, from + CODE_BYTES) : s->length;
-    struct stream extension = part(s, at, s->length);
-    uint32_t id = field_value(&extension, EXTENSION_ID);
-    if (code_at(s, at) == EXTENSION && id == (sequence < s->length ? SEQUENCE_EXTENSION : PICTURE_CODING_EXTENSION))
+    int code = from < s->length ? code_at(s, next_code(s, from + CODE_BYTES)) : -1;
+    if (code == EXTENSION)
         return VBV_MPEG2;
-    return sequence < s->length ? VBV_MPEG1 : 0;
+    return sequence < s->length && code >= 0 ? VBV_MPEG1 : 0;
 }
 
 /* What to do where the video cannot be taken out here. Returns 2. */

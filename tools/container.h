@@ -20,8 +20,8 @@ const struct container *container_of(const struct stream *s);
 /* Takes the video out of the container that `in` holds, in place of it. Returns 0, or 2 with the trouble told. */
 int unpack(const char *name, const char *which, const struct container *c, struct input *in);
 
-/* MPEG-2 where a sequence extension follows the first sequence header, or with no sequence header a picture coding extension the
- * first picture header; MPEG-1 where something else follows the sequence header; else 0. */
+/* MPEG-2 where an extension follows the first sequence header, or with no sequence header the first picture header: MPEG-1 has no
+ * extensions. MPEG-1 where another code follows the sequence header. Else 0: nothing tells. */
 uint8_t told_standard(const struct stream *s);
 
 #endif

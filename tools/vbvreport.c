@@ -185,7 +185,7 @@ static int check(const char *name, const struct input *in, const struct options 
     uint8_t standard = o->standard != 0 ? o->standard : in->standard;
     int status;
     if (standard == 0)
-        return trouble(name, "no sequence header, so its standard cannot be told; say -1 (MPEG-1) or -2 (MPEG-2)");
+        return trouble(name, "its headers do not tell its standard; say -1 (MPEG-1) or -2 (MPEG-2)");
     if (ask(&in->stream, standard, o->records || o->picture != NULL || o->form == CSV, &a) != 0) {
         status = trouble(name, "no memory for its pictures");
     } else if (a.number != 0 && (a.number >= VBV_RECORD_PLACES || vbv_refusal_name(a.number) == NULL)) {
