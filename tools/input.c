@@ -16,12 +16,6 @@
 /* The file whose pages are read, for the signal handler. */
 static const char *volatile mapped_name;
 
-static void say(const char *text)
-{
-    ssize_t written = write(STDERR_FILENO, text, strlen(text));
-    (void)written;
-}
-
 /* A page of a mapped file is gone. */
 static void on_bus_error(int number)
 {

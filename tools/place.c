@@ -202,7 +202,8 @@ static struct bits missing(struct bits a, uint64_t whole)
     return (struct bits){ whole - a.whole - borrow, borrow ? a.parts - a.part : 0, a.parts };
 }
 
-struct bits delivered_after(const struct answer *a, uint64_t delay, uint64_t halves)
+/* Bits delivered at a picture's removal, with `halves` field periods since the first one's: exact. */
+static struct bits delivered_after(const struct answer *a, uint64_t delay, uint64_t halves)
 {
     uint64_t over = rate_over(a->declared.rate_code), under = rate_under(a->declared.rate_code), rate = a->declared.bit_rate;
     uint64_t first = delay * rate, field = rate * under, parts = HALF_TICKS * over;
@@ -306,8 +307,7 @@ static void place_refusal(const struct question *q)
     } else if (a->number == VBV_VARIABLE_RATE) {
         place_picture(p, a, 0);
     } else if (a->number >= VBV_EARLY && a->number <= VBV_DELAY_MISMATCH) {
-        int told = a->number >= VBV_OVERFLOW;
-        place_picture(p, a, told ? (size_t)a->refusal.picture : first_refused(q));
+        place_picture(p, a, tells_delays(a) ? (size_t)a->refusal.picture : first_refused(q));
         if (p->in_picture)
             measure(q, p);
     }
@@ -346,6 +346,23 @@ int ask(const struct stream *s, uint8_t standard, int records, struct answer *a)
     return 0;
 }
 
+struct bits next_time(struct times *t)
+{
+    struct bits at = delivered_after(t->a, t->a->records[0].delay, t->halves);
+    t->halves += t->a->shown[t->picture++].halves;
+    return at;
+}
+
+int tells_delays(const struct answer *a)
+{
+    return a->number >= VBV_OVERFLOW && a->number <= VBV_DELAY_MISMATCH;
+}
+
+uint64_t data_bits(const struct answer *a, size_t picture)
+{
+    return BYTE * (a->shown[picture].end - (picture > 0 ? a->shown[picture - 1].end : 0));
+}
+
 void forget(struct answer *a)
 {
     free(a->shown);
@@ -372,7 +389,12 @@ const char *clock_time(struct bits at, uint64_t bit_rate, char *text)
     return text;
 }
 
+double in_bits(struct bits b)
+{
+    return (double)b.whole + (double)b.part / (double)b.parts;
+}
+
 double in_seconds(struct bits at, uint64_t bit_rate)
 {
-    return ((double)at.whole + (double)at.part / (double)at.parts) / (double)bit_rate;
+    return in_bits(at) / (double)bit_rate;
 }

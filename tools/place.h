@@ -44,13 +44,25 @@ void forget(struct answer *a);
 uint64_t rate_over(uint32_t code);
 uint64_t rate_under(uint32_t code);
 
-/* Bits delivered at a picture's removal, with `halves` field periods since the first one's: exact. */
-struct bits delivered_after(const struct answer *a, uint64_t delay, uint64_t halves);
+/* The times of an answer's pictures, one after the other; begins with { a, 0, 0 }. */
+struct times {
+    const struct answer *a;
+    size_t picture;
+    uint64_t halves;
+};
+struct bits next_time(struct times *t);
+
+/* Whether the refusal tells the coded and the expected delay. */
+int tells_delays(const struct answer *a);
+
+/* From the last picture's end to this one's, in bits. */
+uint64_t data_bits(const struct answer *a, size_t picture);
 
 /* Bits as a number with tenths, and a time in bits at a rate as mm:ss.mmm; both into `text`, which is returned. */
 enum { TEXT = 48 };
 const char *tenths(struct bits b, char *text);
 const char *clock_time(struct bits at, uint64_t bit_rate, char *text);
 double in_seconds(struct bits at, uint64_t bit_rate);
+double in_bits(struct bits b);
 
 #endif

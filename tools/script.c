@@ -35,27 +35,14 @@ static void string(const char *text)
     putchar('"');
 }
 
-/* The times of pictures, one after the other. */
-struct times {
-    const struct answer *a;
-    uint64_t halves;
-};
-
-static struct bits next_time(struct times *t, size_t n)
-{
-    struct bits at = delivered_after(t->a, t->a->records[0].delay, t->halves);
-    t->halves += t->a->shown[n].halves;
-    return at;
-}
-
 static void json_pictures(const struct answer *a)
 {
-    struct times times = { a, 0 };
+    struct times times = { a, 0, 0 };
     char time[TEXT];
     printf(",\"pictures\":[");
     for (size_t n = 0; n < a->recorded; n++) {
         const struct vbv_record *r = a->records + n;
-        struct bits at = next_time(&times, n);
+        struct bits at = next_time(&times);
         printf("%s{\"picture\":%zu,\"byte\":%zu,\"time\":\"%s\",\"seconds\":%.6f,\"type\":\"%c\"", n > 0 ? "," : "", n, a->shown[n].at,
                clock_time(at, a->declared.bit_rate, time), in_seconds(at, a->declared.bit_rate), type_letter(a->shown[n].type));
         printf(",\"delay\":%" PRIu64 ",\"expected\":%" PRIu64 ",\"data_bits\":%" PRIu64 ",\"before\":%" PRIu64 ",\"after\":%" PRIu64
@@ -101,12 +88,12 @@ static void json_refusal(const struct told *t)
     const struct answer *a = t->answer;
     printf("{\"number\":%" PRIu64 ",\"name\":\"%s\"", a->number, vbv_refusal_name(a->number));
     json_place(t);
-    if (a->number >= VBV_OVERFLOW && a->number <= VBV_DELAY_MISMATCH)
+    if (tells_delays(a))
         printf(",\"coded\":%" PRIu64 ",\"expected\":%" PRIu64, a->refusal.coded, a->refusal.expected);
     else
         printf(",\"coded\":null,\"expected\":null");
     if (a->place.measured)
-        printf(",\"bits\":%.6f", (double)a->place.over.whole + (double)a->place.over.part / (double)a->place.over.parts);
+        printf(",\"bits\":%.6f", in_bits(a->place.over));
     else
         printf(",\"bits\":null");
     printf("}");
@@ -196,12 +183,12 @@ static void csv_refusal(const struct told *t)
         printf(",%c", type_letter(a->shown[p->picture].type));
     else
         printf(",");
-    if (a->number >= VBV_OVERFLOW && a->number <= VBV_DELAY_MISMATCH)
+    if (tells_delays(a))
         printf(",%" PRIu64 ",%" PRIu64, a->refusal.coded, a->refusal.expected);
     else
         printf(",,");
     if (p->timed) {
-        uint64_t from = p->picture > 0 ? a->shown[p->picture - 1].end : 0, data = 8 * (a->shown[p->picture].end - from);
+        uint64_t data = data_bits(a, p->picture);
         printf(",%" PRIu64 ",%" PRIu64 ",%" PRId64, data, p->held.whole, (int64_t)p->held.whole - (int64_t)data);
     } else {
         printf(",,,");
@@ -212,11 +199,11 @@ static void csv_refusal(const struct told *t)
 void print_csv(const struct told *t)
 {
     const struct answer *a = t->answer;
-    struct times times = { a, 0 };
+    struct times times = { a, 0, 0 };
     char time[TEXT];
     for (size_t n = 0; n < a->recorded; n++) {
         const struct vbv_record *r = a->records + n;
-        struct bits at = next_time(&times, n);
+        struct bits at = next_time(&times);
         csv_name(t->name);
         printf(",%zu,%zu,%s,%c,%" PRIu64 ",%" PRIu64 ",%" PRIu64 ",%" PRIu64 ",%" PRIu64 ",\n", n, a->shown[n].at,
                clock_time(at, a->declared.bit_rate, time), type_letter(a->shown[n].type), r->delay, r->expected, r->data_bits,

@@ -4,6 +4,7 @@
 #include <stdio.h>
 #include <string.h>
 #include <sys/stat.h>
+#include <unistd.h>
 #ifdef __SSE2__
 #include <emmintrin.h>
 #endif
@@ -114,6 +115,12 @@ int trouble(const char *name, const char *what)
 {
     fprintf(stderr, "%s: %s: %s\n", program, name, what);
     return 2;
+}
+
+void say(const char *text)
+{
+    ssize_t written = write(STDERR_FILENO, text, strlen(text));
+    (void)written;
 }
 
 int same_file(const char *one, const char *other)

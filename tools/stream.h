@@ -63,6 +63,9 @@ extern const char program[];
 /* What ails a file, on standard error; returns 2, the exit status for it. */
 int trouble(const char *name, const char *what);
 
+/* Writes to standard error, also in a signal handler. */
+void say(const char *text);
+
 /* Whether two names are of one file. */
 int same_file(const char *one, const char *other);
 

@@ -60,12 +60,6 @@ struct options {
 static const char *volatile at_work;
 static volatile sig_atomic_t said;
 
-static void say(const char *text)
-{
-    ssize_t written = write(STDERR_FILENO, text, strlen(text));
-    (void)written;
-}
-
 static void on_alarm(int number)
 {
     (void)number;
@@ -104,22 +98,19 @@ static int bad_removal(const struct answer *a, struct removal *r)
     const struct place *p = &a->place;
     if (!p->in_picture || !p->timed)
         return 0;
-    uint64_t from = p->picture > 0 ? a->shown[p->picture - 1].end : 0;
-    double held = (double)p->held.whole + (double)p->held.part / (double)p->held.parts;
-    *r = (struct removal){ in_seconds(p->delivered, a->declared.bit_rate), held,
-                           held - 8.0 * (double)(a->shown[p->picture].end - from), type_letter(a->shown[p->picture].type),
-                           p->picture };
+    double held = in_bits(p->held);
+    *r = (struct removal){ in_seconds(p->delivered, a->declared.bit_rate), held, held - (double)data_bits(a, p->picture),
+                           type_letter(a->shown[p->picture].type), p->picture };
     return 1;
 }
 
 static void fill_removals(const struct answer *a, struct removal *of)
 {
-    uint64_t halves = 0;
+    struct times times = { a, 0, 0 };
     for (size_t n = 0; n < a->recorded; n++) {
-        double before = (double)a->records[n].occupancy_before, seconds = 0;
-        seconds = in_seconds(delivered_after(a, a->records[0].delay, halves), a->declared.bit_rate);
-        of[n] = (struct removal){ seconds, before, before - (double)a->records[n].data_bits, type_letter(a->shown[n].type), n };
-        halves += a->shown[n].halves;
+        double before = (double)a->records[n].occupancy_before;
+        of[n] = (struct removal){ in_seconds(next_time(&times), a->declared.bit_rate), before,
+                                  before - (double)a->records[n].data_bits, type_letter(a->shown[n].type), n };
     }
 }
 

@@ -34,7 +34,7 @@ static void print_picture(const struct told *t)
     const struct answer *a = t->answer;
     char time[TEXT];
     printf("  picture %zu (the first is 0)", a->place.picture);
-    if (a->number >= VBV_OVERFLOW && a->number <= VBV_DELAY_MISMATCH)
+    if (tells_delays(a))
         printf(", coded delay %" PRIu64 ", expected delay %" PRIu64, a->refusal.coded, a->refusal.expected);
     printf("\n  ");
     if (a->place.header != NULL)
