@@ -166,15 +166,21 @@ static void count_error(void *context, int level, const char *format, va_list va
     }
 }
 
-/* Where the packet of a program stream at `at` ends; `at` itself where none stands there. */
+/* Where the packet of a program stream at `at` ends, zero bytes before it passed over; `at` itself where none stands there. */
 static size_t packet_end(const struct stream *s, size_t at)
 {
-    struct stream p = part(s, at, s->length);
-    if (p.length < PACK_BYTES || next_code(&p, 0) != 0 || code_at(&p, 0) < SYSTEM)
+    size_t from = at;
+    while (from < s->length && s->bytes[from] == 0)
+        from++;
+    from -= from < s->length && from >= at + 2 ? 2 : 0;
+    struct stream p = part(s, from, s->length);
+    if (p.length < PACK_BYTES)
+        return s->length;
+    if (memcmp(p.bytes, "\0\0\1", 3) != 0 || code_at(&p, 0) < SYSTEM)
         return at;
     if (code_at(&p, 0) == PACK)
-        return at + ((p.bytes[4] & 0xC0) == 0x40 ? PACK_BYTES + (p.bytes[13] & 7u) : OLD_PACK_BYTES);
-    return at + (code_at(&p, 0) == SYSTEM ? CODE_BYTES : 6 + 256u * p.bytes[4] + p.bytes[5]);
+        return from + ((p.bytes[4] & 0xC0) == 0x40 ? PACK_BYTES + (p.bytes[13] & 7u) : OLD_PACK_BYTES);
+    return from + (code_at(&p, 0) == SYSTEM ? CODE_BYTES : 6 + 256u * p.bytes[4] + p.bytes[5]);
 }
 
 /* How often a program stream's packets do not follow one another; libavformat passes over that without a word. */
