@@ -20,21 +20,26 @@ AVFORMAT_LIBS := $(shell pkg-config --libs $(AVFORMAT))
 endif
 
 # The sources of each C program.
-reading = tools/stream.c $(wildcard tools/input.c tools/container.c) c/refusal_text.c
-vbvreport = tools/vbvreport.c tools/plot.c tools/report.c $(wildcard tools/look.c tools/place.c) $(reading)
-cbrsend = tools/cbrsend.c tools/sending.c tools/split.c tools/why.c tools/report.c $(reading)
+reading = tools/stream.c tools/input.c tools/container.c c/refusal_text.c
+vbvreport = tools/vbvreport.c tools/plot.c tools/label.c tools/report.c tools/look.c tools/place.c tools/caution.c tools/words.c \
+    tools/script.c $(reading)
+cbrsend = tools/cbrsend.c tools/request.c tools/advice.c tools/sending.c tools/split.c tools/why.c tools/outfile.c \
+    tools/progress.c tools/report.c $(reading)
 entries = tests/c/entries.c tests/c/places.c c/refusal_text.c
 sender = tests/c/sender.c tests/c/channel.c tests/c/rules.c tests/c/places.c c/refusal_text.c
 texts = tests/c/texts.c c/refusal_text.c
 structs = tests/c/structs.c
 stamp = tests/c/stamp.c
+drawings = tests/c/drawings.c tools/plot.c tools/label.c
 readme_check = target/tests/readme_check.c c/refusal_text.c
 readme_send = target/tests/readme_send.c c/refusal_text.c
+fuzz-vbvreport = tests/c/fuzz.c $(vbvreport)
+fuzz-cbrsend = tests/c/fuzz.c $(cbrsend)
 
 TOOLS = tools/vbvreport tools/cbrsend
-PROGRAMS = entries sender texts structs stamp readme_check readme_send
-TESTS = $(addprefix target/tests/,$(PROGRAMS))
-SANITIZED_TOOLS = $(addprefix target/sanitized/,$(notdir $(TOOLS)))
+PROGRAMS = entries sender texts structs stamp drawings readme_check readme_send
+TESTS = $(addprefix target/tests/,$(PROGRAMS) vbvreport)
+SANITIZED_TOOLS = $(addprefix target/sanitized/,$(notdir $(TOOLS)) fuzz-vbvreport fuzz-cbrsend)
 SANITIZED = $(SANITIZED_TOOLS) $(addprefix target/sanitized/,$(PROGRAMS))
 
 all: $(LIB) $(TOOLS)
@@ -53,8 +58,9 @@ target/tests/readme_check.c target/tests/readme_send.c: README.md
 
 $(TOOLS) $(SANITIZED_TOOLS): CFLAGS += $(AVFORMAT_CFLAGS)
 $(TOOLS) $(SANITIZED_TOOLS): LIBS = $(AVFORMAT_LIBS)
-$(TESTS): CFLAGS += -gdwarf-4
-$(SANITIZED): CFLAGS += -g -fsanitize=address,undefined -fno-sanitize-recover=all
+target/sanitized/fuzz-%: CFLAGS += -Dmain=tool_main -Wno-missing-prototypes
+$(TESTS): CFLAGS += -Itools -gdwarf-4
+$(SANITIZED): CFLAGS += -Itools -g -fsanitize=address,undefined -fno-sanitize-recover=all
 .SECONDEXPANSION:
 $(TOOLS) $(TESTS) $(SANITIZED): $$($$(notdir $$@)) $(HEADERS) $(LIB)
 	@mkdir -p $(@D)

@@ -1,115 +1,116 @@
 /* cbrsend: sends the pictures of an MPEG-2 stream at a constant rate. All judgement is the library's. */
 #define _POSIX_C_SOURCE 200809L
+#include "advice.h"
 #include "hipokuta.h"
+#include "input.h"
+#include "outfile.h"
 #include "report.h"
+#include "request.h"
 #include "sending.h"
-#include "stream.h"
-#include "why.h"
 
 #include <errno.h>
+#include <fcntl.h>
 #include <inttypes.h>
-#include <stdio.h>
 #include <stdlib.h>
 #include <string.h>
-#include <sys/stat.h>
+#include <sys/mman.h>
 #include <unistd.h>
 
 const char program[] = "cbrsend";
 
 enum { SENT = 0, REFUSED = 1, TROUBLE = 2 };
 
-static const char help[] =
-    "usage: cbrsend [-b RATE] [-B BUFFER] IN OUT\n"
-    "\n"
-    "Takes the pictures of the MPEG-2 video elementary stream in IN, made at whatever rate, and writes them to OUT at a\n"
-    "constant one: with new delays, and stuffing where the buffer would overflow. OUT is checked before it is called done.\n"
-    "Pictures are not encoded again: where one is too large, it is said by how much, and what rate or buffer would do.\n"
-    "Repeated sequence headers, IN's own stuffing and sequence ends within IN are left out (docs/SENDING.md).\n"
-    "\n"
-    "  -b RATE      bits a second, a multiple of 400 from 400 to 104857200. Without it, what IN's sequence header says.\n"
-    "  -B BUFFER    the set's buffer in units of 16384 bits, 1 to 1023. Without it, what IN's sequence header says.\n"
-    "  --help       prints this.\n"
-    "\n"
-    "Exit status: 0 sent, 1 refused, 2 bad use or a file that cannot be read or written. Only 0 leaves an OUT that was opened.\n";
+/* A sending: what was asked for, where the stream comes from, and where the result goes. */
+struct job {
+    struct request asked;
+    struct input input;
+    struct source in;
+    struct wanted want;
+    int data; /* standard output, for bytes and the least rate; words are then on standard error */
+};
 
-static void print_setting(struct setting at)
+/* The stream's name, and of a container what was taken from it. */
+static void print_name(const struct job *j, const char *words)
 {
-    printf("  Asked for: %" PRIu64 " bits a second, a buffer of %" PRIu32 " units (%" PRIu64 " bits).\n",
-           (uint64_t)at.rate * CBR_RATE_UNIT, at.buffer, (uint64_t)at.buffer * CBR_BUFFER_UNIT);
+    printf("%s", j->in.name);
+    if (j->input.about[0] != 0)
+        printf(" (%s)", j->input.about);
+    printf(": %s", words);
 }
 
-static void print_would_carry(struct source *in, struct setting at)
+static void print_damage(const struct job *j)
 {
-    struct sending end = send_all(in, at, NULL);
-    printf(" would carry the stream");
-    if (end.number != 0)
-        printf(" up to picture %zu, which is refused with %" PRIu64, end.picture, end.number);
-    printf(".\n");
+    if (j->input.damaged > 0)
+        printf("  Packets of IN that are torn or follow a lost one: %zu. Capture it again, if you can.\n", j->input.damaged);
 }
 
-/* What rate would do; if none, what buffer. */
-static void advise(struct source *in, struct setting at)
+/* What is wanted, and what would do instead. */
+static void advise_job(struct job *j)
 {
-    struct setting better = least_rate(in, at);
-    if (better.rate != 0) {
-        printf("  With this buffer %" PRIu32 " bits a second (-b)", better.rate * CBR_RATE_UNIT);
-        print_would_carry(in, better);
-        return;
-    }
-    printf("  With this buffer no rate was found that would carry the stream.\n");
-    better = least_buffer(in, at);
-    if (better.buffer != 0) {
-        printf("  The buffer is too small: at this rate one of %" PRIu32 " units (-B)", better.buffer);
-        print_would_carry(in, better);
-    } else {
-        printf("  At this rate no buffer was found either.\n");
-    }
-}
-
-static void print_why(const struct source *in, const struct sending *end)
-{
-    struct stream headers = headers_of(in, end->picture), layer = layer_of(in, end->picture);
-    if (end->number == CBR_HEADERS)
-        print_why_headers(&headers, end->picture == 0);
-    else
-        print_why_layer(&layer);
+    struct setting at = usable(j->want.at);
+    print_wanted(&j->want);
+    advise(&j->in, &j->asked, at, least_rate(&j->in, at));
 }
 
 /* What is refused, and why. */
-static int refuse(struct source *in, struct setting at, const struct sending *end)
+static int refuse(struct job *j, const struct sending *end)
 {
-    int named = end->number >= VBV_EARLY && end->number != VBV_PARAMETER;
+    int placed = end->number >= VBV_EARLY && end->number != VBV_PARAMETER;
+    end_progress(&j->in.progress);
     if (vbv_refusal_name(end->number) == NULL)
-        return trouble(in->name, "the library gave a refusal that no stream can cause");
-    printf("%s: refused", in->name);
-    if (named)
-        printf(" at picture %zu (the first is 0)", end->picture);
+        return trouble(j->in.name, "the library gave a refusal that no stream can cause: a defect, please report it");
+    print_name(j, "refused");
+    if (placed) {
+        printf(" at ");
+        print_place(&j->in, end);
+    }
     printf("\n  refusal %" PRIu64 ": %s\n  %s\n", end->number, vbv_refusal_name(end->number), vbv_refusal_text(end->number));
-    if (is_of_setting(end->number))
-        print_setting(at);
+    print_damage(j);
     if (end->number == CBR_TOO_LARGE)
         printf("  The picture is %" PRIu64 " bytes too large.\n", end->bytes_over);
+    if (placed)
+        print_cause(&j->in, end);
+    if (end->number == VBV_PARAMETER)
+        printf("  Rates go from %d to %d bits a second, buffers from 1 to %d units of %d bits.\n", CBR_RATE_UNIT,
+               CBR_MOST_RATE * CBR_RATE_UNIT, CBR_MOST_BUFFER, CBR_BUFFER_UNIT);
     if (is_of_setting(end->number))
-        advise(in, at);
-    if (end->number == CBR_HEADERS || end->number == CBR_LAYER)
-        print_why(in, end);
+        advise_job(j);
     return REFUSED;
 }
 
-/* The library's check of what was written. */
-static int check(const char *name, size_t pictures, struct vbv_report *report)
+/* Nobody has asked for a rate: then none is chosen here, but one is told. */
+static int refuse_no_rate(struct job *j)
 {
-    struct stream s = { NULL, 0 };
+    print_name(j, "refused");
+    printf("\n");
+    print_damage(j);
+    advise_job(j);
+    return REFUSED;
+}
+
+/* The library's check of what was written; 15 where memory does not suffice. */
+static uint64_t verdict(const struct stream *s, size_t pictures, struct vbv_report *report)
+{
     struct vbv_refusal refusal;
     struct vbv_record *records = calloc(pictures, sizeof *records);
-    if (records == NULL)
-        return trouble(name, "no memory for its records");
-    int status = map(name, &s);
-    if (status == 0 && vbv_check(s.bytes, s.length, VBV_MPEG2, (uint8_t *)report, sizeof *report, (uint8_t *)records,
-                                 pictures * sizeof *records, (uint8_t *)&refusal, sizeof refusal) != 0)
-        status = trouble(name, "refused by the check: a defect of this program or of the library");
+    uint64_t number = records == NULL ? VBV_RECORD_PLACES
+        : vbv_check(s->bytes, s->length, VBV_MPEG2, (uint8_t *)report, sizeof *report, (uint8_t *)records,
+                    pictures * sizeof *records, (uint8_t *)&refusal, sizeof refusal);
     free(records);
-    return status;
+    return number;
+}
+
+static int check(const struct job *j, const struct outfile *out, uint64_t bytes, struct vbv_report *report)
+{
+    void *mapped = mmap(NULL, bytes, PROT_READ, MAP_SHARED, fileno(out->file), 0);
+    if (mapped == MAP_FAILED)
+        return trouble(out->name, strerror(errno));
+    struct stream s = { mapped, bytes };
+    uint64_t number = verdict(&s, j->in.pictures.count, report);
+    munmap(mapped, bytes);
+    if (number == VBV_RECORD_PLACES)
+        return trouble(out->name, "no memory for the check");
+    return number == 0 ? 0 : trouble(out->name, "refused by the check: a defect of this program or the library, please report it");
 }
 
 static void print_left_out(const struct source *in)
@@ -125,89 +126,136 @@ static void print_left_out(const struct source *in)
     printf("  bytes of headers without a picture: %zu; the rest is stuffing.\n", p->headers_length - headers);
 }
 
-/* Checks what was written, and prints the summary. */
-static int finish(const struct source *in, const struct sending *end, const char *name, FILE *to)
+static void print_sent(const struct job *j, const struct sending *end, const struct vbv_report *report)
+{
+    printf("%s: sent at a constant rate\n", j->asked.to);
+    if (j->input.about[0] != 0)
+        printf("  From %s: %s.\n", j->in.name, j->input.about);
+    print_damage(j);
+    print_report(report);
+    printf("  %-12s %12" PRIu64 "  bytes\n", "stuffing", end->stuffing);
+    print_left_out(&j->in);
+    if (is_swollen(&j->in, end->bytes)) {
+        struct request least = j->asked;
+        least.to = NULL;
+        printf("  OUT has %" PRIu64 " bytes and IN %zu. This says the least rate that would do:\n", end->bytes,
+               j->in.stream.length);
+        print_command(&least, j->want.at);
+    }
+}
+
+/* Words that could not be written are told, and nothing is sent without them. */
+static int said(void)
+{
+    return fflush(stdout) != 0 || ferror(stdout) ? trouble("standard output", "cannot be written") : 0;
+}
+
+static int send_to(struct job *j, struct outfile *out)
 {
     struct vbv_report report;
-    if (fflush(to) != 0 || ferror(to))
-        return trouble(name, "cannot be written");
-    if (check(name, in->pictures.count, &report) != 0)
+    struct sending end = send_all(&j->in, j->want.at, out->file);
+    if (end.number != 0)
+        return refuse(j, &end);
+    show_stage(&j->in.progress, "writing to the disk, and checking");
+    int status = end.unwritten != 0 ? trouble(out->name, strerror(end.unwritten)) : settle_out(out);
+    if (status == 0)
+        status = check(j, out, end.bytes, &report);
+    end_progress(&j->in.progress);
+    if (status != 0)
+        return status;
+    print_sent(j, &end, &report);
+    return said();
+}
+
+static int send_job(struct job *j)
+{
+    struct outfile out;
+    if (open_out(j->asked.to, &out) != 0)
         return TROUBLE;
-    printf("%s: sent at a constant rate\n", name);
-    print_report(&report);
-    printf("  %-12s %12" PRIu64 "  bytes\n", "stuffing", end->stuffing);
-    print_left_out(in);
-    return SENT;
-}
-
-static int work(struct source *in, struct setting at, const char *name, FILE *to)
-{
-    if (split(&in->stream, &in->pictures) != 0)
-        return trouble(in->name, "no memory for its pictures");
-    struct sending end = { .number = find_sequence(in) };
-    if (end.number == 0) {
-        at = complete(in, at);
-        end = send_all(in, at, to);
-    }
-    return end.number == 0 ? finish(in, &end, name, to) : refuse(in, at, &end);
-}
-
-/* OUT may be a new file or an old one, but no device, and not IN by any name. Returns 0, or 2 with the trouble told. */
-static int may_write(const char *from, const char *to)
-{
-    struct stat out;
-    if (stat(to, &out) == 0 && !S_ISREG(out.st_mode))
-        return trouble(to, "not a file");
-    return same_file(from, to) ? trouble(to, "the same file as IN") : 0;
-}
-
-static int run(const char *from, const char *to, struct setting at)
-{
-    struct source in = { .name = from };
-    if (map(from, &in.stream) != 0 || may_write(from, to) != 0)
-        return TROUBLE;
-    FILE *file = fopen(to, "wb");
-    if (file == NULL)
-        return trouble(to, strerror(errno));
-    int status = work(&in, at, to, file);
-    release(&in.pictures);
-    if (fclose(file) != 0 && status == SENT)
-        status = trouble(to, strerror(errno));
-    if (fflush(stdout) != 0 || ferror(stdout))
-        status = trouble("standard output", "cannot be written");
-    if (status != SENT)
-        remove(to);
+    int status = send_to(j, &out);
+    if (status == SENT)
+        return keep_out(&out, j->data);
+    drop_out(&out);
     return status;
 }
 
-static int bad_use(void)
+/* The least rate alone on standard output. */
+static int tell_least(struct job *j)
 {
-    fprintf(stderr, "usage: cbrsend [-b RATE] [-B BUFFER] IN OUT   (--help says more)\n");
-    return TROUBLE;
+    struct setting at = usable(j->want.at);
+    struct trial t = least_rate(&j->in, at);
+    end_progress(&j->in.progress);
+    int found = t.at.rate != 0 && t.end.number == 0;
+    print_name(j, found ? "the least rate for" : "no rate was found for");
+    print_buffer(at.buffer);
+    printf("\n");
+    print_damage(j);
+    if (!found) {
+        advise(&j->in, &j->asked, at, t);
+        return REFUSED;
+    }
+    print_size(&j->in, t.end.bytes);
+    if (dprintf(j->data, "%" PRIu32 "\n", t.at.rate * CBR_RATE_UNIT) < 0)
+        return trouble("standard output", strerror(errno));
+    return SENT;
 }
 
-/* Digits, for a multiple of the unit from 1 to most units. Returns the units, or 0. */
-static uint32_t units(const char *text, uint32_t unit, uint32_t most)
+static int work(struct job *j)
 {
-    char *end;
-    unsigned long value = strtoul(text, &end, 10);
-    int digits = *text != 0 && strspn(text, "0123456789") == strlen(text);
-    return digits && value % unit == 0 && value / unit <= most ? (uint32_t)(value / unit) : 0;
+    if (open_source(&j->in) != 0)
+        return trouble(j->in.name, "no memory for its pictures");
+    struct sending end = { .number = find_sequence(&j->in) };
+    if (end.number != 0)
+        return refuse(j, &end);
+    j->want = complete(&j->in, j->asked.at);
+    end = send_first(&j->in);
+    if (end.number != 0 && !is_of_setting(end.number))
+        return refuse(j, &end);
+    if (j->asked.to == NULL)
+        return tell_least(j);
+    return names_no_rate(&j->want) ? refuse_no_rate(j) : send_job(j);
+}
+
+/* Words go to standard error where standard output is for something else. */
+static int set_aside_output(struct job *j)
+{
+    int for_data = j->asked.to == NULL || strcmp(j->asked.to, "-") == 0;
+    if (!for_data)
+        return 0;
+    j->data = dup(STDOUT_FILENO);
+    return j->data < 0 || dup2(STDERR_FILENO, STDOUT_FILENO) < 0 ? trouble("standard output", strerror(errno)) : 0;
+}
+
+static int run(struct job *j)
+{
+    if (j->asked.to != NULL && may_write(j->asked.from, j->asked.to) != 0)
+        return TROUBLE;
+    if (set_aside_output(j) != 0 || take_in(j->asked.from, j->asked.which, &j->input) != 0)
+        return TROUBLE;
+    j->in = (struct source){ .name = j->asked.from, .stream = j->input.stream, .unpacked = j->input.about[0] != 0 };
+    int status = work(j);
+    close_source(&j->in);
+    let_go(&j->input);
+    return said() != 0 ? TROUBLE : status;
+}
+
+/* Without this a file that is opened could become standard output, and take the words. */
+static int fill_standard(void)
+{
+    int file;
+    do
+        file = open("/dev/null", O_RDONLY);
+    while (file >= 0 && file <= STDERR_FILENO);
+    if (file > STDERR_FILENO)
+        close(file);
+    return file < 0 ? trouble("/dev/null", strerror(errno)) : 0;
 }
 
 int main(int count, char **words)
 {
-    struct setting at = { 0, 0 };
-    if (count > 1 && strcmp(words[1], "--help") == 0)
-        return fputs(help, stdout) < 0 || fflush(stdout) != 0 ? TROUBLE : 0;
-    for (int option; (option = getopt(count, words, "b:B:")) != -1;) {
-        uint32_t value = 0;
-        if (option == 'b')
-            value = at.rate = units(optarg, CBR_RATE_UNIT, CBR_MOST_RATE);
-        else if (option == 'B')
-            value = at.buffer = units(optarg, 1, CBR_MOST_BUFFER);
-        if (value == 0)
-            return bad_use();
-    }
-    return optind + 2 == count ? run(words[optind], words[optind + 1], at) : bad_use();
+    struct job j = { .data = -1 };
+    if (fill_standard() != 0)
+        return TROUBLE;
+    int status = read_words(count, words, &j.asked);
+    return status == GO ? run(&j) : status;
 }

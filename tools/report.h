@@ -1,4 +1,4 @@
-/* What the tools print of a report. */
+/* What the tools print of a report, for people. */
 #ifndef REPORT_H
 #define REPORT_H
 

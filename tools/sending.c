@@ -2,6 +2,12 @@
 
 #include "hipokuta.h"
 
+#include <errno.h>
+#include <stdlib.h>
+
+/* What a placed picture may take: none takes more than the buffer. */
+enum { PLACED_BYTES = CBR_MOST_BUFFER * (CBR_BUFFER_UNIT / 8) };
+
 static struct stream kept(const struct source *in, size_t from, size_t length)
 {
     return (struct stream){ in->pictures.headers + from, length };
@@ -18,10 +24,25 @@ struct stream layer_of(const struct source *in, size_t n)
     return part(&in->stream, p->layer, p->layer + p->layer_length);
 }
 
+int open_source(struct source *in)
+{
+    in->placed = malloc(PLACED_BYTES);
+    begin_progress(&in->progress);
+    return in->placed == NULL || split(&in->stream, &in->pictures) != 0;
+}
+
+void close_source(struct source *in)
+{
+    free(in->placed);
+    release(&in->pictures);
+}
+
 /* A writer is created with what the header declares, and no entry reads that out of a stream: so it is looked for here, and
  * what is not there is refused here. Whether the header is a good one the library says, once it is offered. */
 uint64_t find_sequence(struct source *in)
 {
+    if (in->pictures.headers_length == 0)
+        return VBV_NO_SEQUENCE;
     struct stream all = kept(in, 0, in->pictures.headers_length);
     size_t at = find_code(&all, SEQUENCE);
     if (at == all.length)
@@ -35,20 +56,24 @@ uint64_t find_sequence(struct source *in)
     return in->pictures.count == 0 ? VBV_NO_PICTURE : 0;
 }
 
-static uint32_t declared(const struct source *in, struct field low, struct field high)
+static uint32_t header_value(const struct source *in, struct field low, struct field high)
 {
     struct stream header = kept(in, in->header, SEQUENCE_BYTES);
     struct stream extension = kept(in, in->extension, in->pictures.headers_length - in->extension);
     return field_value(&extension, high) << low.width | field_value(&header, low);
 }
 
-struct setting complete(const struct source *in, struct setting at)
+struct setting declared(const struct source *in)
 {
-    if (at.rate == 0)
-        at.rate = declared(in, BIT_RATE, BIT_RATE_EXTENSION);
-    if (at.buffer == 0)
-        at.buffer = declared(in, VBV_BUFFER_SIZE, VBV_BUFFER_SIZE_EXTENSION);
-    return at;
+    return (struct setting){ header_value(in, BIT_RATE, BIT_RATE_EXTENSION),
+                             header_value(in, VBV_BUFFER_SIZE, VBV_BUFFER_SIZE_EXTENSION) };
+}
+
+int is_no_rate(uint32_t rate)
+{
+    uint32_t ones = (UINT32_C(1) << BIT_RATE.width) - 1;
+    uint32_t all = (UINT32_C(1) << (BIT_RATE.width + BIT_RATE_EXTENSION.width)) - 1;
+    return rate == 0 || rate == ones || rate == all;
 }
 
 /* Puts a setting into the first sequence header and its extension. */
@@ -87,9 +112,6 @@ static uint8_t kind_of(const struct stream *layer)
     return type == P_PICTURE ? CBR_P : type == B_PICTURE ? CBR_B : CBR_I;
 }
 
-/* A placed picture's bytes; none takes more than the buffer. */
-static uint8_t placed[CBR_MOST_BUFFER * (CBR_BUFFER_UNIT / 8)];
-
 /* Offers a picture; where it is wanted again, offers it again as it is, until the library gives up. */
 static uint64_t offer(const struct source *in, size_t n, struct cbr_state *w, struct cbr_answer *a)
 {
@@ -98,7 +120,7 @@ static uint64_t offer(const struct source *in, size_t n, struct cbr_state *w, st
     uint64_t number;
     do
         number = cbr_offer((uint8_t *)w, sizeof *w, headers.bytes, headers.length, kind_of(&layer), interval_of(&layer), last,
-                           layer.bytes, layer.length, placed, sizeof placed, (uint8_t *)a, sizeof *a);
+                           layer.bytes, layer.length, in->placed, PLACED_BYTES, (uint8_t *)a, sizeof *a);
     while (number == 0 && a->outcome == CBR_AGAIN);
     return number;
 }
@@ -115,8 +137,8 @@ static uint64_t first_delivered(const struct source *in, struct cbr_state w)
     struct vbv_record record = { .occupancy_before = 0 };
     struct vbv_refusal refusal;
     if (cbr_offer((uint8_t *)&w, sizeof w, headers.bytes, headers.length, CBR_I, CBR_FRAME, 1, smallest, sizeof smallest,
-                  placed, sizeof placed, (uint8_t *)&a, sizeof a) == 0 && a.outcome == CBR_PLACED)
-        vbv_check(placed, a.bytes, VBV_MPEG2, (uint8_t *)&report, sizeof report, (uint8_t *)&record, sizeof record,
+                  in->placed, PLACED_BYTES, (uint8_t *)&a, sizeof a) == 0 && a.outcome == CBR_PLACED)
+        vbv_check(in->placed, a.bytes, VBV_MPEG2, (uint8_t *)&report, sizeof report, (uint8_t *)&record, sizeof record,
                   (uint8_t *)&refusal, sizeof refusal);
     return record.occupancy_before;
 }
@@ -130,22 +152,36 @@ static uint64_t bytes_over(const struct source *in, size_t n, const struct cbr_s
     return end > delivered ? (end - delivered + 7) / 8 : 0;
 }
 
-struct sending send_all(struct source *in, struct setting at, FILE *to)
+/* Sends pictures from the first on, so many at most. */
+static struct sending send_some(struct source *in, struct setting at, FILE *to, size_t most)
 {
     struct cbr_state w;
     struct cbr_answer a;
     struct sending end = { .number = create(in, at, &w) };
-    while (end.number == 0 && end.picture < in->pictures.count) {
+    while (end.number == 0 && end.picture < most) {
         end.number = offer(in, end.picture, &w, &a);
         if (end.number != 0)
             break;
-        if (to != NULL)
-            fwrite(placed, 1, a.bytes, to);
-        end.picture++;
+        if (to != NULL && fwrite(in->placed, 1, a.bytes, to) != a.bytes) {
+            end.unwritten = errno;
+            break;
+        }
+        end.bytes += a.bytes;
+        end.stuffing = w.stuffing_bytes;
+        show_progress(&in->progress, ++end.picture, in->pictures.count);
     }
     end.bytes_over = end.number == CBR_TOO_LARGE ? bytes_over(in, end.picture, &w) : 0;
-    end.stuffing = end.number == 0 ? w.stuffing_bytes : 0;
     return end;
+}
+
+struct sending send_all(struct source *in, struct setting at, FILE *to)
+{
+    return send_some(in, at, to, in->pictures.count);
+}
+
+struct sending send_first(struct source *in)
+{
+    return send_some(in, (struct setting){ CBR_MOST_RATE, CBR_MOST_BUFFER }, NULL, 1);
 }
 
 int is_of_setting(uint64_t number)
@@ -154,34 +190,118 @@ int is_of_setting(uint64_t number)
         || number == CBR_STUFFING;
 }
 
-/* The least value of a setting's field that carries the stream, found by halves; 0 where none does. Only the refusal
- * too_high asks for a lower one. */
-static uint32_t least(struct source *in, struct setting *at, uint32_t *field, uint32_t most, uint64_t too_high)
+size_t repeating(const struct source *in)
 {
-    uint32_t found = 0;
-    for (uint32_t low = 1, high = most; low <= high;) {
-        *field = low + (high - low) / 2;
-        uint64_t number = send_all(in, *at, NULL).number;
-        if (!is_of_setting(number))
-            found = *field;
-        if (!is_of_setting(number) || number == too_high)
-            high = *field - 1;
-        else
-            low = *field + 1;
+    size_t count = 0;
+    for (size_t n = 0; n < in->pictures.count; n++) {
+        struct stream layer = layer_of(in, n);
+        struct stream extension = part(&layer, next_code(&layer, CODE_BYTES), layer.length);
+        count += code_at(&extension, 0) == EXTENSION && field_value(&extension, EXTENSION_ID) == PICTURE_CODING_EXTENSION
+            && field_value(&extension, REPEAT_FIRST_FIELD) != 0;
     }
+    return count;
+}
+
+/* A search for the least value that carries the stream: the values that it may still be, and whether one below or above
+ * these was tried. */
+struct search {
+    uint32_t low, high, step;
+    int below, above;
+};
+
+/* Away from the first value by steps that double, until there is one on either side; then by halves. */
+static uint32_t next_try(struct search *s)
+{
+    uint32_t span = s->high - s->low, step = s->step - 1 < span ? s->step - 1 : span;
+    if (s->below && s->above)
+        return s->low + span / 2;
+    s->step *= 2;
+    return s->below ? s->low + step : s->high - step;
+}
+
+/* What a trial tells of the values below and above. Only the refusal too_high asks for a lower one. */
+static void narrow(struct search *s, uint32_t tried, uint64_t number, uint64_t too_high)
+{
+    if (number == 0 || number == too_high) {
+        s->high = tried - 1;
+        s->above = 1;
+    } else {
+        s->low = tried + 1;
+        s->below = 1;
+    }
+}
+
+/* What is looked for, where to begin, the most that it may be, and the only refusal that asks for less. */
+struct aim {
+    enum { A_RATE, A_BUFFER, BOTH } what;
+    uint32_t likely, most;
+    uint64_t too_high;
+};
+
+/* With both the buffer is no larger than the rate fills in the longest delay, 65,534 ticks of 1/90,000 s. */
+static struct setting with(const struct aim *aim, struct setting at, uint32_t value)
+{
+    uint64_t filled = (uint64_t)value * CBR_RATE_UNIT * 65534 / 90000 / CBR_BUFFER_UNIT;
+    if (aim->what == A_BUFFER)
+        return (struct setting){ at.rate, value };
+    return (struct setting){ value, aim->what == BOTH && filled < at.buffer ? (uint32_t)filled : at.buffer };
+}
+
+static struct trial least(struct source *in, struct setting at, struct aim aim)
+{
+    struct search s = { .low = 1, .high = aim.most, .step = 1 };
+    struct trial found = { { 0, 0 }, { .number = VBV_PARAMETER } };
+    for (uint32_t value = aim.likely; s.low <= s.high; value = s.low <= s.high ? next_try(&s) : 0) {
+        struct trial tried = { with(&aim, at, value), { .number = 0 } };
+        in->progress.tries++;
+        tried.end = send_all(in, tried.at, NULL);
+        if (!is_of_setting(tried.end.number))
+            found = tried;
+        if (!is_of_setting(tried.end.number) && tried.end.number != 0)
+            break;
+        narrow(&s, value, tried.end.number, aim.too_high);
+    }
+    in->progress.tries = 0;
     return found;
 }
 
-/* Too high is only a rate that brings more than the buffer from one picture to the next. */
-struct setting least_rate(struct source *in, struct setting at)
+static uint32_t between(double value, uint32_t most)
 {
-    at.rate = least(in, &at, &at.rate, CBR_MOST_RATE, CBR_STUFFING);
-    return at;
+    return value < 1 ? 1 : value > most ? most : (uint32_t)value;
+}
+
+/* A rate near the least, to begin with: at it each picture would be whole when it is due, were there no stuffing. */
+static uint32_t likely_rate(struct source *in, uint32_t buffer)
+{
+    struct cbr_state w;
+    double bits = 0, seconds = 0, most = 0;
+    if (create(in, (struct setting){ CBR_MOST_RATE, buffer }, &w) != 0)
+        return 1;
+    double before = (double)first_delivered(in, w), field = (double)w.frd / (double)(2 * w.frn);
+    for (size_t n = 0; n < in->pictures.count; n++) {
+        struct stream layer = layer_of(in, n);
+        bits += 8.0 * (double)(headers_of(in, n).length + layer.length);
+        if (n > 0 && bits - before > most * seconds)
+            most = (bits - before) / seconds;
+        seconds += interval_of(&layer) * field;
+    }
+    return between(most / CBR_RATE_UNIT + 1, CBR_MOST_RATE);
+}
+
+/* Too high is only a rate that brings more than the buffer from one picture to the next. */
+struct trial least_rate(struct source *in, struct setting at)
+{
+    return least(in, at, (struct aim){ A_RATE, likely_rate(in, at.buffer), CBR_MOST_RATE, CBR_STUFFING });
+}
+
+struct trial least_of_both(struct source *in, uint32_t most_buffer)
+{
+    struct setting at = { 0, most_buffer };
+    return least(in, at, (struct aim){ BOTH, likely_rate(in, most_buffer), CBR_MOST_RATE, CBR_STUFFING });
 }
 
 /* Too large is only a buffer that takes longer to fill than a delay can say. */
-struct setting least_buffer(struct source *in, struct setting at)
+struct trial least_buffer(struct source *in, struct setting at)
 {
-    at.buffer = least(in, &at, &at.buffer, CBR_MOST_BUFFER, VBV_PARAMETER);
-    return at;
+    return least(in, at, (struct aim){ A_BUFFER, between(at.buffer, CBR_MOST_BUFFER), CBR_MOST_BUFFER, VBV_PARAMETER });
 }

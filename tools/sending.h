@@ -2,6 +2,7 @@
 #ifndef SENDING_H
 #define SENDING_H
 
+#include "progress.h"
 #include "split.h"
 
 #include <stdio.h>
@@ -14,8 +15,11 @@ struct setting {
 struct source {
     const char *name;
     struct stream stream;
+    int unpacked; /* from a container */
     struct pictures pictures;
     size_t header, extension; /* the first sequence header and its extension, among the kept headers; their length for none */
+    uint8_t *placed;          /* memory for a placed picture */
+    struct progress progress;
 };
 
 /* How a sending went: 0, or the refusal and the picture that caused it. */
@@ -23,27 +27,50 @@ struct sending {
     uint64_t number;
     size_t picture;
     uint64_t bytes_over; /* where the picture is too large */
-    uint64_t stuffing;   /* bytes, where all is sent */
+    uint64_t bytes, stuffing; /* sent */
+    int unwritten;       /* why bytes could not be written, as errno has it; 0 where they were */
+};
+
+/* A sending at a setting. */
+struct trial {
+    struct setting at;
+    struct sending end;
 };
 
 struct stream headers_of(const struct source *in, size_t n);
 struct stream layer_of(const struct source *in, size_t n);
 
+/* Takes the stream apart, and gets memory for the sending. Returns 0, or 1 where memory does not suffice. */
+int open_source(struct source *in);
+void close_source(struct source *in);
+
 /* Looks for the first sequence header and its extension. Returns 0, or the refusal of a stream that cannot be begun. */
 uint64_t find_sequence(struct source *in);
 
-/* The setting with what the stream declares, where none is given. */
-struct setting complete(const struct source *in, struct setting at);
+/* The setting that the stream declares. */
+struct setting declared(const struct source *in);
+
+/* Whether a rate is none: 0, or all ones, with the bits of the extension or without. */
+int is_no_rate(uint32_t rate);
 
 /* Sends the whole stream, or what comes before a refusal; for a trial `to` is NULL. */
 struct sending send_all(struct source *in, struct setting at, FILE *to);
 
+/* Offers the first picture at the most rate and buffer: what is refused so is refused at any. */
+struct sending send_first(struct source *in);
+
 /* Whether another rate or buffer may help against a refusal. */
 int is_of_setting(uint64_t number);
 
-/* The least rate that carries the stream with this buffer, and the least buffer that carries it at this rate, found by halves;
- * 0 where none is found. */
-struct setting least_rate(struct source *in, struct setting at);
-struct setting least_buffer(struct source *in, struct setting at);
+/* How many pictures have repeat_first_field set. */
+size_t repeating(const struct source *in);
+
+/* The least rate that carries the stream with this buffer, and the least buffer that carries it at this rate, with how that
+ * went; the rate or buffer is 0 where none is found. Where a picture is met that no setting helps, that is how it went. */
+struct trial least_rate(struct source *in, struct setting at);
+struct trial least_buffer(struct source *in, struct setting at);
+
+/* The least rate with any buffer up to this one. */
+struct trial least_of_both(struct source *in, uint32_t most_buffer);
 
 #endif

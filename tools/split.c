@@ -14,15 +14,29 @@ struct walk {
     int matrices;     /* a picture has brought quantiser matrices */
     int leaving_out;  /* a repeated sequence header */
     size_t taken;     /* headers that belong to a picture */
+    size_t next;      /* the start code after the one that is taken */
+    size_t pictures, headers; /* how many pictures and bytes of headers there is memory for */
 };
 
-/* Where a code's bytes end: at the next code, less the zero bytes before that but for `keep`. */
-static size_t end_of(const struct stream *s, size_t at, size_t keep)
+/* Where the bytes of a code end that the next one follows: there, less the zero bytes before that but for `keep`. */
+static size_t end_before(const struct stream *s, size_t at, size_t next, size_t keep)
 {
-    size_t next = next_code(s, at + CODE_BYTES), end = next;
+    size_t end = next;
     while (end > at + CODE_BYTES && s->bytes[end - 1] == 0)
         end--;
     return next - end < keep ? next : end + keep;
+}
+
+/* A code's bytes without the zeros before the next. */
+static struct stream unit_at(const struct stream *s, size_t at)
+{
+    return part(s, at, end_before(s, at, next_code(s, at + CODE_BYTES), 0));
+}
+
+/* The bytes of the code that is taken, with zeros that may be its own. */
+static struct stream taken_unit(const struct walk *w, size_t at)
+{
+    return part(w->s, at, end_before(w->s, at, w->next, OWN_ZEROS));
 }
 
 /* The bits of a sequence header and of its extension that say rate and buffer. */
@@ -43,7 +57,7 @@ static uint8_t byte_at(const struct stream *s, size_t i)
 
 static int same_unit(const struct stream *s, size_t a, size_t b)
 {
-    struct stream x = part(s, a, end_of(s, a, 0)), y = part(s, b, end_of(s, b, 0));
+    struct stream x = unit_at(s, a), y = unit_at(s, b);
     size_t length = x.length > y.length ? x.length : y.length;
     for (size_t i = 0; i < length; i++)
         if (((byte_at(&x, i) ^ byte_at(&y, i)) & ~rate_and_buffer(&x, i)) != 0)
@@ -72,12 +86,28 @@ static int same_sequence(const struct stream *s, size_t a, size_t b)
     return a == b;
 }
 
-/* Keeps bytes as headers; only counts them while there is no memory for them. */
-static void keep(struct pictures *p, const struct stream *bytes)
+/* Twice the memory, or some; NULL where there is none, and then the old stays. */
+static void *grown(void *old, size_t *places, size_t size)
 {
-    if (p->headers != NULL)
-        memcpy(p->headers + p->headers_length, bytes->bytes, bytes->length);
+    size_t more = *places == 0 ? 1024 : 2 * *places;
+    void *bytes = more > SIZE_MAX / size ? NULL : realloc(old, more * size);
+    if (bytes != NULL)
+        *places = more;
+    return bytes;
+}
+
+/* Keeps bytes as headers. Returns 0, or 1 where memory does not suffice. */
+static int keep(struct walk *w, struct pictures *p, const struct stream *bytes)
+{
+    while (p->headers == NULL || w->headers - p->headers_length < bytes->length) {
+        uint8_t *more = grown(p->headers, &w->headers, 1);
+        if (more == NULL)
+            return 1;
+        p->headers = more;
+    }
+    memcpy(p->headers + p->headers_length, bytes->bytes, bytes->length);
     p->headers_length += bytes->length;
+    return 0;
 }
 
 /* Whether a code goes on with the open picture: extensions and user data before its slices, then slices. */
@@ -86,27 +116,34 @@ static int belongs(const struct walk *w, int code)
     return w->open && (is_slice(code) || (!w->slices && (code == EXTENSION || code == USER_DATA)));
 }
 
-static void take_picture(struct walk *w, struct pictures *p, size_t at)
+static int take_picture(struct walk *w, struct pictures *p, size_t at)
 {
-    p->of[p->count++] = (struct picture){ w->taken, p->headers_length - w->taken, at, end_of(w->s, at, OWN_ZEROS) - at };
+    if (p->count == w->pictures) {
+        struct picture *more = grown(p->of, &w->pictures, sizeof *more);
+        if (more == NULL)
+            return 1;
+        p->of = more;
+    }
+    p->of[p->count++] = (struct picture){ w->taken, p->headers_length - w->taken, at, taken_unit(w, at).length };
     w->taken = p->headers_length;
     w->open = 1;
     w->slices = w->leaving_out = 0;
+    return 0;
 }
 
 static void take_more(struct walk *w, struct pictures *p, size_t at)
 {
     struct picture *open = p->of + p->count - 1;
-    struct stream unit = part(w->s, at, end_of(w->s, at, OWN_ZEROS));
+    struct stream unit = taken_unit(w, at);
     open->layer_length = at + unit.length - open->layer;
     w->slices = is_slice(code_at(&unit, 0));
     w->matrices |= !w->slices && code_at(&unit, 0) == EXTENSION && field_value(&unit, EXTENSION_ID) == QUANT_MATRIX_EXTENSION;
 }
 
 /* A code outside of pictures: kept as a header, or left out. */
-static void take_header(struct walk *w, struct pictures *p, size_t at)
+static int take_header(struct walk *w, struct pictures *p, size_t at)
 {
-    struct stream unit = part(w->s, at, end_of(w->s, at, OWN_ZEROS));
+    struct stream unit = taken_unit(w, at);
     int code = code_at(&unit, 0), first = code == SEQUENCE && w->sequence == w->s->length;
     w->open = 0;
     if (first)
@@ -117,48 +154,42 @@ static void take_header(struct walk *w, struct pictures *p, size_t at)
         w->leaving_out = 0;
     p->repeated += w->leaving_out && code == SEQUENCE;
     p->ends += code == SEQUENCE_END;
-    if (!w->leaving_out && code != SEQUENCE_END)
-        keep(p, &unit);
+    return w->leaving_out || code == SEQUENCE_END ? 0 : keep(w, p, &unit);
 }
 
 /* Bytes before the first start code are kept too, unless they are zeros. */
-static void take_lead(struct pictures *p, const struct stream *s, size_t length)
+static int take_lead(struct walk *w, struct pictures *p)
 {
     size_t from = 0;
-    while (from < length && s->bytes[from] == 0)
+    while (from < w->next && w->s->bytes[from] == 0)
         from++;
-    if (from < length) {
-        struct stream lead = part(s, from, length);
-        keep(p, &lead);
-    }
+    struct stream lead = part(w->s, from, w->next);
+    return keep(w, p, &lead);
 }
 
-static void take_all(struct pictures *p, const struct stream *s)
+/* Takes what stands at a start code. Returns 0, or 1 where memory does not suffice. */
+static int take(struct walk *w, struct pictures *p, size_t at)
 {
-    struct walk w = { .s = s, .sequence = s->length };
-    *p = (struct pictures){ .of = p->of, .headers = p->headers };
-    take_lead(p, s, next_code(s, 0));
-    for (size_t at = next_code(s, 0); at < s->length; at = next_code(s, at + CODE_BYTES)) {
-        if (code_at(s, at) == PICTURE)
-            take_picture(&w, p, at);
-        else if (belongs(&w, code_at(s, at)))
-            take_more(&w, p, at);
-        else
-            take_header(&w, p, at);
-    }
+    int code = code_at(w->s, at);
+    if (code == PICTURE)
+        return take_picture(w, p, at);
+    if (!belongs(w, code))
+        return take_header(w, p, at);
+    take_more(w, p, at);
+    return 0;
 }
 
 int split(const struct stream *s, struct pictures *p)
 {
-    *p = (struct pictures){ .of = malloc((picture_codes(s) + 1) * sizeof *p->of) };
-    if (p->of == NULL)
-        return 1;
-    take_all(p, s);
-    p->headers = malloc(p->headers_length + 1);
-    if (p->headers == NULL)
-        return 1;
-    take_all(p, s);
-    return 0;
+    struct walk w = { .s = s, .sequence = s->length, .next = next_code(s, 0) };
+    *p = (struct pictures){ .of = NULL };
+    int failed = s->length > 0 && take_lead(&w, p);
+    while (!failed && w.next < s->length) {
+        size_t at = w.next;
+        w.next = next_code(s, at + CODE_BYTES);
+        failed = take(&w, p, at);
+    }
+    return failed;
 }
 
 void release(struct pictures *p)

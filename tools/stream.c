@@ -1,13 +1,13 @@
 #define _POSIX_C_SOURCE 200809L
 #include "stream.h"
 
-#include <errno.h>
-#include <fcntl.h>
 #include <stdio.h>
 #include <string.h>
-#include <sys/mman.h>
 #include <sys/stat.h>
 #include <unistd.h>
+#ifdef __SSE2__
+#include <emmintrin.h>
+#endif
 
 const struct field FRAME_RATE_CODE = { 60, 4 }, BIT_RATE = { 64, 18 }, VBV_BUFFER_SIZE = { 83, 10 };
 const struct field EXTENSION_ID = { 32, 4 }, BIT_RATE_EXTENSION = { 51, 12 }, VBV_BUFFER_SIZE_EXTENSION = { 64, 8 },
@@ -48,11 +48,40 @@ struct stream part(const struct stream *s, size_t from, size_t to)
     return (struct stream){ s->bytes + from, to - from };
 }
 
+#ifdef __SSE2__
+/* Of 16 bytes: which are 00 and have 01 after them. */
+static __m128i zero_one(const uint8_t *bytes)
+{
+    __m128i zeros = _mm_cmpeq_epi8(_mm_loadu_si128((const __m128i *)(const void *)bytes), _mm_setzero_si128());
+    __m128i ones = _mm_cmpeq_epi8(_mm_loadu_si128((const __m128i *)(const void *)(bytes + 1)), _mm_set1_epi8(1));
+    return _mm_and_si128(zeros, ones);
+}
+
+/* Passes over blocks of 32 bytes in which no 00 01 could end a prefix; `at` is where the prefix would begin. */
+static size_t pass_over(const uint8_t *bytes, size_t at, size_t length)
+{
+    while (at + 34 <= length && _mm_movemask_epi8(_mm_or_si128(zero_one(bytes + at + 1), zero_one(bytes + at + 17))) == 0)
+        at += 32;
+    return at;
+}
+#else
+/* Goes on to where the next 01 could end a prefix. */
+static size_t pass_over(const uint8_t *bytes, size_t at, size_t length)
+{
+    const uint8_t *one = at + 2 < length ? memchr(bytes + at + 2, 1, length - at - 2) : NULL;
+    return one == NULL ? length : (size_t)(one - bytes) - 2;
+}
+#endif
+
 size_t next_code(const struct stream *s, size_t at)
 {
-    for (; at + CODE_BYTES <= s->length; at++)
-        if (s->bytes[at] == 0 && s->bytes[at + 1] == 0 && s->bytes[at + 2] == 1)
-            return at;
+    const uint8_t *b = s->bytes;
+    while (at + CODE_BYTES <= s->length) {
+        at = pass_over(b, at, s->length);
+        for (size_t end = at + 32; at < end && at + CODE_BYTES <= s->length; at++)
+            if (b[at + 2] == 1 && b[at + 1] == 0 && b[at] == 0)
+                return at;
+    }
     return s->length;
 }
 
@@ -88,25 +117,10 @@ int trouble(const char *name, const char *what)
     return 2;
 }
 
-int map(const char *name, struct stream *s)
+void say(const char *text)
 {
-    struct stat about;
-    int file = open(name, O_RDONLY);
-    if (file < 0)
-        return trouble(name, strerror(errno));
-    int bad = fstat(file, &about) != 0;
-    if (!bad && !S_ISREG(about.st_mode)) {
-        close(file);
-        return trouble(name, "not a file");
-    }
-    s->length = bad ? 0 : (size_t)about.st_size;
-    void *bytes = s->length > 0 ? mmap(NULL, s->length, PROT_READ, MAP_PRIVATE, file, 0) : NULL;
-    bad = bad || bytes == MAP_FAILED;
-    s->bytes = bytes;
-    if (bad)
-        trouble(name, strerror(errno));
-    close(file);
-    return bad ? 2 : 0;
+    ssize_t written = write(STDERR_FILENO, text, strlen(text));
+    (void)written;
 }
 
 int same_file(const char *one, const char *other)

@@ -63,8 +63,8 @@ extern const char program[];
 /* What ails a file, on standard error; returns 2, the exit status for it. */
 int trouble(const char *name, const char *what);
 
-/* Maps a file. An empty one is no bytes, and no memory. Returns 0, or 2 with the trouble told. */
-int map(const char *name, struct stream *s);
+/* Writes to standard error, also in a signal handler. */
+void say(const char *text);
 
 /* Whether two names are of one file. */
 int same_file(const char *one, const char *other);

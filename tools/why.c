@@ -38,26 +38,30 @@ static const char *why_first_headers(const struct stream *headers)
 {
     struct stream extension = extension_after(headers, SEQUENCE_EXTENSION);
     if (code_at(headers, 0) != SEQUENCE)
-        return "No sequence header stands before the first picture.";
+        return "No sequence header stands before the first picture: cut what comes before the first one.";
     if (extension.length == 0)
-        return "No sequence extension follows the sequence header: this is MPEG-1, and only MPEG-2 is sent.";
+        return "No sequence extension follows the sequence header: this is MPEG-1, and only MPEG-2 is sent. vbvreport\n"
+               "  checks MPEG-1 too; encode it as MPEG-2 to send it.";
     if (field_value(&extension, FRAME_RATE_EXTENSIONS) != 0)
-        return "The frame rate extensions are not 0, so that the frame rate is none of the table's eight.";
-    return "The sequence header or its extension breaks a rule of the standard, or a second one differs.";
+        return "The frame rate extensions are not 0, so that the frame rate is none of the table's eight. Encode it at one of\n"
+               "  these.";
+    return "The sequence header or its extension breaks a rule of the standard, or a second one differs. Encode it again, or\n"
+           "  cut IN where the second one stands.";
 }
 
 void print_why_headers(const struct stream *headers, int first)
 {
     int strange = strange_code(headers);
     if (headers->length > 0 && next_code(headers, 0) != 0)
-        printf("  Bytes that are no header stand before the first start code.\n");
+        printf("  Bytes that are no header stand before the first start code: cut them off.\n");
     else if (strange >= 0)
-        printf("  There is a start code %02X among them: %s.\n", (unsigned)strange, code_name(strange));
+        printf("  There is a start code %02X among them: %s. Copy or capture it again.\n", (unsigned)strange,
+               code_name(strange));
     else if (first)
         printf("  %s\n", why_first_headers(headers));
     else
         printf("  A sequence header among them differs from the first in more than rate and buffer, or takes back quantiser\n"
-               "  matrices that a picture has brought, so it cannot be left out.\n");
+               "  matrices that a picture has brought, so it cannot be left out. Cut IN there, and send the parts one by one.\n");
 }
 
 /* Full-pel flags 0 and codes 7, where the type has them. */
@@ -75,24 +79,34 @@ static int has_slice(const struct stream *layer)
     return at < layer->length;
 }
 
+static int is_film(const struct stream *extension)
+{
+    return field_value(extension, REPEAT_FIRST_FIELD) != 0;
+}
+
 static const char *why_layer(const struct stream *layer)
 {
     uint32_t type = field_value(layer, PICTURE_CODING_TYPE);
     struct stream extension = extension_after(layer, PICTURE_CODING_EXTENSION);
     if (type == D_PICTURE)
-        return "It is a D picture, which MPEG-2 does not have.";
+        return "It is a D picture, which MPEG-2 does not have. Encode it again.";
     if (extension.length == 0)
-        return "No picture coding extension follows its header: it is cut off, or MPEG-1.";
-    if (field_value(&extension, REPEAT_FIRST_FIELD) != 0)
-        return "Its repeat_first_field is set: film shown at another rate is not sent.";
+        return "No picture coding extension follows its header: it is cut off, or MPEG-1. Copy or capture it again.";
+    if (is_film(&extension))
+        return "Its repeat_first_field is set: this is film material, of which fields are shown twice, and such is not sent.\n"
+               "  Encode it without pulldown, each frame shown for the same time, and send that.";
     if (!vectors_fit(layer, type))
-        return "Its header's full-pel flags and vector codes are not 0 and 7, as MPEG-2 has them.";
+        return "Its header's full-pel flags and vector codes are not 0 and 7, as MPEG-2 has them. Encode it again.";
     if (!has_slice(layer))
-        return "It has no slice: it is cut off, or a code that no picture has stands before its slices.";
-    return "A header of it breaks a rule of the standard, or it is cut off.";
+        return "It has no slice: it is cut off, or a code that no picture has stands before its slices. Copy or capture it\n"
+               "  again.";
+    return "A header of it breaks a rule of the standard, or it is cut off. Copy or capture it again.";
 }
 
-void print_why_layer(const struct stream *layer)
+enum cause print_why_layer(const struct stream *layer)
 {
+    struct stream extension = extension_after(layer, PICTURE_CODING_EXTENSION);
+    int type = (int)field_value(layer, PICTURE_CODING_TYPE);
     printf("  %s\n", why_layer(layer));
+    return type != D_PICTURE && is_film(&extension) ? FILM : OTHER;
 }

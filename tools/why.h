@@ -6,6 +6,9 @@
 #include "stream.h"
 
 void print_why_headers(const struct stream *headers, int first);
-void print_why_layer(const struct stream *layer);
+
+/* Returns FILM where the cause is a repeated field, else OTHER. */
+enum cause { OTHER, FILM };
+enum cause print_why_layer(const struct stream *layer);
 
 #endif

@@ -1,0 +1,176 @@
+#include "look.h"
+
+#include "hipokuta.h"
+
+static const struct field WIDTH = { 32, 12 }, HEIGHT = { 44, 12 }, LOAD_MATRIX = { 94, 1 }, LOAD_SECOND = { 95, 1 };
+static const struct field WIDTH_EXTENSION = { 47, 2 }, HEIGHT_EXTENSION = { 49, 2 };
+static const struct field EXTRA_BIT = { 61, 1 };
+
+enum { MATRIX_BYTES = 64 };
+
+/* Where the walk stands: outside of pictures, in a picture before its slices, or among them. */
+enum stand { OUTSIDE, OPEN, SLICES };
+
+struct walk {
+    const struct stream *s;
+    uint8_t standard;
+    enum stand stand;
+    struct look *l;
+    struct shown *of;
+};
+
+/* A sequence header's rate is in units of 400 bits a second, its buffer in units of 16,384 bits. */
+enum { RATE_UNIT = CBR_RATE_UNIT, BUFFER_UNIT = CBR_BUFFER_UNIT };
+
+/* The prefix that follows a header which ends at byte `end`: zero bytes are passed over, and its own zeros may be the header's.
+ * Returns where it begins; the length where there is none. */
+static size_t prefix_after(const struct stream *s, size_t end)
+{
+    while (end < s->length && s->bytes[end] == 0)
+        end++;
+    int found = end + 1 < s->length && end >= 2 && s->bytes[end] == 1 && s->bytes[end - 1] == 0 && s->bytes[end - 2] == 0;
+    return found ? end - 2 : s->length;
+}
+
+/* Bytes of the picture header at the front. */
+static size_t picture_header_length(const struct stream *picture)
+{
+    uint32_t type = field_value(picture, PICTURE_CODING_TYPE);
+    struct field extra = EXTRA_BIT;
+    extra.at += type == P_PICTURE ? 4 : type == B_PICTURE ? 8 : 0;
+    while (field_value(picture, extra) != 0)
+        extra.at += 9;
+    return (extra.at + 8) / 8;
+}
+
+/* The picture coding extension of the picture at the front; no bytes where there is none. */
+static struct stream coding_extension(const struct stream *picture)
+{
+    size_t at = prefix_after(picture, picture_header_length(picture));
+    struct stream extension = part(picture, at, picture->length);
+    int found = code_at(&extension, 0) == EXTENSION && field_value(&extension, EXTENSION_ID) == PICTURE_CODING_EXTENSION;
+    return found ? extension : part(picture, picture->length, picture->length);
+}
+
+static struct shown shown_at(const struct walk *w, size_t at)
+{
+    struct stream picture = part(w->s, at, w->s->length);
+    struct shown p = { at, w->s->length, (uint8_t)field_value(&picture, PICTURE_CODING_TYPE), 2, 0 };
+    struct stream extension = coding_extension(&picture);
+    if (w->standard == VBV_MPEG2 && extension.length > 0) {
+        uint32_t structure = field_value(&extension, PICTURE_STRUCTURE);
+        p.halves = structure == TOP_FIELD || structure == BOTTOM_FIELD ? 1 : 2;
+        p.repeats = (uint8_t)field_value(&extension, REPEAT_FIRST_FIELD);
+    }
+    return p;
+}
+
+static void begin_picture(struct walk *w, size_t at)
+{
+    struct look *l = w->l;
+    l->last = shown_at(w, at);
+    l->last_slice = 0;
+    l->early += l->sequence == w->s->length;
+    l->repeats += l->last.repeats;
+    l->pictures++;
+    w->stand = OPEN;
+}
+
+static void end_picture(struct walk *w, size_t end)
+{
+    w->l->last.end = end;
+    if (w->of != NULL)
+        w->of[w->l->pictures - 1] = w->l->last;
+    w->stand = OUTSIDE;
+}
+
+static int same_declared(struct declared a, struct declared b)
+{
+    return a.width == b.width && a.height == b.height && a.rate_code == b.rate_code && a.bit_rate == b.bit_rate &&
+           a.buffer_bits == b.buffer_bits && a.rate_extensions == b.rate_extensions;
+}
+
+static void take_sequence(struct walk *w, size_t at)
+{
+    struct look *l = w->l;
+    if (l->sequence == w->s->length) {
+        l->sequence = at;
+    } else if (!same_declared(declared_at(w->s, l->sequence, w->standard), declared_at(w->s, at, w->standard))) {
+        l->change = l->changes == 0 ? at : l->change;
+        l->changes++;
+    }
+}
+
+/* A code that is no slice. */
+static void take_code(struct walk *w, int code, size_t at)
+{
+    if (w->stand == SLICES)
+        end_picture(w, code == SEQUENCE_END ? at + CODE_BYTES : at);
+    if (w->stand == OUTSIDE && code == PICTURE)
+        begin_picture(w, at);
+    else if (code == SEQUENCE)
+        take_sequence(w, at);
+    else if (code == SEQUENCE_END)
+        w->l->end_code = at;
+}
+
+void look(const struct stream *s, uint8_t standard, struct look *l, struct shown *of)
+{
+    struct walk w = { s, standard, OUTSIDE, l, of };
+    size_t none = s->length;
+    *l = (struct look){ .first_code = none, .sequence = none, .change = none, .last_code = none, .end_code = none };
+    l->first_code = next_code(s, 0);
+    for (size_t at = l->first_code; at < s->length; at = next_code(s, at + CODE_BYTES)) {
+        int code = s->bytes[at + 3];
+        l->last_code = at;
+        if (!is_slice(code)) {
+            take_code(&w, code, at);
+        } else if (w.stand != OUTSIDE) {
+            w.stand = SLICES;
+            l->last_slice = code;
+        }
+    }
+    if (w.stand != OUTSIDE)
+        end_picture(&w, s->length);
+}
+
+size_t sequence_length(const struct stream *s, size_t sequence, uint8_t standard)
+{
+    struct stream header = part(s, sequence, s->length);
+    struct field second = LOAD_SECOND;
+    size_t end = SEQUENCE_BYTES;
+    if (field_value(&header, LOAD_MATRIX) != 0)
+        end += MATRIX_BYTES;
+    second.at += 8 * (end - SEQUENCE_BYTES);
+    if (field_value(&header, second) != 0)
+        end += MATRIX_BYTES;
+    if (standard == VBV_MPEG2) {
+        size_t extension = prefix_after(&header, end);
+        end = extension < header.length ? extension + SEQUENCE_EXTENSION_BYTES : end;
+    }
+    return end < header.length ? end : header.length;
+}
+
+struct declared declared_at(const struct stream *s, size_t sequence, uint8_t standard)
+{
+    struct stream h = part(s, sequence, s->length);
+    struct declared d = { field_value(&h, WIDTH), field_value(&h, HEIGHT), field_value(&h, FRAME_RATE_CODE), 0,
+                          field_value(&h, BIT_RATE), field_value(&h, VBV_BUFFER_SIZE) };
+    size_t length = sequence_length(s, sequence, VBV_MPEG1), at = prefix_after(&h, length);
+    struct stream x = part(&h, at, h.length);
+    if (standard == VBV_MPEG2 && code_at(&x, 0) == EXTENSION && field_value(&x, EXTENSION_ID) == SEQUENCE_EXTENSION) {
+        d.width |= field_value(&x, WIDTH_EXTENSION) << 12;
+        d.height |= field_value(&x, HEIGHT_EXTENSION) << 12;
+        d.bit_rate |= (uint64_t)field_value(&x, BIT_RATE_EXTENSION) << 18;
+        d.buffer_bits |= (uint64_t)field_value(&x, VBV_BUFFER_SIZE_EXTENSION) << 10;
+        d.rate_extensions = field_value(&x, FRAME_RATE_EXTENSIONS);
+    }
+    d.bit_rate *= RATE_UNIT;
+    d.buffer_bits *= BUFFER_UNIT;
+    return d;
+}
+
+char type_letter(uint8_t type)
+{
+    return I_PICTURE <= type && type <= D_PICTURE ? " IPBD"[type] : '?';
+}

@@ -1,0 +1,45 @@
+/* What one pass over a stream's start codes tells beside the library's answer: where its pictures stand, and what to be careful
+ * about. Pictures are counted as the library counts them (crates/scan/specs/Pictures). */
+#ifndef LOOK_H
+#define LOOK_H
+
+#include "stream.h"
+
+/* A picture: from its start code to the end of its data. */
+struct shown {
+    size_t at, end;
+    uint8_t type;    /* I_PICTURE .. D_PICTURE; any other value as it stands */
+    uint8_t halves;  /* field periods to the next removal: 2, or 1 for a field */
+    uint8_t repeats; /* repeat_first_field */
+};
+
+/* Numbers are counts, places are bytes from the front; the stream's length where there is none. */
+struct look {
+    size_t first_code, sequence; /* the first start code, and the first sequence header */
+    size_t pictures, early;      /* early: before the first sequence header */
+    size_t repeats;              /* pictures that repeat a field */
+    size_t changes, change;      /* later sequence headers that say something else, and the first of them */
+    size_t last_code;
+    struct shown last;           /* the last picture */
+    int last_slice;              /* its last slice's code; 0 for none */
+    size_t end_code;             /* the last sequence end code */
+};
+
+/* Looks at a stream; where `of` is not NULL it takes the pictures, as many as an earlier look has counted. */
+void look(const struct stream *s, uint8_t standard, struct look *l, struct shown *of);
+
+/* What a sequence header and its extension declare. */
+struct declared {
+    uint32_t width, height, rate_code, rate_extensions;
+    uint64_t bit_rate, buffer_bits;
+};
+struct declared declared_at(const struct stream *s, size_t sequence, uint8_t standard);
+
+/* Bytes of a sequence header with its matrices; with its extension for MPEG-2, from the header's start code on. Not beyond
+ * the stream. */
+size_t sequence_length(const struct stream *s, size_t sequence, uint8_t standard);
+
+/* 'I', 'P', 'B' or 'D'; '?' for a type that is none. */
+char type_letter(uint8_t type);
+
+#endif

@@ -1,0 +1,400 @@
+#define _POSIX_C_SOURCE 200809L
+#include "place.h"
+
+#include <inttypes.h>
+#include <stdio.h>
+#include <stdlib.h>
+#include <string.h>
+
+/* Bits per byte, ticks a second, and ticks in two field periods' unit: a removal falls on a multiple of 1/180,000 of a frame
+ * rate's numerator. */
+enum { BYTE = 8, TICKS = 90000, HALF_TICKS = 180000 };
+
+static const struct field DELAY = { 45, 16 };
+
+static const struct {
+    uint64_t over, under;
+} rates[] = { { 0, 0 }, { 24000, 1001 }, { 24, 1 }, { 25, 1 }, { 30000, 1001 }, { 30, 1 }, { 50, 1 }, { 60000, 1001 }, { 60, 1 } };
+
+uint64_t rate_over(uint32_t code)
+{
+    return code < sizeof rates / sizeof *rates ? rates[code].over : 0;
+}
+
+uint64_t rate_under(uint32_t code)
+{
+    return code < sizeof rates / sizeof *rates ? rates[code].under : 0;
+}
+
+/* What a question is about. */
+struct question {
+    const struct stream *s;
+    uint8_t standard;
+    int records;
+    struct answer *a;
+};
+
+/* As vbv_report, until the library has it: vbv_check, with places for the records. */
+static uint64_t report_of(const uint8_t *stream, size_t stream_len, uint8_t standard, uint8_t *report, size_t report_len,
+                          uint8_t *refusal, size_t refusal_len)
+{
+    struct stream s = { stream, stream_len };
+    size_t pictures = picture_codes(&s);
+    uint8_t *records = calloc(pictures + 1, VBV_RECORD_BYTES);
+    uint64_t number = VBV_RECORD_PLACES;
+    if (records != NULL)
+        number = vbv_check(stream, stream_len, standard, report, report_len, records, pictures * VBV_RECORD_BYTES, refusal,
+                           refusal_len);
+    free(records);
+    return number;
+}
+
+/* The verdict about a part alone. */
+static uint64_t verdict(const struct stream *s, uint8_t standard)
+{
+    struct vbv_report report;
+    struct vbv_refusal refusal;
+    return report_of(s->bytes, s->length, standard, (uint8_t *)&report, sizeof report, (uint8_t *)&refusal, sizeof refusal);
+}
+
+/* The whole answer, with records where there are places. */
+static uint64_t full_answer(const struct stream *s, uint8_t standard, struct answer *a)
+{
+    uint8_t *report = (uint8_t *)&a->report, *refusal = (uint8_t *)&a->refusal;
+    if (a->records == NULL)
+        return report_of(s->bytes, s->length, standard, report, sizeof a->report, refusal, sizeof a->refusal);
+    return vbv_check(s->bytes, s->length, standard, report, sizeof a->report, (uint8_t *)a->records,
+                     a->look.pictures * sizeof *a->records, refusal, sizeof a->refusal);
+}
+
+static int is_header_refusal(uint64_t number)
+{
+    return number == VBV_SHORT_HEADER || number == VBV_BAD_HEADER;
+}
+
+/* The stream's first pictures: up to their end, the first sequence header put behind that where it comes later. */
+struct cut {
+    struct stream s;
+    uint8_t *joined;
+};
+
+/* Returns 0, or 1 where memory does not suffice. */
+static int cut_after(const struct question *q, size_t pictures, struct cut *c)
+{
+    size_t sequence = q->a->look.sequence, length = sequence_length(q->s, sequence, q->standard);
+    size_t end = pictures > 0 ? q->a->shown[pictures - 1].end : 0;
+    *c = (struct cut){ part(q->s, 0, end), NULL };
+    if (sequence + length <= end)
+        return 0;
+    c->joined = malloc(end + length);
+    if (c->joined == NULL)
+        return 1;
+    memcpy(c->joined, q->s->bytes, end);
+    memcpy(c->joined + end, q->s->bytes + sequence, length);
+    c->s = (struct stream){ c->joined, end + length };
+    return 0;
+}
+
+/* The verdict about the first pictures; 15 where memory does not suffice. */
+static uint64_t verdict_of_first(const struct question *q, size_t pictures)
+{
+    struct cut c;
+    if (cut_after(q, pictures, &c) != 0)
+        return VBV_RECORD_PLACES;
+    uint64_t number = verdict(&c.s, q->standard);
+    free(c.joined);
+    return number;
+}
+
+/* The first picture with which the verdict is the refusal's, by halves; their count where memory does not suffice. */
+static size_t first_refused(const struct question *q)
+{
+    size_t pictures = q->a->look.pictures, from = 0, to = pictures - 1;
+    while (from < to) {
+        size_t middle = from + (to - from) / 2;
+        uint64_t number = verdict_of_first(q, middle + 1);
+        if (number == VBV_RECORD_PLACES)
+            return pictures;
+        if (number == q->a->number || (is_header_refusal(number) && is_header_refusal(q->a->number)))
+            to = middle;
+        else
+            from = middle + 1;
+    }
+    return from;
+}
+
+/* Which of the sequence header and its extension is refused; NULL for neither. */
+static const char *bad_sequence(const struct question *q)
+{
+    size_t at = q->a->look.sequence;
+    struct stream header = part(q->s, at, at + sequence_length(q->s, at, VBV_MPEG1));
+    struct stream both = part(q->s, at, at + sequence_length(q->s, at, q->standard));
+    if (is_header_refusal(verdict(&header, VBV_MPEG1)))
+        return "sequence header";
+    return is_header_refusal(verdict(&both, q->standard)) ? "sequence extension" : NULL;
+}
+
+/* Whether the header alone of a picture is refused: as MPEG-1, which has no extension, behind the sequence header. */
+static int is_bad_header(const struct question *q, const struct shown *p)
+{
+    const struct look *l = &q->a->look;
+    size_t sequence = sequence_length(q->s, l->sequence, VBV_MPEG1), length = p->end - p->at;
+    if (q->standard == VBV_MPEG1 || p->type == D_PICTURE)
+        return 1;
+    uint8_t *joined = malloc(sequence + length);
+    if (joined == NULL)
+        return 0;
+    memcpy(joined, q->s->bytes + l->sequence, sequence);
+    memcpy(joined + sequence, q->s->bytes + p->at, length);
+    struct stream s = { joined, sequence + length };
+    int bad = is_header_refusal(verdict(&s, VBV_MPEG1));
+    free(joined);
+    return bad;
+}
+
+/* Where the extension of the refused picture begins, or would. */
+static size_t extension_of(const struct question *q, const struct shown *p)
+{
+    size_t at = next_code(q->s, p->at + CODE_BYTES);
+    return at < p->end ? at : p->at;
+}
+
+static void place_picture(struct place *p, const struct answer *a, size_t picture)
+{
+    if (picture >= a->look.pictures)
+        return;
+    p->in_picture = 1;
+    p->picture = picture;
+    p->byte = a->shown[picture].at;
+}
+
+/* Of 1 and 2. */
+static void place_header(const struct question *q, struct place *p)
+{
+    p->header = bad_sequence(q);
+    p->byte = q->a->look.sequence;
+    if (p->header != NULL) {
+        if (strcmp(p->header, "sequence extension") == 0)
+            p->byte = next_code(q->s, p->byte + sequence_length(q->s, p->byte, VBV_MPEG1) - 2);
+    } else if (q->a->look.pictures > 0) {
+        place_picture(p, q->a, first_refused(q));
+        p->byte = p->in_picture ? p->byte : q->s->length;
+        if (!p->in_picture)
+            return;
+        const struct shown *picture = q->a->shown + p->picture;
+        int header = is_bad_header(q, picture);
+        p->header = header ? "picture header" : "picture coding extension";
+        p->byte = header ? picture->at : extension_of(q, picture);
+    }
+}
+
+/* Less what was there: b must not be more. */
+static struct bits less(struct bits a, uint64_t whole)
+{
+    a.whole -= whole;
+    return a;
+}
+
+/* What is missing from the bits to a whole number that is more. */
+static struct bits missing(struct bits a, uint64_t whole)
+{
+    uint64_t borrow = a.part > 0;
+    return (struct bits){ whole - a.whole - borrow, borrow ? a.parts - a.part : 0, a.parts };
+}
+
+/* Bits delivered at a picture's removal, with `halves` field periods since the first one's: exact. */
+static struct bits delivered_after(const struct answer *a, uint64_t delay, uint64_t halves)
+{
+    uint64_t over = rate_over(a->declared.rate_code), under = rate_under(a->declared.rate_code), rate = a->declared.bit_rate;
+    uint64_t first = delay * rate, field = rate * under, parts = HALF_TICKS * over;
+    uint64_t rest = halves * (field % (2 * over));
+    struct bits b = { BYTE * (a->shown[0].at + CODE_BYTES) + first / TICKS + halves * (field / (2 * over)), 0, parts };
+    b.whole += rest / (2 * over);
+    b.part = first % TICKS * 2 * over + rest % (2 * over) * TICKS;
+    b.whole += b.part / parts;
+    b.part %= parts;
+    return b;
+}
+
+/* The expected delay, halves up; for a position that is not beyond the bits delivered. */
+static uint64_t ticks_to(struct bits delivered, uint64_t position, uint64_t rate)
+{
+    uint64_t twice = (delivered.whole - position) * HALF_TICKS + delivered.part * HALF_TICKS / delivered.parts;
+    return (twice + rate) / (2 * rate);
+}
+
+/* Whether the bits delivered agree with what the library says, and with its number. */
+static int agrees(const struct answer *a, const struct place *p, uint64_t position, uint64_t end)
+{
+    const struct bits *d = &p->delivered;
+    int early = d->whole < position;
+    if (a->number == VBV_EARLY || early)
+        return a->number == VBV_EARLY && early;
+    uint64_t ticks = ticks_to(*d, position, a->declared.bit_rate);
+    if (a->number == VBV_DELAY_TOO_LONG)
+        return ticks > 0xFFFE;
+    if (a->number == VBV_UNDERFLOW && d->whole >= end)
+        return 0;
+    return ticks == a->refusal.expected;
+}
+
+/* When the picture is due, by those before it, and what the buffer holds then. */
+static void find_time(const struct question *q, struct place *p)
+{
+    const struct answer *a = q->a;
+    struct stream first = part(q->s, a->shown[0].at, q->s->length);
+    uint64_t halves = 0, before = p->picture > 0 ? BYTE * a->shown[p->picture - 1].end : 0;
+    for (size_t n = 0; n < p->picture; n++)
+        halves += a->shown[n].halves;
+    p->delivered = delivered_after(a, field_value(&first, DELAY), halves);
+    p->timed = p->delivered.whole >= before;
+    p->held = less(p->delivered, p->timed ? before : 0);
+}
+
+/* When the refused picture is due, and by how much too early or too late. Left untold where it would not agree with the
+ * library. */
+static void measure(const struct question *q, struct place *p)
+{
+    const struct answer *a = q->a;
+    uint64_t buffer = a->declared.buffer_bits;
+    uint64_t position = BYTE * (a->shown[p->picture].at + CODE_BYTES), end = BYTE * a->shown[p->picture].end;
+    find_time(q, p);
+    if (!agrees(a, p, position, end))
+        p->timed = 0;
+    p->measured = p->timed;
+    if (!p->timed)
+        return;
+    if (a->number == VBV_OVERFLOW && p->held.whole >= buffer)
+        p->over = less(p->held, buffer);
+    else if (a->number == VBV_UNDERFLOW)
+        p->over = missing(p->delivered, end);
+    else if (a->number == VBV_EARLY)
+        p->over = missing(p->delivered, position);
+    else
+        p->measured = 0;
+}
+
+/* The records of the pictures before the refused one, where these are accepted. */
+static void take_records(const struct question *q)
+{
+    struct answer *a = q->a;
+    struct vbv_report report;
+    struct vbv_refusal refusal;
+    struct cut c;
+    size_t pictures = a->place.picture;
+    if (!a->place.in_picture || pictures == 0)
+        return;
+    free(a->records);
+    a->records = calloc(pictures, sizeof *a->records);
+    if (a->records == NULL || cut_after(q, pictures, &c) != 0)
+        return;
+    if (vbv_check(c.s.bytes, c.s.length, q->standard, (uint8_t *)&report, sizeof report, (uint8_t *)a->records,
+                  pictures * sizeof *a->records, (uint8_t *)&refusal, sizeof refusal) == 0)
+        a->recorded = pictures;
+    free(c.joined);
+}
+
+static void place_refusal(const struct question *q)
+{
+    struct answer *a = q->a;
+    struct place *p = &a->place;
+    *p = (struct place){ .byte = q->s->length };
+    if (is_header_refusal(a->number)) {
+        place_header(q, p);
+    } else if (a->number == VBV_FRAME_RATE || a->number == VBV_PARAMETER) {
+        p->header = "sequence header";
+        p->byte = a->look.sequence;
+    } else if (a->number == VBV_VARIABLE_RATE) {
+        place_picture(p, a, 0);
+    } else if (a->number >= VBV_EARLY && a->number <= VBV_DELAY_MISMATCH) {
+        place_picture(p, a, tells_delays(a) ? (size_t)a->refusal.picture : first_refused(q));
+        if (p->in_picture)
+            measure(q, p);
+    }
+    if (q->records || is_header_refusal(a->number))
+        take_records(q);
+    if (is_header_refusal(a->number) && a->recorded > 0)
+        find_time(q, p);
+}
+
+static int list_pictures(const struct question *q)
+{
+    struct look same;
+    q->a->shown = calloc(q->a->look.pictures + 1, sizeof *q->a->shown);
+    if (q->a->shown == NULL)
+        return 1;
+    look(q->s, q->standard, &same, q->a->shown);
+    return 0;
+}
+
+int ask(const struct stream *s, uint8_t standard, int records, struct answer *a)
+{
+    struct question q = { s, standard, records, a };
+    memset(a, 0, sizeof *a);
+    look(s, standard, &a->look, NULL);
+    if (a->look.sequence < s->length)
+        a->declared = declared_at(s, a->look.sequence, standard);
+    if (records && ((a->records = calloc(a->look.pictures + 1, sizeof *a->records)) == NULL || list_pictures(&q) != 0))
+        return 1;
+    a->number = full_answer(s, standard, a);
+    a->recorded = records && a->number == 0 ? a->look.pictures : 0;
+    if (a->number != 0) {
+        if (a->shown == NULL && list_pictures(&q) != 0)
+            return 1;
+        place_refusal(&q);
+    }
+    return 0;
+}
+
+struct bits next_time(struct times *t)
+{
+    struct bits at = delivered_after(t->a, t->a->records[0].delay, t->halves);
+    t->halves += t->a->shown[t->picture++].halves;
+    return at;
+}
+
+int tells_delays(const struct answer *a)
+{
+    return a->number >= VBV_OVERFLOW && a->number <= VBV_DELAY_MISMATCH;
+}
+
+uint64_t data_bits(const struct answer *a, size_t picture)
+{
+    return BYTE * (a->shown[picture].end - (picture > 0 ? a->shown[picture - 1].end : 0));
+}
+
+void forget(struct answer *a)
+{
+    free(a->shown);
+    free(a->records);
+    a->shown = NULL;
+    a->records = NULL;
+}
+
+const char *tenths(struct bits b, char *text)
+{
+    uint64_t tenth = (b.part * 10 + b.parts / 2) / b.parts;
+    if (b.whole == 0 && tenth == 0)
+        snprintf(text, TEXT, "less than 0.1");
+    else
+        snprintf(text, TEXT, "%" PRIu64 ".%" PRIu64, b.whole + tenth / 10, tenth % 10);
+    return text;
+}
+
+const char *clock_time(struct bits at, uint64_t bit_rate, char *text)
+{
+    uint64_t milliseconds = at.whole / bit_rate * 1000 + (at.whole % bit_rate * 1000 + bit_rate / 2) / bit_rate;
+    snprintf(text, TEXT, "%02" PRIu64 ":%02" PRIu64 ".%03" PRIu64, milliseconds / 60000, milliseconds / 1000 % 60,
+             milliseconds % 1000);
+    return text;
+}
+
+double in_bits(struct bits b)
+{
+    return (double)b.whole + (double)b.part / (double)b.parts;
+}
+
+double in_seconds(struct bits at, uint64_t bit_rate)
+{
+    return in_bits(at) / (double)bit_rate;
+}

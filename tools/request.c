@@ -1,0 +1,216 @@
+#define _POSIX_C_SOURCE 200809L
+#include "request.h"
+
+#include "hipokuta.h"
+
+#include <getopt.h>
+#include <inttypes.h>
+#include <string.h>
+
+static const char help[] =
+    "usage: cbrsend [-b RATE] [-B BUFFER] [--stream N] IN OUT\n"
+    "       cbrsend --least-rate [-B BUFFER] [--stream N] IN\n"
+    "\n"
+    "Takes the pictures of the MPEG-2 video in IN, made at whatever rate, and writes them to OUT at a constant one: with new\n"
+    "delays, and stuffing where the buffer would overflow. OUT is checked before it takes the place of an older OUT, and when\n"
+    "something is refused or goes wrong the older one stays. Pictures are not encoded again: where one is too large, it is\n"
+    "said by how much, and which commands would do. IN is an elementary stream, a transport stream or a program stream; OUT\n"
+    "is an elementary stream. - is standard input or standard output. What is left out of IN: docs/SENDING.md.\n"
+    "\n"
+    "  -b RATE       bits a second, a multiple of 400 from 400 to 104857200, such as 4000000, 4000k or 4M. Without it, what\n"
+    "                IN's sequence header says.\n"
+    "  -B BUFFER     the set's buffer in units of 16384 bits, 1 to 1023. Without it, what IN's sequence header says.\n"
+    "  --least-rate  writes nothing but the least rate that carries IN with this buffer, on standard output.\n"
+    "  --stream N    which video of a transport or program stream.\n"
+    "  --version     prints the version.\n"
+    "  -h, --help    prints this.\n"
+    "\n"
+    "Exit status: 0 sent, or a least rate found; 1 refused, or no rate found; 2 bad use, or something that cannot be read or\n"
+    "written, or that is no video. OUT is written with 0 alone.\n";
+
+enum { LEAST_RATE = 256, STREAM, VERSION };
+
+static const struct option options[] = {
+    { "least-rate", no_argument, NULL, LEAST_RATE },
+    { "stream", required_argument, NULL, STREAM },
+    { "version", no_argument, NULL, VERSION },
+    { "help", no_argument, NULL, 'h' },
+    { NULL, 0, NULL, 0 },
+};
+
+/* Digits, with a point where k (1,000) or M (1,000,000) follows, for a whole number. Returns 0 where it is none; what is too
+ * large for any use is still large. */
+static int number(const char *text, uint64_t *value)
+{
+    static const uint64_t large = UINT64_C(1000000000000);
+    int digits = 0, point = 0, places = 0;
+    for (*value = 0; (*text >= '0' && *text <= '9') || (*text == '.' && !point); text++) {
+        if (*text == '.') {
+            point = 1;
+            continue;
+        }
+        if (*value < large)
+            *value = 10 * *value + (uint64_t)(*text - '0');
+        digits++;
+        places += point;
+    }
+    int power = *text == 'k' || *text == 'K' ? 3 : *text == 'M' ? 6 : 0;
+    for (int more = places; more < power; more++)
+        *value *= 10;
+    return digits > 0 && places <= power && text[power > 0] == 0;
+}
+
+static int bad_option(char option, const char *text)
+{
+    fprintf(stderr, "%s: -%c %s: ", program, option, text);
+    return 2;
+}
+
+static int read_rate(const char *text, struct setting *at)
+{
+    static const uint64_t most = (uint64_t)CBR_MOST_RATE * CBR_RATE_UNIT;
+    uint64_t rate;
+    int bad = 0;
+    if (!number(text, &rate)) {
+        bad = bad_option('b', text);
+        fprintf(stderr, "the rate must be a number of bits a second, such as 4000000, 4000k or 4M\n");
+    } else if (rate < CBR_RATE_UNIT || rate > most) {
+        bad = bad_option('b', text);
+        fprintf(stderr, "the rate must be from %d to %" PRIu64 " bits a second\n", CBR_RATE_UNIT, most);
+    } else if (rate % CBR_RATE_UNIT != 0) {
+        uint64_t below = rate - rate % CBR_RATE_UNIT;
+        bad = bad_option('b', text);
+        fprintf(stderr, "the rate must be a multiple of %d: %" PRIu64 " or %" PRIu64 "\n", CBR_RATE_UNIT, below,
+                below + CBR_RATE_UNIT);
+    }
+    at->rate = bad ? 0 : (uint32_t)(rate / CBR_RATE_UNIT);
+    return bad;
+}
+
+static int read_buffer(const char *text, struct setting *at)
+{
+    uint64_t units;
+    int is_number = number(text, &units);
+    if (is_number && units >= 1 && units <= CBR_MOST_BUFFER) {
+        at->buffer = (uint32_t)units;
+        return 0;
+    }
+    int bad = bad_option('B', text);
+    fprintf(stderr, "the buffer must be from 1 to %d units of %d bits", CBR_MOST_BUFFER, CBR_BUFFER_UNIT);
+    if (is_number && units / CBR_BUFFER_UNIT >= 1 && units / CBR_BUFFER_UNIT <= CBR_MOST_BUFFER)
+        fprintf(stderr, "; %" PRIu64 " bits are %" PRIu64 " units", units, units / CBR_BUFFER_UNIT);
+    fprintf(stderr, "\n");
+    return bad;
+}
+
+static int print_only(const char *text)
+{
+    return fputs(text, stdout) < 0 || fflush(stdout) != 0 ? trouble("standard output", "cannot be written") : 0;
+}
+
+/* An option that there is not, or that wants a word after it. */
+static int bad_word(int option, char **words)
+{
+    const char *word = words[optind - 1];
+    if (option != ':' && optopt > 0 && optopt < LEAST_RATE)
+        fprintf(stderr, "%s: -%c: there is no such option; --help lists them\n", program, optopt);
+    else
+        fprintf(stderr, "%s: %s: %s; --help says more\n", program, word,
+                option == ':' ? "a word must follow" : "there is no such option");
+    return 2;
+}
+
+static int read_option(int option, char **words, struct request *r, int *least)
+{
+    switch (option) {
+    case 'b':
+        return read_rate(optarg, &r->at) == 0 ? GO : 2;
+    case 'B':
+        return read_buffer(optarg, &r->at) == 0 ? GO : 2;
+    case STREAM:
+        r->which = optarg;
+        return GO;
+    case LEAST_RATE:
+        *least = 1;
+        return GO;
+    case VERSION:
+        return print_only("cbrsend " HIPOKUTA_VERSION "\n");
+    case 'h':
+        return print_only(help);
+    default:
+        return bad_word(option, words);
+    }
+}
+
+static int bad_use(const char *what)
+{
+    fprintf(stderr, "%s: %s\n", program, what);
+    fprintf(stderr, "usage: cbrsend [-b RATE] [-B BUFFER] IN OUT, or cbrsend --least-rate [-B BUFFER] IN   (--help says more)\n");
+    return 2;
+}
+
+int read_words(int count, char **words, struct request *r)
+{
+    int least = 0;
+    *r = (struct request){ .call = count > 0 ? words[0] : program };
+    opterr = 0;
+    for (int option; (option = getopt_long(count, words, ":b:B:h", options, NULL)) != -1;) {
+        int status = read_option(option, words, r, &least);
+        if (status != GO)
+            return status;
+    }
+    int names = count - optind;
+    if (least && r->at.rate != 0)
+        return bad_use("--least-rate finds a rate: leave out -b");
+    if (least && names != 1)
+        return bad_use(names < 1 ? "IN is missing" : "--least-rate takes IN alone");
+    if (!least && names < 2)
+        return bad_use(names < 1 ? "IN and OUT are missing" : "OUT is missing");
+    if (!least && names > 2)
+        return bad_use("there are more names than IN and OUT");
+    r->from = words[optind];
+    r->to = least ? NULL : words[optind + 1];
+    return GO;
+}
+
+/* A word as a shell takes it: in quotes, where it has to be. */
+static void print_word(const char *word)
+{
+    static const char plain[] = "abcdefghijklmnopqrstuvwxyzABCDEFGHIJKLMNOPQRSTUVWXYZ0123456789%+,-./:=@_";
+    if (*word != 0 && strspn(word, plain) == strlen(word)) {
+        printf(" %s", word);
+        return;
+    }
+    printf(" '");
+    for (; *word != 0; word++)
+        if (*word == '\'')
+            printf("'\\''");
+        else
+            putchar(*word);
+    printf("'");
+}
+
+static int begins_like_option(const char *name)
+{
+    return name != NULL && name[0] == '-' && name[1] != 0;
+}
+
+void print_command(const struct request *r, struct setting at)
+{
+    printf("   ");
+    print_word(r->call);
+    if (r->to == NULL)
+        printf(" --least-rate -B %" PRIu32, at.buffer);
+    else
+        printf(" -b %" PRIu32 " -B %" PRIu32, at.rate * CBR_RATE_UNIT, at.buffer);
+    if (r->which != NULL) {
+        printf(" --stream");
+        print_word(r->which);
+    }
+    if (begins_like_option(r->from) || begins_like_option(r->to))
+        printf(" --");
+    print_word(r->from);
+    if (r->to != NULL)
+        print_word(r->to);
+    printf("\n");
+}

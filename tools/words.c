@@ -1,0 +1,91 @@
+#include "words.h"
+
+#include "report.h"
+
+#include <inttypes.h>
+#include <stdio.h>
+
+const char *refusal_line(const struct answer *a, char *text, size_t room)
+{
+    char bits[TEXT];
+    int length = snprintf(text, room, "%s", vbv_refusal_name(a->number));
+    if (a->place.measured && (size_t)length < room)
+        snprintf(text + length, room - (size_t)length, " by %s bits", tenths(a->place.over, bits));
+    return text;
+}
+
+static void print_records(const struct answer *a)
+{
+    printf("picture delay expected data_bits occupancy_before\n");
+    for (size_t n = 0; n < a->recorded; n++)
+        printf("%zu %" PRIu64 " %" PRIu64 " %" PRIu64 " %" PRIu64 "\n", n, a->records[n].delay, a->records[n].expected,
+               a->records[n].data_bits, a->records[n].occupancy_before);
+}
+
+/* The place's byte, in the stream or in what was taken out of a container. */
+static void print_byte(const struct told *t)
+{
+    printf("at byte %zu%s", t->answer->place.byte, t->in->about[0] != 0 ? " of the video" : "");
+}
+
+/* The picture, with its delays where the library tells them; when it is due. */
+static void print_picture(const struct told *t)
+{
+    const struct answer *a = t->answer;
+    char time[TEXT];
+    printf("  picture %zu (the first is 0)", a->place.picture);
+    if (tells_delays(a))
+        printf(", coded delay %" PRIu64 ", expected delay %" PRIu64, a->refusal.coded, a->refusal.expected);
+    printf("\n  ");
+    if (a->place.header != NULL)
+        printf("its %s, ", a->place.header);
+    else
+        printf("of type %c, ", type_letter(a->shown[a->place.picture].type));
+    print_byte(t);
+    if (a->place.timed)
+        printf(", due at %s", clock_time(a->place.delivered, a->declared.bit_rate, time));
+    printf("\n");
+}
+
+/* A sequence header or its extension, and what it declares where that is refused. */
+static void print_sequence(const struct told *t)
+{
+    const struct answer *a = t->answer;
+    printf("  the %s ", a->place.header);
+    print_byte(t);
+    if (a->number == VBV_FRAME_RATE)
+        printf(": frame rate code %" PRIu32, a->declared.rate_code);
+    if (a->number == VBV_PARAMETER)
+        printf(": %" PRIu64 " bits a second, a buffer of %" PRIu64 " bits", a->declared.bit_rate, a->declared.buffer_bits);
+    printf("\n");
+}
+
+static void print_refusal(const struct told *t)
+{
+    const struct answer *a = t->answer;
+    char line[120];
+    printf("  refusal %" PRIu64 ": %s\n", a->number, refusal_line(a, line, sizeof line));
+    if (a->place.in_picture)
+        print_picture(t);
+    else if (a->place.header != NULL)
+        print_sequence(t);
+    printf("  %s\n", vbv_refusal_text(a->number));
+    if (a->number == VBV_VARIABLE_RATE && t->standard == VBV_MPEG2)
+        printf("  cbrsend makes it constant: cbrsend -b RATE -B BUFFER %s OUT\n", t->name);
+}
+
+void print_words(const struct told *t, int records)
+{
+    const struct answer *a = t->answer;
+    if (t->in->about[0] != 0)
+        printf("%s: %s\n", t->name, t->in->about);
+    printf("%s: MPEG-%d, %s\n", t->name, t->standard, a->number == 0 ? "accepted" : "refused");
+    if (a->number == 0)
+        print_report(&a->report);
+    else
+        print_refusal(t);
+    for (size_t i = 0; i < t->cautions->count; i++)
+        printf("  caution: %s\n", t->cautions->of[i].words);
+    if (records)
+        print_records(a);
+}

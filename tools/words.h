@@ -1,0 +1,21 @@
+/* An answer in words, for people. */
+#ifndef WORDS_H
+#define WORDS_H
+
+#include "caution.h"
+
+/* All that is told of a file. */
+struct told {
+    const char *name;
+    const struct input *in;
+    uint8_t standard;
+    const struct answer *answer;
+    const struct cautions *cautions;
+};
+
+void print_words(const struct told *t, int records);
+
+/* How a refusal is named in a line, with its amount: "overflow by 3.1 bits"; into `text`, which is returned. */
+const char *refusal_line(const struct answer *a, char *text, size_t room);
+
+#endif
