@@ -98,8 +98,8 @@ uint64_t vbv_check(const uint8_t *stream, size_t stream_len, uint8_t standard,
  * vbv_check needs to accept this stream.
  */
 uint64_t vbv_report(const uint8_t *stream, size_t stream_len, uint8_t standard,
-                    uint8_t *report, size_t report_len,
-                    uint8_t *refusal, size_t refusal_len);
+                    void *report, size_t report_len,
+                    void *refusal, size_t refusal_len);
 
 /* Writes vbv_delay into the picture header that begins at picture, all other bits staying as they were. Returns 0, or 20
  * with nothing changed where there are fewer than 8 bytes or they do not begin 00 00 01 00.

@@ -88,28 +88,15 @@ static int refuse_no_rate(struct job *j)
     return REFUSED;
 }
 
-/* The library's check of what was written; 15 where memory does not suffice. */
-static uint64_t verdict(const struct stream *s, size_t pictures, struct vbv_report *report)
-{
-    struct vbv_refusal refusal;
-    struct vbv_record *records = calloc(pictures, sizeof *records);
-    uint64_t number = records == NULL ? VBV_RECORD_PLACES
-        : vbv_check(s->bytes, s->length, VBV_MPEG2, (uint8_t *)report, sizeof *report, (uint8_t *)records,
-                    pictures * sizeof *records, (uint8_t *)&refusal, sizeof refusal);
-    free(records);
-    return number;
-}
-
-static int check(const struct job *j, const struct outfile *out, uint64_t bytes, struct vbv_report *report)
+/* The library's check of what was written. */
+static int check(const struct outfile *out, uint64_t bytes, struct vbv_report *report)
 {
     void *mapped = mmap(NULL, bytes, PROT_READ, MAP_SHARED, fileno(out->file), 0);
     if (mapped == MAP_FAILED)
         return trouble(out->name, strerror(errno));
-    struct stream s = { mapped, bytes };
-    uint64_t number = verdict(&s, j->in.pictures.count, report);
+    struct vbv_refusal refusal;
+    uint64_t number = vbv_report(mapped, bytes, VBV_MPEG2, report, sizeof *report, &refusal, sizeof refusal);
     munmap(mapped, bytes);
-    if (number == VBV_RECORD_PLACES)
-        return trouble(out->name, "no memory for the check");
     return number == 0 ? 0 : trouble(out->name, "refused by the check: a defect of this program or the library, please report it");
 }
 
@@ -159,7 +146,7 @@ static int send_to(struct job *j, struct outfile *out)
     show_stage(&j->in.progress, "writing to the disk, and checking");
     int status = end.unwritten != 0 ? trouble(out->name, strerror(end.unwritten)) : settle_out(out);
     if (status == 0)
-        status = check(j, out, end.bytes, &report);
+        status = check(out, end.bytes, &report);
     end_progress(&j->in.progress);
     if (status != 0)
         return status;

@@ -34,37 +34,21 @@ struct question {
     struct answer *a;
 };
 
-/* As vbv_report, until the library has it: vbv_check, with places for the records. */
-static uint64_t report_of(const uint8_t *stream, size_t stream_len, uint8_t standard, uint8_t *report, size_t report_len,
-                          uint8_t *refusal, size_t refusal_len)
-{
-    struct stream s = { stream, stream_len };
-    size_t pictures = picture_codes(&s);
-    uint8_t *records = calloc(pictures + 1, VBV_RECORD_BYTES);
-    uint64_t number = VBV_RECORD_PLACES;
-    if (records != NULL)
-        number = vbv_check(stream, stream_len, standard, report, report_len, records, pictures * VBV_RECORD_BYTES, refusal,
-                           refusal_len);
-    free(records);
-    return number;
-}
-
 /* The verdict about a part alone. */
 static uint64_t verdict(const struct stream *s, uint8_t standard)
 {
     struct vbv_report report;
     struct vbv_refusal refusal;
-    return report_of(s->bytes, s->length, standard, (uint8_t *)&report, sizeof report, (uint8_t *)&refusal, sizeof refusal);
+    return vbv_report(s->bytes, s->length, standard, &report, sizeof report, &refusal, sizeof refusal);
 }
 
 /* The whole answer, with records where there are places. */
 static uint64_t full_answer(const struct stream *s, uint8_t standard, struct answer *a)
 {
-    uint8_t *report = (uint8_t *)&a->report, *refusal = (uint8_t *)&a->refusal;
     if (a->records == NULL)
-        return report_of(s->bytes, s->length, standard, report, sizeof a->report, refusal, sizeof a->refusal);
-    return vbv_check(s->bytes, s->length, standard, report, sizeof a->report, (uint8_t *)a->records,
-                     a->look.pictures * sizeof *a->records, refusal, sizeof a->refusal);
+        return vbv_report(s->bytes, s->length, standard, &a->report, sizeof a->report, &a->refusal, sizeof a->refusal);
+    return vbv_check(s->bytes, s->length, standard, &a->report, sizeof a->report, a->records,
+                     a->look.pictures * sizeof *a->records, &a->refusal, sizeof a->refusal);
 }
 
 static int is_header_refusal(uint64_t number)
@@ -288,8 +272,8 @@ static void take_records(const struct question *q)
     a->records = calloc(pictures, sizeof *a->records);
     if (a->records == NULL || cut_after(q, pictures, &c) != 0)
         return;
-    if (vbv_check(c.s.bytes, c.s.length, q->standard, (uint8_t *)&report, sizeof report, (uint8_t *)a->records,
-                  pictures * sizeof *a->records, (uint8_t *)&refusal, sizeof refusal) == 0)
+    if (vbv_check(c.s.bytes, c.s.length, q->standard, &report, sizeof report, a->records, pictures * sizeof *a->records,
+                  &refusal, sizeof refusal) == 0)
         a->recorded = pictures;
     free(c.joined);
 }

@@ -94,7 +94,7 @@ static uint64_t create(struct source *in, struct setting at, struct cbr_state *w
     struct stream header = kept(in, in->header, SEQUENCE_BYTES);
     uint16_t buffer = at.buffer > UINT16_MAX ? UINT16_MAX : (uint16_t)at.buffer;
     declare(in, at);
-    return cbr_create(at.rate, buffer, (uint8_t)field_value(&header, FRAME_RATE_CODE), 31, 2, 5, (uint8_t *)w, sizeof *w);
+    return cbr_create(at.rate, buffer, (uint8_t)field_value(&header, FRAME_RATE_CODE), 31, 2, 5, w, sizeof *w);
 }
 
 /* By the structure that the picture coding extension tells. */
@@ -119,8 +119,8 @@ static uint64_t offer(const struct source *in, size_t n, struct cbr_state *w, st
     uint8_t last = n + 1 == in->pictures.count;
     uint64_t number;
     do
-        number = cbr_offer((uint8_t *)w, sizeof *w, headers.bytes, headers.length, kind_of(&layer), interval_of(&layer), last,
-                           layer.bytes, layer.length, in->placed, PLACED_BYTES, (uint8_t *)a, sizeof *a);
+        number = cbr_offer(w, sizeof *w, headers.bytes, headers.length, kind_of(&layer), interval_of(&layer), last,
+                           layer.bytes, layer.length, in->placed, PLACED_BYTES, a, sizeof *a);
     while (number == 0 && a->outcome == CBR_AGAIN);
     return number;
 }
@@ -136,10 +136,10 @@ static uint64_t first_delivered(const struct source *in, struct cbr_state w)
     struct vbv_report report;
     struct vbv_record record = { .occupancy_before = 0 };
     struct vbv_refusal refusal;
-    if (cbr_offer((uint8_t *)&w, sizeof w, headers.bytes, headers.length, CBR_I, CBR_FRAME, 1, smallest, sizeof smallest,
-                  in->placed, PLACED_BYTES, (uint8_t *)&a, sizeof a) == 0 && a.outcome == CBR_PLACED)
-        vbv_check(in->placed, a.bytes, VBV_MPEG2, (uint8_t *)&report, sizeof report, (uint8_t *)&record, sizeof record,
-                  (uint8_t *)&refusal, sizeof refusal);
+    if (cbr_offer(&w, sizeof w, headers.bytes, headers.length, CBR_I, CBR_FRAME, 1, smallest, sizeof smallest,
+                  in->placed, PLACED_BYTES, &a, sizeof a) == 0 && a.outcome == CBR_PLACED)
+        vbv_check(in->placed, a.bytes, VBV_MPEG2, &report, sizeof report, &record, sizeof record,
+                  &refusal, sizeof refusal);
     return record.occupancy_before;
 }
 
