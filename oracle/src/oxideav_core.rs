@@ -1,6 +1,6 @@
 //! Stand-in for the bit reader and writer of `oxideav_core`, which is not among the files of the original.
 //! Bits go high first; a read or skip of n bits fails if fewer remain; alignment pads with zeros. A read takes one load and two
-//! shifts: bench/run times the original with it.
+//! shifts; with `--cfg reader_by_bits` (READER=bits oracle/build) it goes bit by bit. bench/run times the original with either.
 
 pub mod bits {
     #[derive(Debug)]
@@ -17,6 +17,16 @@ pub mod bits {
             Self { bytes, at: 0 }
         }
 
+        #[cfg(reader_by_bits)]
+        pub fn read_u32(&mut self, n: u32) -> Result<u32, Short> {
+            assert!(n <= 32);
+            let from = self.at;
+            self.skip(n)?;
+            let bit = |i: usize| u32::from(self.bytes[i / 8] >> (7 - i % 8) & 1);
+            Ok((from..self.at).fold(0, |value, i| value << 1 | bit(i)))
+        }
+
+        #[cfg(not(reader_by_bits))]
         #[inline]
         pub fn read_u32(&mut self, n: u32) -> Result<u32, Short> {
             assert!(n <= 32);
@@ -30,6 +40,7 @@ pub mod bits {
         }
 
         /// Fewer than eight bytes, then zeros.
+        #[cfg(not(reader_by_bits))]
         fn last_word(&self, byte: usize) -> u64 {
             let mut eight = [0; 8];
             let rest = self.bytes.get(byte..).unwrap_or(&[]);
