@@ -104,14 +104,25 @@ uint8_t told_standard(const struct stream *s)
     return sequence < s->length && code >= 0 ? VBV_MPEG1 : 0;
 }
 
+/* A name without its ending; "video" for standard input. */
+static int stem(const char *name, const char **from)
+{
+    const char *slash = strrchr(name, '/'), *dot = strrchr(name, '.');
+    *from = strcmp(name, "-") == 0 ? "video" : name;
+    int ends = *from == name && dot != NULL && dot != name && (slash == NULL || dot > slash + 1);
+    return (int)(ends ? dot - name : (ptrdiff_t)strlen(*from));
+}
+
 /* What to do where the video cannot be taken out here. Returns 2. */
 static int way_out(const char *name, const struct container *c, const char *why)
 {
+    const char *from;
+    int length = stem(name, &from);
     fprintf(stderr, "%s: %s: %s, not an MPEG video stream, %s. ", program, name, c->name, why);
     if (c->format == NULL)
         fprintf(stderr, "Give the video stream itself.\n");
     else
-        fprintf(stderr, "Take the video out: ffmpeg -i %s -map 0:v -c copy -f mpeg2video %s.m2v\n", name, name);
+        fprintf(stderr, "Take the video out: ffmpeg -i %s -map 0:v -c copy -f mpeg2video %.*s.m2v\n", name, length, from);
     return 2;
 }
 
