@@ -38,6 +38,8 @@ use Rattle.verify.specs.declared.Removed.{Removed}
 use Rattle.verify.specs.declared.Removed.the-variants.{Recorded, Refused}
 use Rattle.verify.specs.declared.Progress.{Progress}
 use Rattle.verify.specs.declared.Progress.the-variants.{Fresh, Unmodelled, Running, Stopped}
+use Rattle.verify.specs.declared.Ready.{Ready}
+use Rattle.verify.specs.declared.Ready.the-variants as rd
 use Rattle.verify.specs.declared.Walked.{Walked}
 use Rattle.verify.specs.declared.Walked.the-variants as wk
 use Rattle.verify.specs.declared.recorder.VbvRecorder.{VbvRecorder}
@@ -101,6 +103,11 @@ advanced p Fresh c = firstRemoved p c
 advanced p (Unmodelled e) c = Unmodelled e
 advanced p (Running m r least greatest) c = progressed least greatest (removed m c)
 advanced p (Stopped e) c = Stopped e
+
+-- what a removal makes of what stands before it
+unfoldable pub goneOn : CodedPicture → Ready → Progress
+goneOn c (rd.Model m least greatest) = progressed least greatest (removed m c)
+goneOn c (rd.Not st) = st
 
 -- over all pictures
 unfoldable pub advancedAll : VbvParams → Progress → List CodedPicture → Progress

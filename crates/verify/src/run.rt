@@ -5,9 +5,10 @@ ghost use Rattle.vbv.specs.Model.{occupancyBeforeRemoval};
 ghost use Rattle.vbv.specs.Steps.{bitsOf};
 ghost use Rattle.verify.specs.Run.{apart};
 ghost use Rattle.verify.specs.Coded.{codedOf};
-ghost use Rattle.verify.specs.Steps.{withDelays, removedFrom, removed, progressed, firstRemoved, advanced};
+ghost use Rattle.verify.specs.Steps.{withDelays, removedFrom, removed, progressed, firstRemoved, advanced, goneOn};
 use crate::CodedPicture;
 use crate::Progress;
+use crate::Ready;
 use crate::Removed;
 use crate::VbvPictureRecord;
 use crate::VbvVerifyError;
@@ -152,19 +153,38 @@ fn go_on(removed: Removed, least: u64, greatest: u64) -> Progress
     }
 }
 
-// The first removal. No occupancy is above B.
-fn begin(params: VbvParams, coded: CodedPicture) -> Progress
-    ensures { λ r. ⌜ r ≡ firstRemoved params coded ⌝ }
+// Before the first removal. No occupancy is above B.
+fn begin(params: VbvParams, coded: CodedPicture) -> Ready
+    ensures { λ r. ⌜ goneOn coded «r» ≡ firstRemoved params coded ⌝ }
 {
     if coded.vbv_delay == 0xFFFF {
-        return Progress::Unmodelled(VbvVerifyError::VariableRate);
+        return Ready::Not(Progress::Unmodelled(VbvVerifyError::VariableRate));
     }
     match VbvCbrModel::new(params) {
-        VbvModel::Refused(unfit) => Progress::Unmodelled(VbvVerifyError::Model(unfit)),
+        VbvModel::Refused(unfit) => Ready::Not(Progress::Unmodelled(VbvVerifyError::Model(unfit))),
         VbvModel::Model(model) => match model.start(coded.vbv_delay, coded.pos_bits) {
-            VbvModel::Refused(error) => Progress::Unmodelled(VbvVerifyError::Model(error)),
-            VbvModel::Model(started) => go_on(remove(started, coded), params.buffer_size_bits, 0),
+            VbvModel::Refused(error) => {
+                Ready::Not(Progress::Unmodelled(VbvVerifyError::Model(error)))
+            }
+            VbvModel::Model(started) => Ready::Model(started, params.buffer_size_bits, 0),
         },
+    }
+}
+
+// Before a picture's removal.
+fn ready(progress: Progress, params: VbvParams, coded: CodedPicture) -> Ready
+    ensures { λ r. ⌜ goneOn coded «r» ≡ advanced params progress coded ⌝ }
+{
+    match progress {
+        Progress::Fresh => begin(params, coded),
+        Progress::Unmodelled(error) => Ready::Not(Progress::Unmodelled(error)),
+        Progress::Running {
+            model,
+            last: _,
+            least,
+            greatest,
+        } => Ready::Model(model, least, greatest),
+        Progress::Stopped(error) => Ready::Not(Progress::Stopped(error)),
     }
 }
 
@@ -186,15 +206,8 @@ pub(crate) fn advance(progress: Progress, params: VbvParams, seen: SeenPicture) 
     ensures { λ r. ⌜ r ≡ advanced params progress (codedOf seen) ⌝ }
 {
     let coded = coded_picture(seen);
-    match progress {
-        Progress::Fresh => begin(params, coded),
-        Progress::Unmodelled(error) => Progress::Unmodelled(error),
-        Progress::Running {
-            model,
-            last: _,
-            least,
-            greatest,
-        } => go_on(remove(model, coded), least, greatest),
-        Progress::Stopped(error) => Progress::Stopped(error),
+    match ready(progress, params, coded) {
+        Ready::Model(model, least, greatest) => go_on(remove(model, coded), least, greatest),
+        Ready::Not(stays) => stays,
     }
 }
