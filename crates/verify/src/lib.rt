@@ -95,9 +95,9 @@ enum Progress {
 
 // Before a removal: the model, the least occupancy after one so far and the greatest before; or the progress that no removal
 // changes.
-enum Ready {
+enum BeforeRemoval {
     Model(VbvCbrModel, u64, u64),
-    Not(Progress),
+    Stays(Progress),
 }
 
 // What a walk over the pictures comes to: why the stream's headers are refused, or what it declares, the number of

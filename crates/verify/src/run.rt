@@ -6,9 +6,9 @@ ghost use Rattle.vbv.specs.Steps.{bitsOf};
 ghost use Rattle.verify.specs.Run.{apart};
 ghost use Rattle.verify.specs.Coded.{codedOf};
 ghost use Rattle.verify.specs.Steps.{withDelays, removedFrom, removed, progressed, firstRemoved, advanced, goneOn};
+use crate::BeforeRemoval;
 use crate::CodedPicture;
 use crate::Progress;
-use crate::Ready;
 use crate::Removed;
 use crate::VbvPictureRecord;
 use crate::VbvVerifyError;
@@ -154,37 +154,39 @@ fn go_on(removed: Removed, least: u64, greatest: u64) -> Progress
 }
 
 // Before the first removal. No occupancy is above B.
-fn begin(params: VbvParams, coded: CodedPicture) -> Ready
+fn begin(params: VbvParams, coded: CodedPicture) -> BeforeRemoval
     ensures { λ r. ⌜ goneOn coded «r» ≡ firstRemoved params coded ⌝ }
 {
     if coded.vbv_delay == 0xFFFF {
-        return Ready::Not(Progress::Unmodelled(VbvVerifyError::VariableRate));
+        return BeforeRemoval::Stays(Progress::Unmodelled(VbvVerifyError::VariableRate));
     }
     match VbvCbrModel::new(params) {
-        VbvModel::Refused(unfit) => Ready::Not(Progress::Unmodelled(VbvVerifyError::Model(unfit))),
+        VbvModel::Refused(unfit) => BeforeRemoval::Stays(Progress::Unmodelled(VbvVerifyError::Model(
+            unfit,
+        ))),
         VbvModel::Model(model) => match model.start(coded.vbv_delay, coded.pos_bits) {
             VbvModel::Refused(error) => {
-                Ready::Not(Progress::Unmodelled(VbvVerifyError::Model(error)))
+                BeforeRemoval::Stays(Progress::Unmodelled(VbvVerifyError::Model(error)))
             }
-            VbvModel::Model(started) => Ready::Model(started, params.buffer_size_bits, 0),
+            VbvModel::Model(started) => BeforeRemoval::Model(started, params.buffer_size_bits, 0),
         },
     }
 }
 
 // Before a picture's removal.
-fn ready(progress: Progress, params: VbvParams, coded: CodedPicture) -> Ready
+fn before_removal(progress: Progress, params: VbvParams, coded: CodedPicture) -> BeforeRemoval
     ensures { λ r. ⌜ goneOn coded «r» ≡ advanced params progress coded ⌝ }
 {
     match progress {
         Progress::Fresh => begin(params, coded),
-        Progress::Unmodelled(error) => Ready::Not(Progress::Unmodelled(error)),
+        Progress::Unmodelled(error) => BeforeRemoval::Stays(Progress::Unmodelled(error)),
         Progress::Running {
             model,
             last: _,
             least,
             greatest,
-        } => Ready::Model(model, least, greatest),
-        Progress::Stopped(error) => Ready::Not(Progress::Stopped(error)),
+        } => BeforeRemoval::Model(model, least, greatest),
+        Progress::Stopped(error) => BeforeRemoval::Stays(Progress::Stopped(error)),
     }
 }
 
@@ -206,8 +208,12 @@ pub(crate) fn advance(progress: Progress, params: VbvParams, seen: SeenPicture) 
     ensures { λ r. ⌜ r ≡ advanced params progress (codedOf seen) ⌝ }
 {
     let coded = coded_picture(seen);
-    match ready(progress, params, coded) {
-        Ready::Model(model, least, greatest) => go_on(remove(model, coded), least, greatest),
-        Ready::Not(stays) => stays,
+    match before_removal(progress, params, coded) {
+        BeforeRemoval::Model(model, least, greatest) => go_on(
+            remove(model, coded),
+            least,
+            greatest,
+        ),
+        BeforeRemoval::Stays(stays) => stays,
     }
 }

@@ -6,8 +6,8 @@ use Rattle.verify.proofs.run.advance.Tie as tie
 coded-picture-requires : tie.Need-coded-picture-requires
 coded-picture-requires c κs = search needs
 
-ready-requires : tie.Need-ready-requires
-ready-requires c κs = search needs
+before-removal-requires : tie.Need-before-removal-requires
+before-removal-requires c κs = search needs
 
 enum-known-model : tie.Need-enum-known-model
 enum-known-model c = search needs
@@ -23,18 +23,18 @@ enum-known-stays c = search needs
 
 returns : tie.Need-returns
 unfolding goneOn
-returns c = rw (← c .before .before .before .before .before .before .coded-picture .ensures, ← c .before .before .before .before .before .ready .ensures, c .before .before .before .model .given .1, ← c .before .remove .ensures) (c .go-on .ensures)
+returns c = rw (← c .before .before .before .before .before .before .coded-picture .ensures, ← c .before .before .before .before .before .before-removal .ensures, c .before .before .before .model .given .1, ← c .before .remove .ensures) (c .go-on .ensures)
 
 returns-2 : tie.Need-returns-2
 unfolding goneOn
-returns-2 c = rw (← c .before .before .before .before .coded-picture .ensures, ← c .before .before .before .ready .ensures, c .before .stays .given .1)
+returns-2 c = rw (← c .before .before .before .before .coded-picture .ensures, ← c .before .before .before .before-removal .ensures, c .before .stays .given .1)
 
 pub advance-spec : {M : Type 1} → statement M
 advance-spec =
     tie.close
     (tie.spec
     coded-picture-requires
-    ready-requires
+    before-removal-requires
     enum-known-model
     remove-requires
     go-on-requires

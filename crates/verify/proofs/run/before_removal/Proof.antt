@@ -1,7 +1,7 @@
 use Rattle.verify.specs.Steps.{advanced, goneOn}
 use borrow.Author.Needs.{needs}
-use Rattle.verify.proofs.run.ready.Statement.{statement}
-use Rattle.verify.proofs.run.ready.Tie as tie
+use Rattle.verify.proofs.run.before_removal.Statement.{statement}
+use Rattle.verify.proofs.run.before_removal.Tie as tie
 
 enum-told : tie.Need-enum-told
 enum-told c = search needs
@@ -34,8 +34,8 @@ returns-4 : tie.Need-returns-4
 unfolding advanced goneOn
 returns-4 c = rw (c .before .progress3 .given .1)
 
-pub ready-spec : {M : Type 1} → statement M
-ready-spec =
+pub before-removal-spec : {M : Type 1} → statement M
+before-removal-spec =
     tie.close
     (tie.spec
     enum-told
