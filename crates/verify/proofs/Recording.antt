@@ -14,9 +14,6 @@ use Rattle.pictures.specs.Order as walk
 use Rattle.pictures.specs.Order.{Visits}
 use Rattle.pictures.specs.declared.VbvStandard.{VbvStandard}
 use Rattle.pictures.specs.declared.SeenPicture.{SeenPicture}
-use Rattle.pictures.specs.declared.NextSeen.{NextSeen}
-use Rattle.pictures.specs.declared.NextSeen.the-variants as nx
-use Rattle.pictures.specs.Answers.{seenAnswer}
 use Rattle.pictures.proofs.Order.{steps-give}
 use Rattle.pictures.proofs.Due.{opening-short}
 use Rattle.verify.specs.Coded.{codedOf, timed}
@@ -55,12 +52,6 @@ module _ (s : List ℕ) (w : VbvRecorder) where
       → wentOn w next (advanced (w .params) (w .progress) (codedOf x)) ≡ nextRecord s w
   unfolding nextRecord recordedBy
   record-one x next e = rw (← e)
-
-  pub record-other : (r : NextSeen) → seenAnswer r ≡ nextSeen (w .standard) s (w .at) → ((x : SeenPicture) (k : ℕ) → r ≡ nx.Picture x k → ⊥)
-      → stayed w ≡ nextRecord s w
-  record-other (nx.Picture x k) e h = absurd (h x k refl)
-  record-other nx.Done e h = record-none e
-  record-other (nx.Refused u) e h = record-refused e
 
 -- the recorder after i steps
 abbrev pub stateOf : List ℕ → VbvRecorder → ℕ → VbvRecorder

@@ -1,8 +1,12 @@
 -- Records stored in their places.
 -- Assumes nothing.
 use mathlib.Core.Path.{_≡_, refl, sym, ap, _∙_}
-use Prim.Native.Nat.{ℕ, suc, _+_, _-_, _*_, _/_, _≤_}
+use Prim.Native.Nat.{ℕ, suc, _+_, _-_, _*_, _/_, _≤_, _<_, min}
 use mathlib.Core.List.{List, [], _∷_, _++_, append-nil, append-assoc}
+use mathlib.Core.Bool.{Bool, true, false}
+use lib.Dec.{ltb}
+use borrow.Author.Tests.{ltb-true, ltb-false}
+use Rattle.bits.specs.Bits.{pick}
 use native.Mathlib.Omega.{arith}
 use native.Mathlib.Numerals.{add-one}
 use lib.ListN.{length, take, drop, length-append}
@@ -17,7 +21,7 @@ use Rattle.pictures.specs.declared.VbvStandard.{VbvStandard}
 use Rattle.verify.specs.Layout.{recordSize, recordBytes, recordsBytes}
 use Rattle.verify.specs.Answers.{verifiedAnswer}
 use Rattle.verify.specs.Check.{verdict, reported, records}
-use Rattle.verify.specs.Steps.{advanced, recordCount, recorderOf, noRecord, lastOf, stayed, wentOn, nextRecord, recordsOf}
+use Rattle.verify.specs.Steps.{advanced, recordCount, recorderOf, lastOf, wentOn, nextRecord, recordsOf, storedNext}
 use Rattle.verify.specs.declared.VbvVerified.{VbvVerified}
 use Rattle.verify.specs.declared.recorder.VbvRecorder.{VbvRecorder}
 use Rattle.verify.specs.declared.recorder.VbvRecorded.{VbvRecorded}
@@ -67,49 +71,58 @@ unfolding recordsBytes
 bytes-last [] r = append-nil (recordBytes r)
 bytes-last (q ∷ rs) r = rw (bytes-last rs r, append-assoc (recordBytes q) (recordsBytes rs) (recordBytes r))
 
--- the first i records are stored, and the recorder has gone i steps
-pub record Stored (s : List ℕ) (w₀ : VbvRecorder) (out₀ out : List ℕ) (w : VbvRecorder) (i : ℕ) : Type 0 where
+-- the recorder has gone i steps, and of its records those of the first `count` steps are stored
+pub record Stored (s : List ℕ) (w₀ : VbvRecorder) (count : ℕ) (out₀ out : List ℕ) (w : VbvRecorder) (i : ℕ) : Type 0 where
   pub as-long : length out ≡ length out₀
   pub stands : w ≡ stateOf s w₀ i
-  pub bytes : out ≡ sets out₀ 0 (recordsBytes (recordsOf s w₀ i))
-
-pub stored-none : (s : List ℕ) (w₀ : VbvRecorder) (out : List ℕ) {w : VbvRecorder} → w ≡ w₀ → Stored s w₀ out out w 0
-stored-none s w₀ out e = record { as-long = refl; stands = e; bytes = rw (records-none s w₀, no-records) }
-
-pub stored-more : {s : List ℕ} {w₀ : VbvRecorder} {out₀ out : List ℕ} {w : VbvRecorder} {i : ℕ} → Stored s w₀ out₀ out w i
-    → {r : VbvPictureRecord} {next : VbvRecorder} → r ≡ nextRecord s w .last → next ≡ nextRecord s w .recorder
-    → {new : List ℕ} → new ≡ sets out (recordSize * i) (recordBytes r) → Stored s w₀ out₀ new next (i + 1)
-stored-more {s} {w₀} {out₀} {out} {w} {i} h {r} {next} er en {new} e =
-    let rs : List VbvPictureRecord = recordsOf s w₀ i in
-    let o : 0 + recordSize * i ≡ recordSize * i = omega arith in
-    let l : length (recordsBytes rs) ≡ recordSize * i = length-records rs ∙ rw (records-length s w₀ i) in
-    rw (add-one i)
-    record {
-      as-long = rw e (length-sets out (recordSize * i) (recordBytes r) ∙ h .as-long);
-      stands = en ∙ rw (h .stands);
-      bytes =
-          e
-          ∙ rw (h .bytes, er, h .stands, records-last s w₀ i, bytes-last rs (nextRecord s (stateOf s w₀ i) .last), sets-append (recordsBytes rs) (recordBytes (nextRecord s (stateOf s w₀ i) .last)) out₀ 0, l, o);
-    }
-
--- the same by what a step has shown
-pub stored-one : {s : List ℕ} {w₀ : VbvRecorder} {out₀ out : List ℕ} {w : VbvRecorder} {i : ℕ} → Stored s w₀ out₀ out w i
-    → {x : SeenPicture} {k : ℕ} → nextSeen (w .standard) s (w .at) ≡ value (one x k) → {st : Progress} → st ≡ advanced (w .params) (w .progress) (codedOf x)
-    → {r : VbvPictureRecord} → r ≡ lastOf st → {new : List ℕ} → new ≡ sets out (recordSize * i) (recordBytes r)
-    → Stored s w₀ out₀ new (record { standard = w .standard; params = w .params; at = k; progress = st }) (i + 1)
-unfolding wentOn
-stored-one {s} {w = w} h {x} {k} e {st} f g n =
-    let q = record-one s w x k (sym e) in
-    stored-more h (g ∙ rw f (ap (λ (y : VbvRecorded). y .last) q)) (rw f (ap (λ (y : VbvRecorded). y .recorder) q)) n
-
-pub stored-other : {s : List ℕ} {w₀ : VbvRecorder} {out₀ out : List ℕ} {w : VbvRecorder} {i : ℕ} → Stored s w₀ out₀ out w i
-    → stayed w ≡ nextRecord s w → {r : VbvPictureRecord} → r ≡ noRecord → {new : List ℕ} → new ≡ sets out (recordSize * i) (recordBytes r)
-    → Stored s w₀ out₀ new w (i + 1)
-unfolding stayed
-stored-other h q g n = stored-more h (g ∙ ap (λ (y : VbvRecorded). y .last) q) (ap (λ (y : VbvRecorded). y .recorder) q) n
+  pub bytes : out ≡ sets out₀ 0 (recordsBytes (recordsOf s w₀ (min i count)))
 
 pub none-stored : (s : List ℕ) (w : VbvRecorder) (out : List ℕ) → out ≡ sets out 0 (recordsBytes (recordsOf s w 0))
 none-stored s w out = rw (records-none s w, no-records)
+
+pub stored-none : (s : List ℕ) (w₀ : VbvRecorder) (count : ℕ) (out : List ℕ) {w : VbvRecorder} → w ≡ w₀ → Stored s w₀ count out out w 0
+stored-none s w₀ count out e = let z : min 0 count ≡ 0 = omega arith in record { as-long = refl; stands = e; bytes = rw z (none-stored s w₀ out) }
+
+module _ {s : List ℕ} {w₀ : VbvRecorder} {count : ℕ} {out₀ out : List ℕ} {w : VbvRecorder} {i : ℕ} (h : Stored s w₀ count out₀ out w i) where
+  -- one record more at its place
+  put-one : i < count → {r : VbvPictureRecord} → r ≡ nextRecord s w .last
+      → sets out (recordSize * i) (recordBytes r) ≡ sets out₀ 0 (recordsBytes (recordsOf s w₀ (min (i + 1) count)))
+  put-one lt {r} er =
+      let rs : List VbvPictureRecord = recordsOf s w₀ i in
+      let o : 0 + recordSize * i ≡ recordSize * i = omega arith in
+      let a : min i count ≡ i = omega arith in
+      let b : min (i + 1) count ≡ suc i = omega (arith, add-one i) in
+      let l : length (recordsBytes rs) ≡ recordSize * i = length-records rs ∙ rw (records-length s w₀ i) in
+      rw (h .bytes, a, b, er, h .stands, records-last s w₀ i, bytes-last rs (nextRecord s (stateOf s w₀ i) .last), sets-append (recordsBytes rs) (recordBytes (nextRecord s (stateOf s w₀ i) .last)) out₀ 0, l, o)
+
+  -- or none, once all are stored
+  put-none : count ≤ i → out ≡ sets out₀ 0 (recordsBytes (recordsOf s w₀ (min (i + 1) count)))
+  put-none ge =
+      let a : min i count ≡ count = omega arith in
+      let b : min (i + 1) count ≡ count = omega arith in
+      rw b (rw a at (h .bytes))
+
+  put-next : (b : Bool) → ltb i count ≡ b → {r : VbvPictureRecord} → r ≡ nextRecord s w .last → {new : List ℕ} → new ≡ pick b (sets out (recordSize * i) (recordBytes r)) out
+      → (length new ≡ length out) × (new ≡ sets out₀ 0 (recordsBytes (recordsOf s w₀ (min (i + 1) count))))
+  unfolding pick
+  put-next true e {r} er n = (rw n (length-sets out (recordSize * i) (recordBytes r)), n ∙ put-one (ltb-true i count e) er)
+  put-next false e er n = (rw n, n ∙ put-none (ltb-false i count e))
+
+  -- by what a step has shown
+  pub stored-more : {x : SeenPicture} {k : ℕ} → nextSeen (w .standard) s (w .at) ≡ value (one x k) → {st : Progress} → st ≡ advanced (w .params) (w .progress) (codedOf x)
+      → {new : List ℕ} → new ≡ storedNext count i st out
+      → Stored s w₀ count out₀ new (record { standard = w .standard; params = w .params; at = k; progress = st }) (i + 1)
+  unfolding wentOn storedNext
+  stored-more {x} {k} e {st} f {new} n =
+      let q = record-one s w x k (sym e) in
+      let last : lastOf st ≡ nextRecord s w .last = rw f (ap (λ (y : VbvRecorded). y .last) q) in
+      let next : (record { standard = w .standard; params = w .params; at = k; progress = st }) ≡ nextRecord s w .recorder = rw f (ap (λ (y : VbvRecorded). y .recorder) q) in
+      let both = put-next (ltb i count) refl last n in
+      record { as-long = both .0 ∙ h .as-long; stands = rw (add-one i) (next ∙ rw (h .stands)); bytes = both .1 }
+
+  -- and at the end all are
+  pub all-stored : count ≤ i → out ≡ sets out₀ 0 (recordsBytes (recordsOf s w₀ count))
+  all-stored ge = let a : min i count ≡ count = omega arith in rw a at (h .bytes)
 
 -- ---- the check with records
 

@@ -5,7 +5,7 @@ use mathlib.Core.Bool.{Bool, true, false}
 use Prim.Native.Nat.{ℕ, suc, _+_, _*_, _/_, _^_, _≤_, _<_, min, max}
 use mathlib.Core.List.{List, [], _∷_}
 use native.Mathlib.Omega.{arith}
-use lib.Dec.{eqb, ltb}
+use lib.Dec.{eqb, leb, ltb}
 use lib.ListN.{length}
 use lib.Seq.{sets}
 use borrow.Author.Tests.{lt-leb, le-leb, ltb-true, ltb-false, ne-eqb}
@@ -45,7 +45,7 @@ use Rattle.verify.specs.declared.Progress.the-variants.{Fresh, Unmodelle
 use Rattle.verify.specs.Run.{run, occupancyAfter, leastAfter, greatestBefore}
 use Rattle.verify.specs.Check.{Accepted, accepted, withPictures, verdict, reportOf, reported, records}
 use Rattle.verify.specs.Answers.{refusal, refusalOf, verifiedAnswer}
-use Rattle.verify.specs.Steps.{removed, progressed, firstStarted, firstMade, firstRemoved, advanced, advancedAll, walkedAnswer, walkedOver, unreadError, ifPlaced, judgedAs, judgement, noRecord, lastOf}
+use Rattle.verify.specs.Steps.{removed, progressed, firstStarted, firstMade, firstRemoved, advanced, advancedAll, walkedAnswer, walkedOver, walkedCount, unreadError, ifPlaced, judgedAs, judgement, recordCount, noRecord, lastOf}
 use Rattle.pictures.specs.Order.{Placed}
 use Rattle.pictures.proofs.Order.{seen-rising}
 use Rattle.verify.proofs.Rising.{Rising, next, timed-rising, timed-first, timed-length}
@@ -324,3 +324,17 @@ module _ (standard : VbvStandard) (s : List ℕ) (places : ℕ) where
       → verifiedAnswer (judgement places w) ≡ reported (verdict standard s places)
   unfolding verdict
   judgement-is w t = judged-by w ∙ ap judgedBy t ∙ by-front (front standard s) (front-due standard s)
+
+-- no more records than pictures were walked over
+placed-few : {n : ℕ} (b : Bool) (r : VbvVerified) → recordCount r ≤ n → recordCount (pick b r (vf.Refused RecordPlaces)) ≤ n
+unfolding recordCount pick
+placed-few true r h = h
+placed-few false r h = omega arith
+
+pub few-judged : (places : ℕ) (w : Walked) → recordCount (judgement places w) ≤ walkedCount (walkedAnswer w)
+unfolding recordCount judgement judgedAs ifPlaced walkedCount
+few-judged places (wk.Refused e) = omega arith
+few-judged places (wk.Read p n Fresh) = omega arith
+few-judged places (wk.Read p n (Unmodelled e)) = omega arith
+few-judged places (wk.Read p n (Running m r l g)) = placed-few (leb n places) _ (omega arith)
+few-judged places (wk.Read p n (Stopped e)) = placed-few (leb n places) _ (omega arith)

@@ -23,7 +23,7 @@ use Rattle.pictures.proofs.Due.{front-unopened, front-opened, first-none, first
 use Rattle.verify.specs.declared.Progress.{Progress}
 use Rattle.verify.specs.declared.Progress.the-variants.{Fresh}
 use Rattle.verify.specs.Coded.{codedOf, timed}
-use Rattle.verify.specs.Steps.{advanced, advancedAll, walkedOver}
+use Rattle.verify.specs.Steps.{advanced, advancedAll, walkedOver, walkedCount}
 
 -- ---- what is still to come
 
@@ -76,6 +76,15 @@ module _ {standard : VbvStandard} {s : List ℕ} (short : 8 * length s ≤ farth
         answer = sym (over-before p n st x (seenFrom standard s next)) ∙ rw (q .2) at (w .answer);
       })
 
+-- how many pictures there are to record, by what the walk comes to
+pub count-read : {a : Answer (VbvParams × (ℕ × Progress))} {count n : ℕ} {p : VbvParams} {st : Progress} → count ≤ walkedCount a → value (p, (n, st)) ≡ a → count ≤ n
+unfolding walkedCount
+count-read h e = rw (← e) at h
+
+pub count-refused : {a : Answer (VbvParams × (ℕ × Progress))} {count m k c d : ℕ} → count ≤ walkedCount a → refused m k c d ≡ a → count ≤ 0
+unfolding walkedCount
+count-refused h e = rw (← e) at h
+
 -- ---- the front
 
 -- its pictures walked over
@@ -97,3 +106,7 @@ module _ (standard : VbvStandard) (s : List ℕ) where
   pub walked-opened : {p : VbvParams} → opening standard s ≡ value p → {a : Answer (VbvParams × (ℕ × Progress))} → a ≡ andThen (seenPictures standard s) (walkedOver p 0 Fresh)
       → a ≡ andThen (front standard s) walkedFront
   walked-opened {p} e w = w ∙ rw (front-opened standard s e) (over-first p (seenPictures standard s))
+
+  pub count-opened : {p : VbvParams} → opening standard s ≡ value p → {count : ℕ} → count ≤ walkedCount (andThen (front standard s) walkedFront)
+      → count ≤ walkedCount (andThen (seenPictures standard s) (walkedOver p 0 Fresh))
+  count-opened e h = rw (walked-opened e refl) h

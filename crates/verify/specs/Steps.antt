@@ -1,9 +1,10 @@
 -- The check as the code goes: a picture at a time, with the model and what the report needs of the removals so far; and the records of a stream one by one.
 -- The promises of private functions; proofs/Verdict.antt and Recording.antt say that they come to specs/Check.antt. Assumes nothing.
-use Prim.Native.Nat.{ℕ, zero, suc, _+_, _-_, min, max}
+use Prim.Native.Nat.{ℕ, zero, suc, _+_, _-_, _*_, min, max}
 use mathlib.Core.List.{List, [], _∷_}
-use lib.Dec.{eqb, leb}
+use lib.Dec.{eqb, leb, ltb}
 use lib.ListN.{length}
+use lib.Seq.{sets}
 use Rattle.bits.specs.Bits.{pick}
 use Rattle.bits.specs.Refusals.{Answer, value, refused, refuse, andThen, orElse}
 use Rattle.vbv.specs.Model.{newModel, startModel, delayForPicture, removePicture, occupancyBeforeRemoval}
@@ -27,6 +28,7 @@ use Rattle.pictures.specs.declared.SeenPicture.{SeenPicture}
 use Rattle.pictures.specs.declared.Unread.{Unread}
 use Rattle.pictures.specs.declared.Unread.the-variants as un
 use Rattle.verify.specs.Coded.{codedOf, timed}
+use Rattle.verify.specs.Layout.{recordSize, recordBytes}
 use Rattle.verify.specs.Run.{apart, occupancyAfter}
 use Rattle.verify.specs.declared.CodedPicture.{CodedPicture}
 use Rattle.verify.specs.declared.VbvPictureRecord.{VbvPictureRecord}
@@ -38,6 +40,8 @@ use Rattle.verify.specs.declared.Removed.{Removed}
 use Rattle.verify.specs.declared.Removed.the-variants.{Recorded, Refused}
 use Rattle.verify.specs.declared.Progress.{Progress}
 use Rattle.verify.specs.declared.Progress.the-variants.{Fresh, Unmodelled, Running, Stopped}
+use Rattle.verify.specs.declared.BeforeRemoval.{BeforeRemoval}
+use Rattle.verify.specs.declared.BeforeRemoval.the-variants as br
 use Rattle.verify.specs.declared.Walked.{Walked}
 use Rattle.verify.specs.declared.Walked.the-variants as wk
 use Rattle.verify.specs.declared.recorder.VbvRecorder.{VbvRecorder}
@@ -102,6 +106,11 @@ advanced p (Unmodelled e) c = Unmodelled e
 advanced p (Running m r least greatest) c = progressed least greatest (removed m c)
 advanced p (Stopped e) c = Stopped e
 
+-- what a removal makes of what stands before it
+unfoldable pub goneOn : CodedPicture → BeforeRemoval → Progress
+goneOn c (br.Model m least greatest) = progressed least greatest (removed m c)
+goneOn c (br.Stays st) = st
+
 -- over all pictures
 unfoldable pub advancedAll : VbvParams → Progress → List CodedPicture → Progress
 advancedAll p st [] = st
@@ -118,6 +127,11 @@ unfoldable pub walkedOver : VbvParams → ℕ → Progress → List SeenPicture 
 walkedOver p n st xs =
     refuse 4 (eqb (n + length xs) 0)
     (value (p, (n + length xs, advancedAll p st (timed xs))))
+
+-- how many pictures a walk came over; none where a header is refused
+unfoldable pub walkedCount : Answer (VbvParams × (ℕ × Progress)) → ℕ
+walkedCount (value w) = w .1 .0
+walkedCount (refused n k c e) = 0
 
 -- ---- the answer
 
@@ -169,6 +183,10 @@ lastOf Fresh = noRecord
 lastOf (Unmodelled e) = noRecord
 lastOf (Running m r least greatest) = r
 lastOf (Stopped e) = noRecord
+
+-- the record after picture i, where it is one of the first `count`, at its place
+unfoldable pub storedNext : ℕ → ℕ → Progress → List ℕ → List ℕ
+storedNext count i st out = pick (ltb i count) (sets out (recordSize * i) (recordBytes (lastOf st))) out
 
 unfoldable pub stayed : VbvRecorder → VbvRecorded
 stayed w = record { recorder = w; last = noRecord }

@@ -93,6 +93,13 @@ enum Progress {
     Stopped(VbvVerifyError),
 }
 
+// Before a removal: the model, the least occupancy after one so far and the greatest before; or the progress that no removal
+// changes.
+enum BeforeRemoval {
+    Model(VbvCbrModel, u64, u64),
+    Stays(Progress),
+}
+
 // What a walk over the pictures comes to: why the stream's headers are refused, or what it declares, the number of
 // pictures and how far the model came.
 enum Walked {

@@ -4,15 +4,16 @@ ghost use mathlib.Core.Path.{_≡_};
 ghost use mathlib.Core.List.{_∷_};
 ghost use Prim.Native.Nat.{_*_, _/_, _≤_};
 ghost use lib.ListN.{length};
+ghost use lib.Seq.{sets};
 ghost use Rattle.vbv.specs.Model.{farthest};
 ghost use Rattle.bits.specs.Refusals.{andThen, value};
 ghost use Rattle.bits.specs.Answers.{over};
-ghost use Rattle.pictures.specs.Front.{front};
+ghost use Rattle.pictures.specs.Front.{opening as openingOf, front};
 ghost use Rattle.pictures.specs.Seen.{seenPictures};
 ghost use Rattle.verify.specs.Answers.{verifiedAnswer};
 ghost use Rattle.verify.specs.Check.{verdict, reported, records as recordsOf};
 ghost use Rattle.verify.specs.Layout.{recordSize, recordsBytes};
-ghost use Rattle.verify.specs.Steps.{walkedAnswer, walkedOver, unreadError, ifPlaced, judgement};
+ghost use Rattle.verify.specs.Steps.{walkedAnswer, walkedOver, walkedCount, unreadError, ifPlaced, judgement, recorderOf, recordsOf as firstRecords};
 ghost use Rattle.verify.specs.declared.Progress.the-variants.{Fresh};
 use crate::Progress;
 use crate::RECORD_BYTES;
@@ -21,7 +22,7 @@ use crate::VbvVerified;
 use crate::VbvVerifyError;
 use crate::Walked;
 use crate::recorder::record_count;
-use crate::records::store;
+use crate::records::put_next;
 use crate::run::advance;
 use pictures::Declared;
 use pictures::NextSeen;
@@ -31,10 +32,20 @@ use pictures::next_seen;
 use pictures::opening;
 use vbv::VbvParams;
 
-// Walks over the pictures and runs the model over them, as long as their headers can be read; there must be one.
-fn walk(stream: &[u8], standard: VbvStandard, params: VbvParams) -> Walked
+// Walks over the pictures and runs the model over them, as long as their headers can be read; there must be one. The records
+// of the first `count` are stored as it goes.
+fn walk(
+    stream: &[u8],
+    standard: VbvStandard,
+    params: VbvParams,
+    count: usize,
+    out: &mut [u8],
+) -> Walked
     requires { ⌜ 8 * length (now stream) ≤ farthest ⌝ }
+    requires { ⌜ recordSize * count ≤ length (now out) ⌝ }
+    requires { ⌜ count ≤ walkedCount (andThen (seenPictures standard (now stream)) (walkedOver params 0 Fresh)) ⌝ }
     ensures { λ r. ⌜ walkedAnswer r ≡ andThen (seenPictures standard (now (stream .entry))) (walkedOver params 0 Fresh) ⌝ }
+    ensures { λ r. ⌜ now (out .exit) ≡ sets (now (out .entry)) 0 (recordsBytes (firstRecords (now (stream .entry)) (recorderOf standard (value params)) count)) ⌝ }
 {
     let mut i: usize = 0;
     let mut n: usize = 0;
@@ -43,6 +54,7 @@ fn walk(stream: &[u8], standard: VbvStandard, params: VbvParams) -> Walked
         match next_seen(stream, standard, i) {
             NextSeen::Picture(seen, next) => {
                 progress = advance(progress, params, seen);
+                put_next(out, count, n, progress);
                 n += 1;
                 i = next;
             }
@@ -58,13 +70,16 @@ fn walk(stream: &[u8], standard: VbvStandard, params: VbvParams) -> Walked
 }
 
 // The front: 14, 3, sequence header, extension, 6, every picture header in stream order, 4. The model runs along, so that
-// the stream is walked over once.
-fn walk_front(stream: &[u8], standard: VbvStandard) -> Walked
+// the stream is walked over once; and the records of the first `count` pictures are stored.
+fn walk_front(stream: &[u8], standard: VbvStandard, count: usize, out: &mut [u8]) -> Walked
+    requires { ⌜ recordSize * count ≤ length (now out) ⌝ }
+    requires { ⌜ count ≤ walkedCount (andThen (front standard (now stream)) (λ f. walkedOver (f .params) 0 Fresh (f .first ∷ f .others))) ⌝ }
     ensures { λ r. ⌜ walkedAnswer r ≡ andThen (front standard (now (stream .entry))) (λ f. walkedOver (f .params) 0 Fresh (f .first ∷ f .others)) ⌝ }
+    ensures { λ r. ⌜ now (out .exit) ≡ sets (now (out .entry)) 0 (recordsBytes (firstRecords (now (stream .entry)) (recorderOf standard (openingOf standard (now (stream .entry)))) count)) ⌝ }
 {
     match opening(stream, standard) {
         Declared::Refused(error) => Walked::Refused(error),
-        Declared::Params(params) => walk(stream, standard, params),
+        Declared::Params(params) => walk(stream, standard, params, count, out),
     }
 }
 
@@ -123,7 +138,7 @@ fn judge(walked: Walked, places: usize) -> VbvVerified
 pub fn check_stream(stream: &[u8], standard: VbvStandard, places: usize) -> VbvVerified
     ensures { λ r. ⌜ verifiedAnswer r ≡ reported (verdict standard (now (stream .entry)) places) ⌝ }
 {
-    judge(walk_front(stream, standard), places)
+    judge(walk_front(stream, standard, 0, &mut []), places)
 }
 
 // The buffer report of a stream with its records, or why it is refused. A place has the bytes of a record.
@@ -131,7 +146,11 @@ pub fn verify_cbr_stream(stream: &[u8], standard: VbvStandard, records: &mut [u8
     ensures { λ r. ⌜ verifiedAnswer r ≡ reported (verdict standard (now (stream .entry)) (length (now (records .entry)) / recordSize)) ⌝ }
     ensures { λ r. ⌜ now (records .exit) ≡ over (recordsBytes (recordsOf (verdict standard (now (stream .entry)) (length (now (records .entry)) / recordSize)))) (now (records .entry)) ⌝ }
 {
-    let answer = check_stream(stream, standard, records.len() / RECORD_BYTES);
-    store(stream, standard, record_count(answer), records);
+    let walked = walk_front(stream, standard, 0, &mut []);
+    let answer = judge(walked, records.len() / RECORD_BYTES);
+    let count = record_count(answer);
+    if 0 < count {
+        walk_front(stream, standard, count, records);
+    }
     answer
 }

@@ -5,7 +5,8 @@ ghost use Rattle.vbv.specs.Model.{occupancyBeforeRemoval};
 ghost use Rattle.vbv.specs.Steps.{bitsOf};
 ghost use Rattle.verify.specs.Run.{apart};
 ghost use Rattle.verify.specs.Coded.{codedOf};
-ghost use Rattle.verify.specs.Steps.{withDelays, removedFrom, removed, progressed, firstRemoved, advanced};
+ghost use Rattle.verify.specs.Steps.{withDelays, removedFrom, removed, progressed, firstRemoved, advanced, goneOn};
+use crate::BeforeRemoval;
 use crate::CodedPicture;
 use crate::Progress;
 use crate::Removed;
@@ -152,19 +153,40 @@ fn go_on(removed: Removed, least: u64, greatest: u64) -> Progress
     }
 }
 
-// The first removal. No occupancy is above B.
-fn begin(params: VbvParams, coded: CodedPicture) -> Progress
-    ensures { λ r. ⌜ r ≡ firstRemoved params coded ⌝ }
+// Before the first removal. No occupancy is above B.
+fn begin(params: VbvParams, coded: CodedPicture) -> BeforeRemoval
+    ensures { λ r. ⌜ goneOn coded «r» ≡ firstRemoved params coded ⌝ }
 {
     if coded.vbv_delay == 0xFFFF {
-        return Progress::Unmodelled(VbvVerifyError::VariableRate);
+        return BeforeRemoval::Stays(Progress::Unmodelled(VbvVerifyError::VariableRate));
     }
     match VbvCbrModel::new(params) {
-        VbvModel::Refused(unfit) => Progress::Unmodelled(VbvVerifyError::Model(unfit)),
+        VbvModel::Refused(unfit) => BeforeRemoval::Stays(Progress::Unmodelled(VbvVerifyError::Model(
+            unfit,
+        ))),
         VbvModel::Model(model) => match model.start(coded.vbv_delay, coded.pos_bits) {
-            VbvModel::Refused(error) => Progress::Unmodelled(VbvVerifyError::Model(error)),
-            VbvModel::Model(started) => go_on(remove(started, coded), params.buffer_size_bits, 0),
+            VbvModel::Refused(error) => {
+                BeforeRemoval::Stays(Progress::Unmodelled(VbvVerifyError::Model(error)))
+            }
+            VbvModel::Model(started) => BeforeRemoval::Model(started, params.buffer_size_bits, 0),
         },
+    }
+}
+
+// Before a picture's removal.
+fn before_removal(progress: Progress, params: VbvParams, coded: CodedPicture) -> BeforeRemoval
+    ensures { λ r. ⌜ goneOn coded «r» ≡ advanced params progress coded ⌝ }
+{
+    match progress {
+        Progress::Fresh => begin(params, coded),
+        Progress::Unmodelled(error) => BeforeRemoval::Stays(Progress::Unmodelled(error)),
+        Progress::Running {
+            model,
+            last: _,
+            least,
+            greatest,
+        } => BeforeRemoval::Model(model, least, greatest),
+        Progress::Stopped(error) => BeforeRemoval::Stays(Progress::Stopped(error)),
     }
 }
 
@@ -186,15 +208,12 @@ pub(crate) fn advance(progress: Progress, params: VbvParams, seen: SeenPicture) 
     ensures { λ r. ⌜ r ≡ advanced params progress (codedOf seen) ⌝ }
 {
     let coded = coded_picture(seen);
-    match progress {
-        Progress::Fresh => begin(params, coded),
-        Progress::Unmodelled(error) => Progress::Unmodelled(error),
-        Progress::Running {
-            model,
-            last: _,
+    match before_removal(progress, params, coded) {
+        BeforeRemoval::Model(model, least, greatest) => go_on(
+            remove(model, coded),
             least,
             greatest,
-        } => go_on(remove(model, coded), least, greatest),
-        Progress::Stopped(error) => Progress::Stopped(error),
+        ),
+        BeforeRemoval::Stays(stays) => stays,
     }
 }

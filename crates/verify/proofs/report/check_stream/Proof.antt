@@ -5,6 +5,9 @@ use borrow.Author.Needs.{needs}
 use Rattle.verify.proofs.report.check_stream.Statement.{statement}
 use Rattle.verify.proofs.report.check_stream.Tie as tie
 
+slice-aggregate-walk-front : tie.Need-slice-aggregate-walk-front
+slice-aggregate-walk-front c = search needs
+
 walk-front-requires : tie.Need-walk-front-requires
 walk-front-requires c κs = search needs
 
@@ -12,7 +15,8 @@ judge-requires : tie.Need-judge-requires
 judge-requires c κs = search needs
 
 returns : tie.Need-returns
-returns c = ap verifiedAnswer (c .judge .ensures) ∙ judgement-is _ _ _ (c .before .walk-front .result) (c .before .walk-front .ensures)
+returns c = ap verifiedAnswer (c .judge .ensures) ∙ judgement-is _ _ _ (c .before .before .walk-front .result) (c .before .before .walk-front .ensures .0)
 
 pub check-stream-spec : {M : Type 1} → statement M
-check-stream-spec = tie.close (tie.spec walk-front-requires judge-requires returns)
+check-stream-spec =
+    tie.close (tie.spec slice-aggregate-walk-front walk-front-requires judge-requires returns)
