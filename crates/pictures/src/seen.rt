@@ -11,12 +11,10 @@ use crate::SeenPicture;
 use crate::Shown;
 use crate::Unread;
 use crate::VbvStandard;
-use picture_header::Mpeg2PictureHeader;
 use picture_header::PictureFacts;
-use picture_header::PictureHeaderRead;
-use picture_header::PictureRead;
-use picture_header::PictureStructure;
-use picture_header::facts;
+use picture_header::PictureTold;
+use picture_header::told;
+use picture_header::told_with_extension;
 use scan::Next;
 use scan::next_picture;
 use vbv::FARTHEST;
@@ -27,25 +25,13 @@ fn shown_at(part: &[u8], standard: VbvStandard) -> Shown
     ensures { λ r. ⌜ shownAnswer r ≡ shown standard (now (part .entry)) ⌝ }
 {
     match standard {
-        VbvStandard::Mpeg1 => match Mpeg2PictureHeader::parse(part) {
-            PictureHeaderRead::Parsed(header) => {
-                let coding_type = header.picture_coding_type;
-                Shown::Picture(
-                    header.vbv_delay,
-                    facts(coding_type, PictureStructure::Frame, false, false),
-                )
-            }
-            PictureHeaderRead::Refused(error) => Shown::Refused(error),
+        VbvStandard::Mpeg1 => match told(part) {
+            PictureTold::Told(vbv_delay, facts) => Shown::Picture(vbv_delay, facts),
+            PictureTold::Refused(error) => Shown::Refused(error),
         },
-        VbvStandard::Mpeg2 => match Mpeg2PictureHeader::parse_with_extension(part) {
-            PictureRead::Parsed(header, extension) => {
-                let coding_type = header.picture_coding_type;
-                let structure = extension.picture_structure;
-                let repeat = extension.repeat_first_field;
-                let top = extension.top_field_first;
-                Shown::Picture(header.vbv_delay, facts(coding_type, structure, repeat, top))
-            }
-            PictureRead::Refused(error) => Shown::Refused(error),
+        VbvStandard::Mpeg2 => match told_with_extension(part) {
+            PictureTold::Told(vbv_delay, facts) => Shown::Picture(vbv_delay, facts),
+            PictureTold::Refused(error) => Shown::Refused(error),
         },
     }
 }
