@@ -3,12 +3,11 @@ ghost use mathlib.Core.Path.{_≡_};
 ghost use Prim.Native.Nat.{_+_, _*_, _≤_};
 ghost use lib.ListN.{length};
 ghost use Rattle.vbv.specs.Model.{farthest};
+ghost use Rattle.picture_header.specs.Answers.{toldAnswer};
 ghost use Rattle.pictures.specs.Answers.{seenAnswer};
 ghost use Rattle.pictures.specs.Seen.{shown, seenOf, nextSeen};
-ghost use Rattle.pictures.specs.Steps.{shownAnswer};
 use crate::NextSeen;
 use crate::SeenPicture;
-use crate::Shown;
 use crate::Unread;
 use crate::VbvStandard;
 use picture_header::PictureFacts;
@@ -21,18 +20,12 @@ use vbv::FARTHEST;
 use vbv::VbvError;
 
 // What the picture that begins a part of the stream shows.
-fn shown_at(part: &[u8], standard: VbvStandard) -> Shown
-    ensures { λ r. ⌜ shownAnswer r ≡ shown standard (now (part .entry)) ⌝ }
+fn shown_at(part: &[u8], standard: VbvStandard) -> PictureTold
+    ensures { λ r. ⌜ toldAnswer r ≡ shown standard (now (part .entry)) ⌝ }
 {
     match standard {
-        VbvStandard::Mpeg1 => match told(part) {
-            PictureTold::Told(vbv_delay, facts) => Shown::Picture(vbv_delay, facts),
-            PictureTold::Refused(error) => Shown::Refused(error),
-        },
-        VbvStandard::Mpeg2 => match told_with_extension(part) {
-            PictureTold::Told(vbv_delay, facts) => Shown::Picture(vbv_delay, facts),
-            PictureTold::Refused(error) => Shown::Refused(error),
-        },
+        VbvStandard::Mpeg1 => told(part),
+        VbvStandard::Mpeg2 => told_with_extension(part),
     }
 }
 
@@ -62,8 +55,8 @@ pub fn next_seen(stream: &[u8], standard: VbvStandard, from: usize) -> NextSeen
     match next_picture(stream, from) {
         Next::Done => NextSeen::Done,
         Next::Picture { at, end, next } => match shown_at(&stream[at..], standard) {
-            Shown::Refused(error) => NextSeen::Refused(Unread::Parse(error)),
-            Shown::Picture(vbv_delay, facts) => {
+            PictureTold::Refused(error) => NextSeen::Refused(Unread::Parse(error)),
+            PictureTold::Told(vbv_delay, facts) => {
                 NextSeen::Picture(seen_picture(at, end, vbv_delay, facts), next)
             }
         },
