@@ -4,7 +4,7 @@ use mathlib.Core.Path.{_≡_, refl, sym, ap, _∙_}
 use Prim.Native.Nat.{ℕ}
 use Rattle.bits.specs.Refusals.{Answer, value, refused}
 use Rattle.headers.proofs.Cases.{errorOf, error-back}
-use Rattle.picture_header.specs.Answers.{pictureHeaderAnswer, codingAnswer, pictureAnswer, lengthAnswer}
+use Rattle.picture_header.specs.Answers.{pictureHeaderAnswer, codingAnswer, pictureAnswer, toldAnswer, lengthAnswer}
 use Rattle.picture_header.specs.declared.Mpeg2PictureHeader.{Mpeg2PictureHeader}
 use Rattle.picture_header.specs.declared.PictureCodingExtension.{PictureCodingExtension}
 use Rattle.picture_header.specs.declared.PictureHeaderRead.{PictureHeaderRead}
@@ -13,6 +13,9 @@ use Rattle.picture_header.specs.declared.PictureCodingExtensionRead.{Pic
 use Rattle.picture_header.specs.declared.PictureCodingExtensionRead.the-variants as cx
 use Rattle.picture_header.specs.declared.PictureRead.{PictureRead}
 use Rattle.picture_header.specs.declared.PictureRead.the-variants as pc
+use Rattle.picture_header.specs.declared.PictureFacts.{PictureFacts}
+use Rattle.picture_header.specs.declared.PictureTold.{PictureTold}
+use Rattle.picture_header.specs.declared.PictureTold.the-variants as td
 use Rattle.picture_header.specs.declared.HeaderLength.{HeaderLength}
 use Rattle.picture_header.specs.declared.HeaderLength.the-variants as ln
 
@@ -51,6 +54,18 @@ picture-back (pc.Refused e) = ap pc.Refused (error-back e)
 
 pub one-picture : (r q : PictureRead) → pictureAnswer r ≡ pictureAnswer q → r ≡ q
 one-picture r q e = sym (picture-back r) ∙ ap pictureBack e ∙ picture-back q
+
+toldOf : Answer (ℕ × PictureFacts) → PictureTold
+toldOf (value t) = td.Told (t .0) (t .1)
+toldOf (refused n p c e) = td.Refused (errorOf n)
+
+told-back : (r : PictureTold) → toldOf (toldAnswer r) ≡ r
+unfolding toldOf
+told-back (td.Told d f) = refl
+told-back (td.Refused e) = ap td.Refused (error-back e)
+
+pub one-told : (r q : PictureTold) → toldAnswer r ≡ toldAnswer q → r ≡ q
+one-told r q e = sym (told-back r) ∙ ap toldOf e ∙ told-back q
 
 lengthOf : Answer ℕ → HeaderLength
 lengthOf (value n) = ln.Bytes n

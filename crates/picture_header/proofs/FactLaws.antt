@@ -1,7 +1,19 @@
--- A picture's facts, one by one.
+-- A picture's facts, one by one, and what parsed headers tell.
 -- Assumes nothing.
-use mathlib.Core.Path.{_≡_, refl}
-use Rattle.picture_header.specs.Facts.{isAnchor, isField, factsBy, factsOf}
+use mathlib.Core.Path.{_≡_, refl, ap}
+use mathlib.Core.List.{List}
+use mathlib.Core.Bool.{false}
+use Prim.Native.Nat.{ℕ, _<_}
+use native.Mathlib.Omega.{arith}
+use Rattle.bits.specs.Refusals.{value}
+use Rattle.bits.proofs.Following.{then-value}
+use Rattle.picture_header.specs.PictureHeader.{pictureHeader}
+use Rattle.picture_header.specs.Picture.{picture}
+use Rattle.picture_header.specs.Facts.{isAnchor, isField, factsBy, factsOf, headerTold, pictureTold}
+use Rattle.picture_header.specs.declared.PictureFacts.{PictureFacts}
+use Rattle.picture_header.specs.declared.PictureStructure.the-variants.{Frame}
+use Rattle.picture_header.proofs.PictureHeader.{picture-header-parsed, delay-high}
+use Rattle.picture_header.proofs.Picture.{picture-parsed}
 use Rattle.picture_header.specs.declared.Mpeg2PictureHeader.{Mpeg2PictureHeader}
 use Rattle.picture_header.specs.declared.PictureCodingExtension.{PictureCodingExtension}
 
@@ -20,3 +32,24 @@ pub facts-are : (h : Mpeg2PictureHeader) (x : PictureCodingExtension)
     }
 unfolding factsOf factsBy
 facts-are h x = refl
+
+pub told-parsed : (s : List ℕ) (h : Mpeg2PictureHeader) (x : PictureCodingExtension) → picture s ≡ value (h, x)
+    → pictureTold s ≡ value (h .«vbv_delay», factsOf h x)
+unfolding pictureTold
+told-parsed s h x e = rw e
+
+-- a coded delay is a number of 16 bits
+module _ (s : List ℕ) (t : ℕ × PictureFacts) where
+  pub header-told-small : headerTold s ≡ value t → t .0 < 65536
+  unfolding headerTold
+  header-told-small e =
+      let a = then-value (pictureHeader s) e in
+      let x : _≡_ {A = ℕ × PictureFacts} (a .0 .«vbv_delay», factsBy (a .0 .«picture_coding_type») Frame false false) t = cc in
+      omega (arith, ap (λ (y : ℕ × PictureFacts). y .0) x, delay-high (picture-header-parsed s (a .0) (a .1)))
+
+  pub picture-told-small : pictureTold s ≡ value t → t .0 < 65536
+  unfolding pictureTold
+  picture-told-small e =
+      let a = then-value (picture s) e in
+      let x : _≡_ {A = ℕ × PictureFacts} (a .0 .0 .«vbv_delay», factsOf (a .0 .0) (a .0 .1)) t = cc in
+      omega (arith, ap (λ (y : ℕ × PictureFacts). y .0) x, delay-high (picture-header-parsed s (a .0 .0) (picture-parsed s (a .0 .0) (a .0 .1) (a .1) .header)))

@@ -11,6 +11,7 @@ use Rattle.headers.proofs.Numbering.{next-numbered}
 use Rattle.picture_header.specs.PictureHeader.{extra, afterDelay, pictureHeader, headerLength}
 use Rattle.picture_header.specs.CodingExtension.{afterCodes, pictureCodingExtension}
 use Rattle.picture_header.specs.Picture.{picture}
+use Rattle.picture_header.specs.Facts.{headerTold, pictureTold}
 use Rattle.picture_header.specs.Numbers.{PictureNumbers}
 
 extra-numbered : (k : ℕ) (bs : List ℕ) → Header (extra k bs)
@@ -48,6 +49,14 @@ picture-numbered s =
     and-then _ (next-numbered s _) λ place.
     and-then _ (coding-numbered (drop place s)) λ x.
     a-value
+
+pub header-told-numbered : (s : List ℕ) → Header (headerTold s)
+unfolding headerTold
+header-told-numbered s = and-then _ (picture-header-numbered s) λ h. a-value
+
+pub picture-told-numbered : (s : List ℕ) → Header (pictureTold s)
+unfolding pictureTold
+picture-told-numbered s = and-then _ (picture-numbered s) λ p. a-value
 
 pub picture-numbers : PictureNumbers
 picture-numbers = record {

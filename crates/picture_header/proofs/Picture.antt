@@ -2,7 +2,7 @@
 -- them do not matter.
 -- Assumes nothing.
 use mathlib.Core.Path.{_≡_, refl, sym, ap, _∙_}
-use mathlib.Core.List.{List, _++_}
+use mathlib.Core.List.{List, [], _∷_, _++_}
 use mathlib.Core.Bool.{true, false}
 use Prim.Native.Nat.{ℕ, _+_, _-_, _≤_, _<_}
 use native.Mathlib.Omega.{arith}
@@ -10,9 +10,9 @@ use lib.ListN.{length, getD, take, drop, length-drop}
 use lib.Seq.{getD-drop, drop-append-le}
 use Rattle.bits.specs.Bits.{pick}
 use Rattle.bits.specs.Refusals.{Answer, value, refused, andThen}
-use Rattle.bits.specs.StartCodes.{startCode, extensionStartCode}
-use Rattle.bits.proofs.Flags.{pick-elim, clash}
-use Rattle.bits.proofs.Reading.{ParseOutcome, broken, whole, then-seen, rest-is}
+use Rattle.bits.specs.StartCodes.{startCodePrefix, startCode, extensionStartCode}
+use Rattle.bits.proofs.Flags.{clash}
+use Rattle.bits.proofs.Reading.{same-self, rest-is}
 use Rattle.headers.specs.StartCode.{nextStartCode}
 use Rattle.picture_header.specs.Answers.{pictureAnswer}
 use Rattle.picture_header.specs.declared.PictureRead.{PictureRead}
@@ -25,11 +25,11 @@ use Rattle.picture_header.specs.declared.PictureCodingType.{PictureCodin
 use Rattle.picture_header.specs.declared.PictureCodingType.the-variants.{Intra, Predictive, Bidirectional, DcIntra}
 use Rattle.picture_header.specs.declared.Mpeg2PictureHeader.{Mpeg2PictureHeader}
 use Rattle.picture_header.specs.declared.PictureCodingExtension.{PictureCodingExtension}
-use Rattle.headers.proofs.StartCode.{zeros-zero, next-seen, next-found, next-append}
+use Rattle.headers.proofs.StartCode.{zeros-zero, prefix-is, next-here, next-found, next-append}
 use Rattle.bits.proofs.Following.{then-value}
 use Rattle.picture_header.proofs.Following.{past-value}
-use Rattle.picture_header.proofs.PictureHeader.{picture-header-seen, picture-header-append}
-use Rattle.picture_header.proofs.CodingExtension.{coding-long, coding-code, coding-seen, coding-append}
+use Rattle.picture_header.proofs.PictureHeader.{picture-header-append}
+use Rattle.picture_header.proofs.CodingExtension.{coding-long, coding-code, coding-append}
 
 -- the case, by what is told of it
 pub picture-case : {r x : PictureRead} {a : Answer (Mpeg2PictureHeader × PictureCodingExtension)} → r ≡ x → pictureAnswer r ≡ a → pictureAnswer x ≡ a
@@ -74,6 +74,24 @@ module _ (s : List ℕ) (h : Mpeg2PictureHeader) where
 pub picture-refused : (s : List ℕ) (n : ℕ) → refused n 0 0 0 ≡ pictureHeader s → refused n 0 0 0 ≡ picture s
 unfolding picture
 picture-refused s n p = rw (← p)
+
+-- the extension begins at the byte at which the header ends
+prefix-of : (s : List ℕ) (x : ℕ) → take 4 s ≡ startCode x → take 3 s ≡ startCodePrefix
+prefix-of [] x e = absurd (clash cc)
+prefix-of (a ∷ []) x e = absurd (clash cc)
+prefix-of (a ∷ b ∷ []) x e = absurd (clash cc)
+prefix-of (a ∷ b ∷ c ∷ s) x e =
+    let p : a ≡ 0 = cc in
+    let q : b ≡ 0 = cc in
+    let r : c ≡ 1 = cc in
+    rw (p, q, r)
+
+pub picture-here : (s : List ℕ) (h : Mpeg2PictureHeader) (x : PictureCodingExtension) → pictureHeader s ≡ value h
+    → (h .«picture_coding_type» ≡ DcIntra → ⊥) → pictureCodingExtension (drop (pictureHeaderBytes h) s) ≡ value x → picture s ≡ value (h, x)
+picture-here s h x p n c =
+    let k = pictureHeaderBytes h in
+    let q = prefix-of (drop k s) extensionStartCode (coding-code (drop k s) x c) in
+    sym (picture-after s h p n) ∙ sym (after-at s h k (next-here s k (prefix-is s k ∙ rw q (same-self startCodePrefix)))) ∙ rw c
 
 -- what was read of a parsed one: the header, and the extension at the next start code
 pub record PictureParsed (s : List ℕ) (h : Mpeg2PictureHeader) (x : PictureCodingExtension) : Type 0 where

@@ -1,5 +1,5 @@
 -- A picture header and a picture coding extension whose first four bytes are the number n and whose 40 bits after them are the number w:
--- what they are, where the code's one test of n and w holds.
+-- what they are, and what they tell, where the code's one test of n and w holds.
 -- Assumes nothing.
 use mathlib.Core.Path.{_≡_, refl, sym, ap, _∙_}
 use mathlib.Core.List.{List, [], _∷_, _++_}
@@ -7,24 +7,30 @@ use mathlib.Core.Bool.{Bool, true, false, _&&_, _||_}
 use Prim.Native.Nat.{ℕ, _+_, _-_, _*_, _/_, _%_, _^_, _≤_, _<_}
 use native.Mathlib.Omega.{arith}
 use lib.Dec.{eqb, leb, lit<}
-use lib.ListN.{length, getD, take}
-use borrow.Author.Tests.{eqb-true, leb-true, eq-eqb, le-leb}
+use lib.ListN.{length, getD, take, drop, length-drop}
+use lib.Seq.{getD-drop}
+use borrow.Author.Tests.{eqb-true, eqb-false, leb-true, eq-eqb, le-leb}
 use Rattle.bits.specs.Bits.{pick, bitAt, bitsAt}
 use Rattle.bits.specs.Refusals.{value}
 use Rattle.bits.specs.Fields.{Field, anyValue, readFields, readHeader, total}
 use Rattle.bits.specs.StartCodes.{startCode, pictureStartCode, extensionStartCode}
-use Rattle.bits.proofs.Flags.{both-true}
-use Rattle.bits.proofs.Laws.{bits-bound}
+use Rattle.bits.proofs.Flags.{both-true, clash}
+use Rattle.bits.proofs.Laws.{bits-bound, bits-drop}
 use Rattle.bits.proofs.Reading.{total-none, total-more, read-range, four, header-got, header-of}
 use Rattle.bits.proofs.Writing.{read-room}
 use Rattle.bits.proofs.Same.{bits-one}
-use Rattle.bits.proofs.Inside.{bits-inside, bits-byte-more, bits-four, fieldsIn, ObeyedIn, read-inside, inside-read}
-use Rattle.picture_header.specs.CodingExtension.{motionCodeFields, motionCodesFit, codingFields, codingExtensionOf, afterCodes, pictureCodingExtension}
+use Rattle.bits.proofs.Inside.{bits-inside, bits-four, fieldsIn, ObeyedIn, read-inside, inside-read}
+use Rattle.picture_header.specs.CodingExtension.{motionCodeFields, motionCodesFit, codingFields, pictureStructure, codingExtensionOf, afterCodes, pictureCodingExtension}
+use Rattle.picture_header.specs.Steps.{usualHeader, usualCoding}
 use Rattle.picture_header.specs.declared.PictureCodingExtension.{PictureCodingExtension}
-use Rattle.picture_header.specs.PictureHeader.{pictureFields, forward, backward, vectorFields, motionFields, codingType, extraAt, extraBit, flagIf, codeIf, pictureOf, afterDelay, pictureHeader}
+use Rattle.picture_header.specs.PictureHeader.{pictureFields, forward, backward, vectorFields, motionFields, codingType, extraAt, extraBit, flagIf, codeIf, pictureOf, afterDelay, pictureHeader, pictureHeaderBits, pictureHeaderBytes}
+use Rattle.picture_header.specs.Facts.{factsBy, factsOf, headerTold, pictureTold}
+use Rattle.picture_header.specs.declared.PictureCodingType.the-variants.{Intra, Predictive, Bidirectional, DcIntra}
+use Rattle.picture_header.specs.declared.PictureStructure.the-variants.{Frame}
 use Rattle.picture_header.proofs.CodingExtension.{coding-parsed}
 use Rattle.picture_header.proofs.ExtraInformation.{extra-none}
 use Rattle.picture_header.proofs.PictureHeader.{extra-bit-type, flag-bit-range}
+use Rattle.picture_header.proofs.Picture.{picture-here}
 
 -- a start code by the number in its four bytes
 code-inside : (s : List ℕ) (x : ℕ) → 4 ≤ length s → ((k : ℕ) → getD s k 0 < 256) → x < 256 → bitsAt s 0 32 ≡ 256 + x
@@ -36,10 +42,6 @@ code-inside s x l b h e =
     let r : getD s 2 0 ≡ 1 = omega (arith, b 0, b 1, b 2, b 3) in
     let t : getD s 3 0 ≡ x = omega (arith, b 0, b 1, b 2, b 3) in
     four s l ∙ rw (p, q, r, t)
-
--- the 40 bits after it, as four bytes and one
-pub bits-after : (s : List ℕ) (a b : ℕ) → a ≡ bitsAt s 32 32 → b ≡ getD s 8 0 → b < 256 → 256 * a + b ≡ bitsAt s 32 40
-bits-after s a b d e h = omega (arith, bits-byte-more s 32 8 32 refl (omega arith))
 
 -- the first flag of the extra information is one of the last 11 of them
 pub first-range : (t k : ℕ) → k ≡ extraBit t → (61 ≤ k) × (k ≤ 69)
@@ -81,17 +83,15 @@ coding-bits : total codingFields ≡ 14
 coding-bits = simp (total-more, total-none)
 
 module _ (s : List ℕ) (long : 9 ≤ length s) (byte : (k : ℕ) → getD s k 0 < 256) (n w : ℕ) (d : n ≡ bitsAt s 0 32) (e : w ≡ bitsAt s 32 40) where
-  -- k is the bit of the first flag
-  pub header-straight : (k : ℕ) → k ≡ extraBit (w / 2 ^ 27 % 8)
-      → eqb n 0x100 && (leb 1 (w / 2 ^ 27 % 8) && (leb (w / 2 ^ 27 % 8) 4 && eqb (w / 2 ^ (71 - k) % 2) 0)) ≡ true
-      → value (pictureOf (fieldsIn pictureFields w 40) (fieldsIn vectors w 11) 0) ≡ pictureHeader s
-  unfolding pictureHeader afterDelay
-  header-straight k i told =
+  pub header-straight : usualHeader n w ≡ true → value (pictureOf (fieldsIn pictureFields w 40) (fieldsIn vectors w 11) 0) ≡ pictureHeader s
+  unfolding usualHeader pictureHeader afterDelay
+  header-straight told =
       let t = w / 2 ^ 27 % 8 in
+      let k = extraBit t in
       let p = both-true (eqb n 0x100) _ told in
       let q = both-true (leb 1 t) _ (p .1) in
       let r = both-true (leb t 4) _ (q .1) in
-      let g = first-range t k i in
+      let g = first-range t k refl in
       let a : ObeyedIn pictureFields w 40 = omega (arith, leb-true 1 t (q .0), leb-true t 4 (r .0)) in
       let h : readHeader (startCode pictureStartCode) pictureFields s ≡ value (fieldsIn pictureFields w 40) = header-of (record {
         long = omega arith;
@@ -103,12 +103,12 @@ module _ (s : List ℕ) (long : 9 ≤ length s) (byte : (k : ℕ) → getD s k 0
       let b : bitAt s k ≡ 0 =
       sym (bits-one s k) ∙ ap (λ (j : ℕ). bitsAt s j 1) (omega arith) ∙ sym (bits-inside s 32 (k - 32) 1 (71 - k) 40 (omega arith))
       ∙ ap (λ (x : ℕ). x / 2 ^ (71 - k) % 2) (sym e) ∙ eqb-true _ _ (r .1) in
-      let x : extraAt s (extraBit t) ≡ value 0 = rw i at (extra-none s k (omega arith) b) in
+      let x : extraAt s k ≡ value 0 = extra-none s k (omega arith) b in
       sym (rw (h, m, x) (ap value (motion-same (fieldsIn pictureFields w 40) w 0)))
 
-  pub coding-straight : (eqb n 0x1B5 && eqb (w / 2 ^ 36) 8) && (motionCodesFit (fieldsIn motionCodeFields w 40) && leb 1 (w / 2 ^ 16 % 4)) ≡ true
+  pub coding-straight : usualCoding n w ≡ true
       → value (codingExtensionOf (fieldsIn motionCodeFields w 40) (fieldsIn codingFields w 20)) ≡ pictureCodingExtension s
-  unfolding pictureCodingExtension afterCodes pick
+  unfolding usualCoding pictureCodingExtension motionCodesFit afterCodes pick
   coding-straight told =
       let p = both-true (eqb n 0x1B5 && eqb (w / 2 ^ 36) 8) _ told in
       let q = both-true (eqb n 0x1B5) _ (p .0) in
@@ -125,8 +125,8 @@ module _ (s : List ℕ) (long : 9 ≤ length s) (byte : (k : ℕ) → getD s k 0
       sym (rw (h, r .0, v))
 
   -- and the test holds of each extension that is accepted
-  pub coding-only : (x : PictureCodingExtension) → pictureCodingExtension s ≡ value x
-      → (eqb n 0x1B5 && eqb (w / 2 ^ 36) 8) && (motionCodesFit (fieldsIn motionCodeFields w 40) && leb 1 (w / 2 ^ 16 % 4)) ≡ true
+  pub coding-only : (x : PictureCodingExtension) → pictureCodingExtension s ≡ value x → usualCoding n w ≡ true
+  unfolding usualCoding motionCodesFit
   coding-only x a =
       let p = coding-parsed s x a in
       let g = header-got (startCode extensionStartCode) motionCodeFields s (p .h) (p .codes) in
@@ -152,3 +152,43 @@ coding-nine s x a =
     let g = header-got (startCode extensionStartCode) motionCodeFields s (p .h) (p .codes) in
     let l = read-room motionCodeFields s 32 (p .h) (omega (arith, g .long)) (g .fields-read) in
     omega (arith, read-room codingFields s 52 (p .vs) (omega (arith, l, motion-code-bits)) (p .rest), coding-bits)
+
+-- types 1 to 3 are not D pictures'
+not-dc : (t : ℕ) → 1 ≤ t → t ≤ 3 → codingType t ≡ DcIntra → ⊥
+unfolding codingType pick
+not-dc t l h e = case (eqb t 1) (eqb t 2) (eqb t 3) refl refl refl
+  where
+    case : (a b d : Bool) → eqb t 1 ≡ a → eqb t 2 ≡ b → eqb t 3 ≡ d → ⊥
+    case true b d x y z = let q : Intra ≡ DcIntra = rw x at (e) in clash cc
+    case false true d x y z = let q : Predictive ≡ DcIntra = rw (x, y) at (e) in clash cc
+    case false false true x y z = let q : Bidirectional ≡ DcIntra = rw (x, y, z) at (e) in clash cc
+    case false false false x y z = omega (arith, eqb-false t 1 x, eqb-false t 2 y, eqb-false t 3 z)
+
+-- what such a header tells
+module _ (s : List ℕ) (byte : (k : ℕ) → getD s k 0 < 256) (n w : ℕ) (d : n ≡ bitsAt s 0 32) (e : w ≡ bitsAt s 32 40) (usual : usualHeader n w ≡ true) where
+  pub told-straight : 9 ≤ length s → value (w / 2 ^ 11 % 65536, factsBy (codingType (w / 2 ^ 27 % 8)) Frame false false) ≡ headerTold s
+  unfolding headerTold pictureOf
+  told-straight long = rw (← header-straight s long byte n w d e usual)
+
+  -- and with its extension, which begins at the byte k at which the header ends
+  pub both-straight : 18 ≤ length s → w / 2 ^ 27 % 8 ≤ 3 → (k : ℕ) → k ≡ (extraBit (w / 2 ^ 27 % 8) + 8) / 8
+      → (m x : ℕ) → m ≡ bitsAt s (8 * k) 32 → x ≡ bitsAt s (8 * (k + 4)) 40 → usualCoding m x ≡ true
+      → value (
+        w / 2 ^ 11 % 65536,
+        factsBy (codingType (w / 2 ^ 27 % 8)) (pictureStructure (x / 2 ^ 16 % 4)) (eqb (x / 2 ^ 9 % 2) 1) (eqb (x / 2 ^ 15 % 2) 1),
+      )
+      ≡ pictureTold s
+  unfolding usualHeader pictureTold factsOf pictureOf codingExtensionOf pictureHeaderBytes pictureHeaderBits
+  both-straight long no-d k i m x f g told =
+      let t = w / 2 ^ 27 % 8 in
+      let u = first-range t (extraBit t) refl in
+      let a = both-true (leb 1 t) _ (both-true (eqb n 0x100) _ usual .1) .0 in
+      let h = header-straight s (omega arith) byte n w d e usual in
+      let c =
+      coding-straight (drop k s) (omega (arith, length-drop k s)) (λ j. rw (getD-drop k s j 0) (byte (k + j))) m x
+      (f ∙ ap (λ (j : ℕ). bitsAt s j 32) (omega arith) ∙ sym (bits-drop k s 0 32))
+      (g ∙ ap (λ (j : ℕ). bitsAt s j 40) (omega arith) ∙ sym (bits-drop k s 32 40)) told in
+      let q = pictureOf (fieldsIn pictureFields w 40) (fieldsIn vectors w 11) 0 in
+      let y = codingExtensionOf (fieldsIn motionCodeFields x 40) (fieldsIn codingFields x 20) in
+      let b : pictureHeaderBytes q ≡ k = omega arith in
+      rw (picture-here s q y (sym h) (not-dc t (leb-true 1 t a) no-d) (rw b (sym c)))

@@ -11,6 +11,9 @@ use Rattle.picture_header.specs.declared.PictureCodingExtensionRead.{Pic
 use Rattle.picture_header.specs.declared.PictureCodingExtensionRead.the-variants as cx
 use Rattle.picture_header.specs.declared.PictureRead.{PictureRead}
 use Rattle.picture_header.specs.declared.PictureRead.the-variants as pc
+use Rattle.picture_header.specs.declared.PictureFacts.{PictureFacts}
+use Rattle.picture_header.specs.declared.PictureTold.{PictureTold}
+use Rattle.picture_header.specs.declared.PictureTold.the-variants as td
 use Rattle.picture_header.specs.declared.HeaderLength.{HeaderLength}
 use Rattle.picture_header.specs.declared.HeaderLength.the-variants as ln
 use Rattle.picture_header.specs.declared.ExtraRead.{ExtraRead}
@@ -27,6 +30,10 @@ codingAnswer (cx.Refused e) = headerRefusal e
 abbrev pub pictureAnswer : PictureRead → Answer (Mpeg2PictureHeader × PictureCodingExtension)
 pictureAnswer (pc.Parsed h x) = value (h, x)
 pictureAnswer (pc.Refused e) = headerRefusal e
+
+abbrev pub toldAnswer : PictureTold → Answer (ℕ × PictureFacts)
+toldAnswer (td.Told d f) = value (d, f)
+toldAnswer (td.Refused e) = headerRefusal e
 
 abbrev pub lengthAnswer : HeaderLength → Answer ℕ
 lengthAnswer (ln.Bytes n) = value n

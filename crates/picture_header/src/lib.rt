@@ -1,6 +1,6 @@
 // picture_header() (ISO/IEC 13818-2 6.2.3, 11172-2 2.4.2.5) and picture_coding_extension() (6.2.3.1).
 ghost use mathlib.Core.Path.{_≡_};
-ghost use Prim.Native.Nat.{_+_, _*_, _^_, _≤_, _<_};
+ghost use Prim.Native.Nat.{ℕ, _+_, _*_, _/_, _%_, _^_, _≤_, _<_};
 ghost use lib.ListN.{length, getD};
 ghost use Rattle.bits.specs.Bits.{bitsAt};
 ghost use Rattle.bits.specs.Fields.{readFields};
@@ -10,13 +10,15 @@ ghost use Rattle.headers.specs.Answers.{headerRefusal};
 ghost use Rattle.picture_header.specs.PictureHeader.{codingType, motionFields, extraBit, extraAt, flagIf, codeIf, pictureOf, afterDelay, pictureHeader, pictureHeaderBytes, headerLength};
 ghost use Rattle.picture_header.specs.CodingExtension.{pictureStructure, pictureCodingExtension};
 ghost use Rattle.picture_header.specs.Picture.{picture};
-ghost use Rattle.picture_header.specs.Steps.{afterHeader};
+ghost use Rattle.picture_header.specs.Steps.{usualHeader, usualCoding, afterHeader};
 ghost use Rattle.picture_header.specs.Answers.{extraAnswer, pictureHeaderAnswer, codingAnswer, pictureAnswer, lengthAnswer};
 
-mod picture_facts; // what the headers tell of how long a picture lasts
+mod picture_facts; // a picture's delay, and what its headers tell of how long it lasts
 
 pub use crate::picture_facts::facts;
 pub use crate::picture_facts::is_field;
+pub use crate::picture_facts::told;
+pub use crate::picture_facts::told_with_extension;
 use bits::Bits;
 use bits::Fields;
 use bits::Outcome;
@@ -123,6 +125,12 @@ pub struct PictureFacts {
     pub top: bool,
 }
 
+// A picture's vbv_delay and facts.
+pub enum PictureTold {
+    Told(u16, PictureFacts),
+    Refused(Error),
+}
+
 pub enum PictureCodingExtensionRead {
     Parsed(PictureCodingExtension),
     Refused(Error),
@@ -145,12 +153,33 @@ fn wide(x: u8) -> u64
     x as u64
 }
 
-// The number in the four bytes from byte `at` on, high byte first.
+// The number in the four bytes from byte `at` on, high byte first; and that a slice holds bytes.
 fn word(s: &[u8], at: usize) -> u64
     requires { ⌜ at + 4 ≤ length (now s) ⌝ }
-    ensures { λ r. ⌜ (r ≡ bitsAt (now (s .entry)) (8 * at) 32) × (r < 2 ^ 32) ⌝ }
+    ensures { λ r. ⌜ (r ≡ bitsAt (now (s .entry)) (8 * at) 32) × (r < 2 ^ 32) × ((k : ℕ) → getD (now (s .entry)) k 0 < 256) ⌝ }
 {
     0x1000000 * wide(s[at]) + 0x10000 * wide(s[at + 1]) + 0x100 * wide(s[at + 2]) + wide(s[at + 3])
+}
+
+// And that in five bytes.
+fn long_word(s: &[u8], at: usize) -> u64
+    requires { ⌜ at + 5 ≤ length (now s) ⌝ }
+    ensures { λ r. ⌜ (r ≡ bitsAt (now (s .entry)) (8 * at) 40) × (r < 2 ^ 40) ⌝ }
+{
+    0x100 * word(s, at) + wide(s[at + 4])
+}
+
+// picture_coding_type and vbv_delay in the number w of bits 32 to 71.
+fn type_in(w: u64) -> u32
+    ensures { λ r. ⌜ r ≡ w / 2 ^ 27 % 8 ⌝ }
+{
+    ((w >> 27) % 8) as u32
+}
+
+fn delay_in(w: u64) -> u32
+    ensures { λ r. ⌜ r ≡ w / 2 ^ 11 % 65536 ⌝ }
+{
+    ((w >> 11) % 65536) as u32
 }
 
 fn coding_type_of(code: u32) -> PictureCodingType
@@ -265,6 +294,17 @@ fn header_of(h: [u32; 3], m: [u32; 4], n: usize) -> Mpeg2PictureHeader
     }
 }
 
+// Whether `start` in the first four bytes and w in the five after them are those of a picture header without extra
+// information.
+fn usual_header(start: u64, w: u64) -> bool
+    ensures { λ r. ⌜ r ≡ usualHeader start w ⌝ }
+{
+    let code = type_in(w);
+    let first = extra_bit(code);
+    let flag = (w >> (71 - first)) % 2;
+    (start == PICTURE_WORD) & ((1 <= code) & ((code <= 4) & (flag == 0)))
+}
+
 impl Mpeg2PictureHeader {
     // From a slice that begins at the picture's start code; D pictures pass. Where it has nine bytes and no extra
     // information follows, the fields are taken from the number w in bits 32 to 71.
@@ -272,19 +312,14 @@ impl Mpeg2PictureHeader {
         ensures { λ r. ⌜ pictureHeaderAnswer r ≡ pictureHeader (now (buf .entry)) ⌝ }
     {
         if 9 <= buf.len() {
-            let w = 0x100 * word(buf, 4) + wide(buf[8]);
-            let code = ((w >> 27) % 8) as u32;
-            let first = extra_bit(code);
-            let flag = (w >> (71 - first)) % 2;
-            let start = word(buf, 0) == PICTURE_WORD;
-            if start & ((1 <= code) & ((code <= 4) & (flag == 0))) {
+            let w = long_word(buf, 4);
+            if usual_header(word(buf, 0), w) {
                 let temporal_reference = ((w >> 30) % 1024) as u32;
-                let vbv_delay = ((w >> 11) % 65536) as u32;
                 let forward_vector = ((w >> 10) % 2) as u32;
                 let forward_code = ((w >> 7) % 8) as u32;
                 let backward_vector = ((w >> 6) % 2) as u32;
                 let backward_code = ((w >> 3) % 8) as u32;
-                let h = [temporal_reference, code, vbv_delay];
+                let h = [temporal_reference, type_in(w), delay_in(w)];
                 let m = [forward_vector, forward_code, backward_vector, backward_code];
                 return PictureHeaderRead::Parsed(header_of(h, m, 0));
             }
@@ -406,6 +441,16 @@ fn picture_structure_of(code: u32) -> PictureStructure
     PictureStructure::Frame
 }
 
+// Whether `start` in the first four bytes and w in the five after them are those of a picture coding extension.
+fn usual_coding(start: u64, w: u64) -> bool
+    ensures { λ r. ⌜ r ≡ usualCoding start w ⌝ }
+{
+    let code = (start == EXTENSION_WORD) & (w >> 36 == 8);
+    let motion = (1 <= (w >> 32) % 16)
+        & ((1 <= (w >> 28) % 16) & ((1 <= (w >> 24) % 16) & (1 <= (w >> 20) % 16)));
+    code & (motion & (1 <= (w >> 16) % 4))
+}
+
 impl PictureCodingExtension {
     // From a slice that begins at the extension's start code. No f_code may be 0. One that is accepted has nine bytes, and
     // its fields are taken from the number w in bits 32 to 71.
@@ -413,16 +458,13 @@ impl PictureCodingExtension {
         ensures { λ r. ⌜ codingAnswer r ≡ pictureCodingExtension (now (buf .entry)) ⌝ }
     {
         if 9 <= buf.len() {
-            let w = 0x100 * word(buf, 4) + wide(buf[8]);
-            let f_code_fwd_horiz = ((w >> 32) % 16) as u8;
-            let f_code_fwd_vert = ((w >> 28) % 16) as u8;
-            let f_code_bwd_horiz = ((w >> 24) % 16) as u8;
-            let f_code_bwd_vert = ((w >> 20) % 16) as u8;
-            let structure = ((w >> 16) % 4) as u32;
-            let start = (word(buf, 0) == EXTENSION_WORD) & (w >> 36 == 8);
-            let codes = (1 <= f_code_fwd_horiz)
-                & ((1 <= f_code_fwd_vert) & ((1 <= f_code_bwd_horiz) & (1 <= f_code_bwd_vert)));
-            if start & (codes & (1 <= structure)) {
+            let w = long_word(buf, 4);
+            if usual_coding(word(buf, 0), w) {
+                let f_code_fwd_horiz = ((w >> 32) % 16) as u8;
+                let f_code_fwd_vert = ((w >> 28) % 16) as u8;
+                let f_code_bwd_horiz = ((w >> 24) % 16) as u8;
+                let f_code_bwd_vert = ((w >> 20) % 16) as u8;
+                let structure = ((w >> 16) % 4) as u32;
                 let intra_dc_precision = ((w >> 18) % 4) as u8;
                 return PictureCodingExtensionRead::Parsed(PictureCodingExtension {
                     f_code_fwd_horiz,

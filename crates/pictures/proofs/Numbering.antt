@@ -9,7 +9,7 @@ use Rattle.bits.specs.Numbers.{Numbered, a-value, by-number}
 use Rattle.bits.proofs.Flags.{pick-elim}
 use Rattle.bits.proofs.Numbering.{and-then, wider}
 use Rattle.headers.proofs.Numbering.{header-numbers}
-use Rattle.picture_header.proofs.Numbering.{picture-numbers}
+use Rattle.picture_header.proofs.Numbering.{header-told-numbered, picture-told-numbered}
 use Rattle.vbv.specs.declared.VbvParams.{VbvParams}
 use Rattle.vbv.proofs.Numbering.{model-numbers}
 use Rattle.scan.specs.Pictures.{Pic, pictures}
@@ -54,8 +54,8 @@ opening-numbered standard s = pick-elim OfOpening _ (λ e. by-number refl) λ e.
 
 shown-numbered : (standard : VbvStandard) (s : List ℕ) → OfStep (shown standard s)
 unfolding shown
-shown-numbered Mpeg1 s = and-then _ (wider refl refl refl (picture-numbers .picture-header s)) (λ h. a-value)
-shown-numbered Mpeg2 s = and-then _ (wider refl refl refl (picture-numbers .both s)) (λ p. a-value)
+shown-numbered Mpeg1 s = wider refl refl refl (header-told-numbered s)
+shown-numbered Mpeg2 s = wider refl refl refl (picture-told-numbered s)
 
 at-numbered : (standard : VbvStandard) (s : List ℕ) (q : Pic) → OfStep (seenAt standard s q)
 unfolding seenAt

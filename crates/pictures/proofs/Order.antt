@@ -3,18 +3,12 @@
 use mathlib.Core.Path.{_≡_, refl, sym, ap}
 use Prim.Native.Nat.{ℕ, zero, suc, _+_, _*_, _≤_, _<_}
 use mathlib.Core.List.{List, [], _∷_}
-use mathlib.Core.Bool.{false}
 use native.Mathlib.Omega.{arith}
 use lib.ListN.{length, drop}
 use Rattle.vbv.specs.Model.{farthest}
 use Rattle.bits.specs.Refusals.{Answer, value, refused}
 use Rattle.bits.proofs.Following.{then-value}
-use Rattle.picture_header.specs.PictureHeader.{pictureHeader}
-use Rattle.picture_header.specs.Picture.{picture}
-use Rattle.picture_header.specs.Facts.{factsBy, factsOf}
-use Rattle.picture_header.specs.declared.PictureStructure.the-variants.{Frame}
-use Rattle.picture_header.proofs.PictureHeader.{picture-header-parsed, delay-high}
-use Rattle.picture_header.proofs.Picture.{picture-parsed}
+use Rattle.picture_header.proofs.FactLaws.{header-told-small, picture-told-small}
 use Rattle.scan.specs.Pictures.{Pic, pictures}
 use Rattle.scan.specs.Order as scanned
 use Rattle.scan.specs.Order.{InOrder}
@@ -75,14 +69,8 @@ seen-length standard s xs h = each-length standard s (pictures s) xs h
 -- a coded delay is a number of 16 bits
 shown-small : (standard : VbvStandard) (s : List ℕ) (t : ℕ × PictureFacts) → shown standard s ≡ value t → t .0 < 65536
 unfolding shown
-shown-small Mpeg1 s t e =
-    let a = then-value (pictureHeader s) e in
-    let x : _≡_ {A = ℕ × PictureFacts} (a .0 .«vbv_delay», factsBy (a .0 .«picture_coding_type») Frame false false) t = cc in
-    omega (arith, ap (λ (y : ℕ × PictureFacts). y .0) x, delay-high (picture-header-parsed s (a .0) (a .1)))
-shown-small Mpeg2 s t e =
-    let a = then-value (picture s) e in
-    let x : _≡_ {A = ℕ × PictureFacts} (a .0 .0 .«vbv_delay», factsOf (a .0 .0) (a .0 .1)) t = cc in
-    omega (arith, ap (λ (y : ℕ × PictureFacts). y .0) x, delay-high (picture-header-parsed s (a .0 .0) (picture-parsed s (a .0 .0) (a .0 .1) (a .1) .header)))
+shown-small Mpeg1 s t e = header-told-small s t e
+shown-small Mpeg2 s t e = picture-told-small s t e
 
 seen-from : (standard : VbvStandard) (s : List ℕ) (q : Pic) (x : SeenPicture) → seenAt standard s q ≡ value x
     → (x .«pos_bits» ≡ 8 * (q .start + 4)) × (x .«end_bits» ≡ 8 * q .end) × (x .«vbv_delay» < 65536)

@@ -18,13 +18,14 @@ use Rattle.scan.specs.declared.Found.the-variants.{At}
 use Rattle.scan.proofs.Sorts.{sequence-code, skip-stops, found-first}
 use Rattle.pictures.specs.Seen.{shown}
 use Rattle.picture_header.specs.Facts.{factsOf}
+use Rattle.picture_header.proofs.FactLaws.{told-parsed}
 use Rattle.pictures.specs.Sequence.{rated, declaredBy, declaredAt, declared}
 use Rattle.pictures.specs.declared.VbvStandard.the-variants.{Mpeg2}
 
 pub shown-parsed : (s : List ℕ) (h : Mpeg2PictureHeader) (x : PictureCodingExtension) → picture s ≡ value (h, x)
     → shown Mpeg2 s ≡ value (h .«vbv_delay», factsOf h x)
 unfolding shown
-shown-parsed s h x e = rw e
+shown-parsed s h x e = told-parsed s h x e
 
 module _ (s : List ℕ) (cs : List Code) (c : codes s ≡ record { offset = 0; code = sequenceHeaderCode } ∷ cs) where
   first-sequence : found (skip notSequence (codes s)) ≡ At 0 sequenceHeaderCode

@@ -5,4 +5,3 @@ pub mod Answers
 pub mod Order
 pub mod Due
 pub mod Numbers
-pub mod Steps

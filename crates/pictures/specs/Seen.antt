@@ -2,15 +2,11 @@
 -- Assumes nothing.
 use Prim.Native.Nat.{ℕ, _+_, _*_}
 use mathlib.Core.List.{List, [], _∷_}
-use mathlib.Core.Bool.{false}
 use lib.Dec.{ltb}
 use lib.ListN.{length, drop}
 use Rattle.vbv.specs.Model.{farthest}
 use Rattle.bits.specs.Refusals.{Answer, value, refuse, andThen}
-use Rattle.picture_header.specs.PictureHeader.{pictureHeader}
-use Rattle.picture_header.specs.Picture.{picture}
-use Rattle.picture_header.specs.Facts.{factsBy, factsOf}
-use Rattle.picture_header.specs.declared.PictureStructure.the-variants.{Frame}
+use Rattle.picture_header.specs.Facts.{headerTold, pictureTold}
 use Rattle.scan.specs.Pictures.{Pic, pictures, nextPicture}
 use Rattle.scan.specs.declared.Next.{Next}
 use Rattle.scan.specs.declared.Next.the-variants.{Picture, Done}
@@ -21,10 +17,10 @@ use Rattle.pictures.specs.declared.SeenPicture.{SeenPicture}
 
 -- ---- a picture
 
--- what the picture whose start code begins s shows: its coded delay and its facts. MPEG-1 pictures are all frames
+-- what the picture whose start code begins s shows: its coded delay and its facts
 unfoldable pub shown : VbvStandard → List ℕ → Answer (ℕ × PictureFacts)
-shown Mpeg1 s = andThen (pictureHeader s) (λ h. value (h .«vbv_delay», factsBy (h .«picture_coding_type») Frame false false))
-shown Mpeg2 s = andThen (picture s) (λ p. value (p .0 .«vbv_delay», factsOf (p .0) (p .1)))
+shown Mpeg1 s = headerTold s
+shown Mpeg2 s = pictureTold s
 
 -- in bits: the end of the picture's start code, and the end of its data
 unfoldable pub seenOf : Pic → ℕ × PictureFacts → SeenPicture

@@ -44,9 +44,3 @@ pub enum NextSeen {
     Done,
     Refused(Unread),
 }
-
-// What a picture's headers show.
-enum Shown {
-    Picture(u16, PictureFacts),
-    Refused(Error),
-}

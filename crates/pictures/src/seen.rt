@@ -3,50 +3,29 @@ ghost use mathlib.Core.Path.{_≡_};
 ghost use Prim.Native.Nat.{_+_, _*_, _≤_};
 ghost use lib.ListN.{length};
 ghost use Rattle.vbv.specs.Model.{farthest};
+ghost use Rattle.picture_header.specs.Answers.{toldAnswer};
 ghost use Rattle.pictures.specs.Answers.{seenAnswer};
 ghost use Rattle.pictures.specs.Seen.{shown, seenOf, nextSeen};
-ghost use Rattle.pictures.specs.Steps.{shownAnswer};
 use crate::NextSeen;
 use crate::SeenPicture;
-use crate::Shown;
 use crate::Unread;
 use crate::VbvStandard;
-use picture_header::Mpeg2PictureHeader;
 use picture_header::PictureFacts;
-use picture_header::PictureHeaderRead;
-use picture_header::PictureRead;
-use picture_header::PictureStructure;
-use picture_header::facts;
+use picture_header::PictureTold;
+use picture_header::told;
+use picture_header::told_with_extension;
 use scan::Next;
 use scan::next_picture;
 use vbv::FARTHEST;
 use vbv::VbvError;
 
 // What the picture that begins a part of the stream shows.
-fn shown_at(part: &[u8], standard: VbvStandard) -> Shown
-    ensures { λ r. ⌜ shownAnswer r ≡ shown standard (now (part .entry)) ⌝ }
+fn shown_at(part: &[u8], standard: VbvStandard) -> PictureTold
+    ensures { λ r. ⌜ toldAnswer r ≡ shown standard (now (part .entry)) ⌝ }
 {
     match standard {
-        VbvStandard::Mpeg1 => match Mpeg2PictureHeader::parse(part) {
-            PictureHeaderRead::Parsed(header) => {
-                let coding_type = header.picture_coding_type;
-                Shown::Picture(
-                    header.vbv_delay,
-                    facts(coding_type, PictureStructure::Frame, false, false),
-                )
-            }
-            PictureHeaderRead::Refused(error) => Shown::Refused(error),
-        },
-        VbvStandard::Mpeg2 => match Mpeg2PictureHeader::parse_with_extension(part) {
-            PictureRead::Parsed(header, extension) => {
-                let coding_type = header.picture_coding_type;
-                let structure = extension.picture_structure;
-                let repeat = extension.repeat_first_field;
-                let top = extension.top_field_first;
-                Shown::Picture(header.vbv_delay, facts(coding_type, structure, repeat, top))
-            }
-            PictureRead::Refused(error) => Shown::Refused(error),
-        },
+        VbvStandard::Mpeg1 => told(part),
+        VbvStandard::Mpeg2 => told_with_extension(part),
     }
 }
 
@@ -76,8 +55,8 @@ pub fn next_seen(stream: &[u8], standard: VbvStandard, from: usize) -> NextSeen
     match next_picture(stream, from) {
         Next::Done => NextSeen::Done,
         Next::Picture { at, end, next } => match shown_at(&stream[at..], standard) {
-            Shown::Refused(error) => NextSeen::Refused(Unread::Parse(error)),
-            Shown::Picture(vbv_delay, facts) => {
+            PictureTold::Refused(error) => NextSeen::Refused(Unread::Parse(error)),
+            PictureTold::Told(vbv_delay, facts) => {
                 NextSeen::Picture(seen_picture(at, end, vbv_delay, facts), next)
             }
         },

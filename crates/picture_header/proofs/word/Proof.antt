@@ -60,7 +60,9 @@ add-result-3 c = search needs
 returns : tie.Need-returns
 returns c =
     let a = c .before .before .before .before .before .before .before .before .before .args in
-    omega (arith, bits-four (a .s .now) (a .at) (omega arith) (omega arith) (omega arith) (omega arith), bits-bound (a .s .now) (8 * a .at) 32)
+    let s = a .s .now in
+    let e = bits-four s (a .at) (omega arith) (omega arith) (omega arith) (omega arith) in
+    (omega (arith, e), omega (arith, e, bits-bound s (8 * a .at) 32), λ k. omega (arith, c .before .shared-slice-known5 .given k))
 
 pub word-spec : {M : Type 1} → statement M
 word-spec =

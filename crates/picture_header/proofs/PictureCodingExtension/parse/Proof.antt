@@ -1,27 +1,22 @@
 use borrow.Author.Needs.{needs}
-use mathlib.Core.Path.{_≡_}
+use mathlib.Core.Path.{_≡_, sym, _∙_}
+use mathlib.Core.Bool.{true, false}
+use Rattle.bits.proofs.Flags.{clash}
 use mathlib.Core.Logic.{⊎-elim}
-use Prim.Native.Nat.{ℕ, _+_, _*_}
 use native.Mathlib.Omega.{arith}
-use Rattle.picture_header.specs.CodingExtension.{motionCodesFit, codingExtensionOf}
-use Rattle.picture_header.proofs.Straight.{bits-after, coding-straight, coding-only, coding-nine}
+use Rattle.picture_header.specs.CodingExtension.{codingExtensionOf}
+use Rattle.picture_header.proofs.Straight.{coding-straight, coding-only, coding-nine}
 use Rattle.picture_header.proofs.PictureCodingExtension.parse.Statement.{statement}
 use Rattle.picture_header.proofs.PictureCodingExtension.parse.Tie as tie
+
+long-word-requires : tie.Need-long-word-requires
+long-word-requires c κs = search needs
 
 word-requires : tie.Need-word-requires
 word-requires c κs = search needs
 
-mul-w : tie.Need-mul-w
-mul-w c = search needs
-
-shared-slice-read-wide : tie.Need-shared-slice-read-wide
-shared-slice-read-wide c = search needs
-
-wide-requires : tie.Need-wide-requires
-wide-requires c κs = search needs
-
-add-w : tie.Need-add-w
-add-w c = search needs
+usual-coding-requires : tie.Need-usual-coding-requires
+usual-coding-requires c κs = search needs
 
 cast-f-code-fwd-horiz : tie.Need-cast-f-code-fwd-horiz
 cast-f-code-fwd-horiz c = search needs
@@ -38,9 +33,6 @@ cast-f-code-bwd-vert c = search needs
 cast-structure : tie.Need-cast-structure
 cast-structure c = search needs
 
-word-requires-2 : tie.Need-word-requires-2
-word-requires-2 c κs = search needs
-
 cast-intra-dc-precision : tie.Need-cast-intra-dc-precision
 cast-intra-dc-precision c = search needs
 
@@ -48,27 +40,22 @@ picture-structure-of-requires : tie.Need-picture-structure-of-requires
 picture-structure-of-requires c κs = search needs
 
 returns : tie.Need-returns
-unfolding motionCodesFit codingExtensionOf
+unfolding codingExtensionOf
 returns c =
-    let g = c .before .before in
-    let d = g .before in
-    let s = d .before .before .before .before .before .args .buf .now in
+    let u = c .before in
+    let g = u .before .before in
     rw (c .picture-structure-of .ensures)
-    (coding-straight s (omega arith) (λ k. omega (arith, d .before .shared-slice-known2 .given k)) (g .word2 .result) _ (g .word2 .ensures .0)
-    (bits-after s _ _ (d .before .before .word .ensures .0) (d .wide .ensures .0) (d .wide .ensures .1))
-    (c .before .if2 .taken))
+    (coding-straight (g .before .before .before .before .args .buf .now) (omega arith) (g .word .ensures .2) _ _ (g .word .ensures .0) (g .before .long-word .ensures .0)
+    (sym (u .before .usual-coding .ensures) ∙ u .if2 .taken))
 
 coding-refusal-requires : tie.Need-coding-refusal-requires
-unfolding motionCodesFit
 coding-refusal-requires c κs x a =
     let s = c .before .before .args .buf .now in
     ⊎-elim
     (λ v.
-    let t =
-    coding-only s (omega arith) (λ k. omega (arith, v .2 .given k)) (v .4 .result) (256 * v .1 .result + v .3 .result) (v .4 .ensures .0)
-    (bits-after s _ _ (v .1 .ensures .0) (v .3 .ensures .0) (v .3 .ensures .1)) x a in
-    let z : _≡_ {A = ℕ} 0 1 = cc (v .5 .left) in
-    omega arith)
+    let z : true ≡ false =
+    sym (coding-only s (omega arith) (v .2 .ensures .2) _ _ (v .2 .ensures .0) (v .1 .ensures .0) x a) ∙ sym (v .3 .ensures) ∙ v .4 .left in
+    clash cc)
     (λ v. omega (arith, coding-nine s x a))
     (c .if1 .came)
 
@@ -79,17 +66,14 @@ pub parse-spec : {M : Type 1} → statement M
 parse-spec =
     tie.close
     (tie.spec
+    long-word-requires
     word-requires
-    mul-w
-    shared-slice-read-wide
-    wide-requires
-    add-w
+    usual-coding-requires
     cast-f-code-fwd-horiz
     cast-f-code-fwd-vert
     cast-f-code-bwd-horiz
     cast-f-code-bwd-vert
     cast-structure
-    word-requires-2
     cast-intra-dc-precision
     picture-structure-of-requires
     returns
