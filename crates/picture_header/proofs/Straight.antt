@@ -165,13 +165,13 @@ not-dc t l h e = case (eqb t 1) (eqb t 2) (eqb t 3) refl refl refl
     case false false false x y z = omega (arith, eqb-false t 1 x, eqb-false t 2 y, eqb-false t 3 z)
 
 -- what such a header tells
-module _ (s : List ℕ) (byte : (k : ℕ) → getD s k 0 < 256) (n w : ℕ) (d : n ≡ bitsAt s 0 32) (e : w ≡ bitsAt s 32 40) (usual : usualHeader n w ≡ true) where
-  pub told-straight : 9 ≤ length s → value (w / 2 ^ 11 % 65536, factsBy (codingType (w / 2 ^ 27 % 8)) Frame false false) ≡ headerTold s
+module _ (s : List ℕ) (byte : (k : ℕ) → getD s k 0 < 256) (n w : ℕ) (d : n ≡ bitsAt s 0 32) (e : w ≡ bitsAt s 32 40) where
+  pub told-straight : 9 ≤ length s → usualHeader n w ≡ true → value (w / 2 ^ 11 % 65536, factsBy (codingType (w / 2 ^ 27 % 8)) Frame false false) ≡ headerTold s
   unfolding headerTold pictureOf
-  told-straight long = rw (← header-straight s long byte n w d e usual)
+  told-straight long usual = rw (← header-straight s long byte n w d e usual)
 
   -- and with its extension, which begins at the byte k at which the header ends
-  pub both-straight : 18 ≤ length s → w / 2 ^ 27 % 8 ≤ 3 → (k : ℕ) → k ≡ (extraBit (w / 2 ^ 27 % 8) + 8) / 8
+  pub both-straight : 18 ≤ length s → usualHeader n w && leb (w / 2 ^ 27 % 8) 3 ≡ true → (k : ℕ) → k ≡ (extraBit (w / 2 ^ 27 % 8) + 8) / 8
       → (m x : ℕ) → m ≡ bitsAt s (8 * k) 32 → x ≡ bitsAt s (8 * (k + 4)) 40 → usualCoding m x ≡ true
       → value (
         w / 2 ^ 11 % 65536,
@@ -179,11 +179,12 @@ module _ (s : List ℕ) (byte : (k : ℕ) → getD s k 0 < 256) (n w : ℕ) (d :
       )
       ≡ pictureTold s
   unfolding usualHeader pictureTold factsOf pictureOf codingExtensionOf pictureHeaderBytes pictureHeaderBits
-  both-straight long no-d k i m x f g told =
+  both-straight long usual k i m x f g told =
       let t = w / 2 ^ 27 % 8 in
+      let p = both-true (usualHeader n w) (leb t 3) usual in
       let u = first-range t (extraBit t) refl in
-      let a = both-true (leb 1 t) _ (both-true (eqb n 0x100) _ usual .1) .0 in
-      let h = header-straight s (omega arith) byte n w d e usual in
+      let a = both-true (leb 1 t) _ (both-true (eqb n 0x100) _ (p .0) .1) .0 in
+      let h = header-straight s (omega arith) byte n w d e (p .0) in
       let c =
       coding-straight (drop k s) (omega (arith, length-drop k s)) (λ j. rw (getD-drop k s j 0) (byte (k + j))) m x
       (f ∙ ap (λ (j : ℕ). bitsAt s j 32) (omega arith) ∙ sym (bits-drop k s 0 32))
@@ -191,4 +192,4 @@ module _ (s : List ℕ) (byte : (k : ℕ) → getD s k 0 < 256) (n w : ℕ) (d :
       let q = pictureOf (fieldsIn pictureFields w 40) (fieldsIn vectors w 11) 0 in
       let y = codingExtensionOf (fieldsIn motionCodeFields x 40) (fieldsIn codingFields x 20) in
       let b : pictureHeaderBytes q ≡ k = omega arith in
-      rw (picture-here s q y (sym h) (not-dc t (leb-true 1 t a) no-d) (rw b (sym c)))
+      rw (picture-here s q y (sym h) (not-dc t (leb-true 1 t a) (leb-true t 3 (p .1))) (rw b (sym c)))

@@ -42,7 +42,7 @@ pub fn is_field(structure: PictureStructure) -> bool
 }
 
 // What they tell together.
-pub fn facts(
+fn facts(
     coding_type: PictureCodingType,
     structure: PictureStructure,
     repeat: bool,

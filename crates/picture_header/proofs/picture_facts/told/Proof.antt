@@ -35,7 +35,7 @@ returns c =
     let g = u .before .before in
     rw (c .facts .ensures, c .before .coding-type-of .ensures, c .before .before .type-in .ensures, c .before .before .before .delay-in .ensures)
     (told-straight (g .before .before .before .before .args .buf .now) (g .word .ensures .2) _ _ (g .word .ensures .0) (g .before .long-word .ensures .0)
-    (sym (u .before .usual-header .ensures) ∙ u .if2 .taken) (omega arith))
+    (omega arith) (sym (u .before .usual-header .ensures) ∙ u .if2 .taken))
 
 told-by-parsing-requires : tie.Need-told-by-parsing-requires
 told-by-parsing-requires c κs = search needs

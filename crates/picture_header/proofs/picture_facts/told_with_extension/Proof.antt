@@ -1,9 +1,6 @@
 use borrow.Author.Needs.{needs}
 use mathlib.Core.Path.{sym, _∙_}
 use native.Mathlib.Omega.{arith}
-use lib.Dec.{leb}
-use borrow.Author.Tests.{leb-true}
-use Rattle.bits.proofs.Flags.{both-true}
 use Rattle.picture_header.proofs.Straight.{first-range, both-straight}
 use Rattle.picture_header.proofs.picture_facts.told_with_extension.Statement.{statement}
 use Rattle.picture_header.proofs.picture_facts.told_with_extension.Tie as tie
@@ -67,7 +64,6 @@ returns c =
     let u = a .before in
     let n = u .before .before in
     let y = n .before in
-    let p = both-true (u .before .usual-header .result) (leb (y .type-in .result) 3) (u .if2 .taken) in
     rw (
       c .facts .ensures,
       c .before .picture-structure-of .ensures,
@@ -76,7 +72,7 @@ returns c =
       c .before .before .before .delay-in .ensures,
     )
     (both-straight (y .before .before .before .before .args .buf .now) (n .word .ensures .2) _ _ (n .word .ensures .0) (y .before .long-word .ensures .0)
-    (sym (u .before .usual-header .ensures) ∙ p .0) (omega arith) (omega (arith, leb-true (y .type-in .result) 3 (p .1), y .type-in .ensures))
+    (omega arith) (rw (← u .before .usual-header .ensures, ← y .type-in .ensures) (u .if2 .taken))
     _ (rw (a .extra-bit .ensures, y .type-in .ensures)) _ _ (x .word2 .ensures .0) (x .before .long-word2 .ensures .0)
     (sym (v .before .usual-coding .ensures) ∙ v .if3 .taken))
 
