@@ -61,7 +61,8 @@ pub fn plain(number: u8) -> VbvRefusal
     }
 }
 
-fn wide(x: u8) -> u64
+// A byte as a wide number.
+pub fn wide(x: u8) -> u64
     ensures { λ r. ⌜ (r ≡ x) × (r < 256) ⌝ }
 {
     x as u64

@@ -34,10 +34,10 @@ pub refuses : {v : VbvVerified} {e : VbvVerifyError} {r : VbvRefusal} {n : ℕ} 
 unfolding reportAfter refusalAfter
 refuses report place a b n f = rw (a, ← b) (n, (refl, f))
 
-pub reports : {v : VbvVerified} {r : VbvStreamReport} (place refusal : List ℕ) {after : List ℕ} → v ≡ Report r → after ≡ laid (wordsBytes (reportWords r)) place
+pub reported-is : {v : VbvVerified} {r : VbvStreamReport} (place refusal : List ℕ) {after : List ℕ} → v ≡ Report r → after ≡ laid (wordsBytes (reportWords r)) place
     → (0 ≡ number (verifiedAnswer v)) × ((after ≡ reportAfter (verifiedAnswer v) place) × (refusal ≡ refusalAfter (verifiedAnswer v) refusal))
 unfolding reportAfter refusalAfter
-reports place refusal a p = rw a (refl, (p, refl))
+reported-is place refusal a p = rw a (refl, (p, refl))
 
 -- what an answer without records leaves of the places for report and refusal
 abbrev pub Reported : List ℕ → List ℕ → Answer VbvStreamReport → ℕ → List ℕ → List ℕ → Type 0

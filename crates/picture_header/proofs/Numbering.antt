@@ -64,4 +64,6 @@ picture-numbers = record {
   header-length = length-numbered;
   coding-extension = coding-numbered;
   both = picture-numbered;
+  header-told = header-told-numbered;
+  picture-told = picture-told-numbered;
 }

@@ -1,4 +1,4 @@
--- What a picture's headers tell of how long it lasts (6.3.9, 6.3.10): whether it is an I or P picture, whether a field, repeat_first_field and top_field_first.
+-- A picture's coded delay, and what its headers tell of how long it lasts (6.3.9, 6.3.10): whether it is an I or P picture, whether a field, repeat_first_field and top_field_first.
 -- Assumes nothing.
 use Prim.Native.Nat.{ℕ}
 use mathlib.Core.List.{List}

@@ -6,6 +6,7 @@ use Rattle.bits.specs.Numbers.{Numbered}
 use Rattle.picture_header.specs.PictureHeader.{pictureHeader, headerLength}
 use Rattle.picture_header.specs.CodingExtension.{pictureCodingExtension}
 use Rattle.picture_header.specs.Picture.{picture}
+use Rattle.picture_header.specs.Facts.{headerTold, pictureTold}
 
 -- what is owed: 1 or 2
 pub record PictureNumbers : Type 0 where
@@ -13,3 +14,5 @@ pub record PictureNumbers : Type 0 where
   pub header-length : (s : List ℕ) → Numbered (1 ∷ 2 ∷ []) [] [] (headerLength s)
   pub coding-extension : (s : List ℕ) → Numbered (1 ∷ 2 ∷ []) [] [] (pictureCodingExtension s)
   pub both : (s : List ℕ) → Numbered (1 ∷ 2 ∷ []) [] [] (picture s)
+  pub header-told : (s : List ℕ) → Numbered (1 ∷ 2 ∷ []) [] [] (headerTold s)
+  pub picture-told : (s : List ℕ) → Numbered (1 ∷ 2 ∷ []) [] [] (pictureTold s)

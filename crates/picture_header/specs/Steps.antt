@@ -18,7 +18,7 @@ usualHeader n w =
     eqb n 0x100
     && (leb 1 (w / 2 ^ 27 % 8) && (leb (w / 2 ^ 27 % 8) 4 && eqb (w / 2 ^ (71 - extraBit (w / 2 ^ 27 % 8)) % 2) 0))
 
--- or those of a picture coding extension
+-- the number n in the first four bytes and w in the five after them are those of a picture coding extension that is accepted
 unfoldable pub usualCoding : ℕ → ℕ → Bool
 usualCoding n w =
     (eqb n 0x1B5 && eqb (w / 2 ^ 36) 8)

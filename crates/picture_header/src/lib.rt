@@ -23,6 +23,7 @@ use bits::Fields;
 use bits::Outcome;
 use bits::start_codes::EXTENSION_START;
 use bits::start_codes::PICTURE_START;
+use bits::wide;
 use headers::Error;
 use headers::NextStartCode;
 use headers::next_start_code;
@@ -146,13 +147,7 @@ pub enum HeaderLength {
     Refused(Error),
 }
 
-fn wide(x: u8) -> u64
-    ensures { λ r. ⌜ (r ≡ x) × (r < 256) ⌝ }
-{
-    x as u64
-}
-
-// The number in the four bytes from byte `at` on, high byte first; and that a slice holds bytes.
+// The number in the four bytes from byte `at` on, high byte first. The last promise is of every slice: its bytes are below 256.
 fn word(s: &[u8], at: usize) -> u64
     requires { ⌜ at + 4 ≤ length (now s) ⌝ }
     ensures { λ r. ⌜ (r ≡ bitsAt (now (s .entry)) (8 * at) 32) × (r < 2 ^ 32) × ((k : ℕ) → getD (now (s .entry)) k 0 < 256) ⌝ }

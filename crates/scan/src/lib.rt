@@ -89,8 +89,8 @@ fn places(end: usize, n: usize) -> usize
     if end < n { 0 } else { end - n + 1 }
 }
 
-// The first of the blocks of `n` bytes from `from` on that has 00 01, or the place after them, which has no `n` bytes before
-// `end`: in the blocks passed over no start code begins.
+// Passes over the blocks of `n` bytes from `from` on that have no 00 01, up to one that has, or to where fewer than `n` bytes
+// are left before `end`. In what it passes over no start code begins, and that alone is promised.
 fn past_quiet(s: &[u8], from: usize, end: usize, n: usize) -> usize
     requires { ⌜ end + 3 ≤ length (now s) ⌝ }
     requires { ⌜ 1 ≤ n ⌝ }

@@ -16,10 +16,10 @@ use vbv::VbvParams;
 
 // A walk over the pictures of a stream: where it goes on, and how far the model has come.
 pub(crate) struct VbvRecorder {
-    pub(crate) standard: VbvStandard,
-    pub(crate) params: VbvParams,
-    pub(crate) at: usize,
-    pub(crate) progress: Progress,
+    standard: VbvStandard,
+    params: VbvParams,
+    at: usize,
+    progress: Progress,
 }
 
 // The walk after one more picture, and that picture's record.
@@ -38,7 +38,7 @@ pub(crate) fn record_count(answer: VbvVerified) -> usize
     }
 }
 
-pub(crate) fn no_record() -> VbvPictureRecord
+fn no_record() -> VbvPictureRecord
     ensures { λ r. ⌜ r ≡ noRecord ⌝ }
 {
     VbvPictureRecord {

@@ -5,6 +5,7 @@ ghost use lib.ListN.{length, take, drop};
 ghost use lib.Seq.{sets};
 ghost use Rattle.bits.specs.Answers.{over};
 ghost use Rattle.words.specs.Words.{lowFirst, wordsBytes, laid, fromLow, wordAt};
+use bits::wide;
 
 // A word, from byte `at` on.
 fn put_word(out: &mut [u8], at: usize, word: u64)
@@ -42,12 +43,6 @@ pub fn put_words(place: &mut [u8], words: &[u64])
     if words.len() <= place.len() / 8 {
         put_all(place, words);
     }
-}
-
-fn wide(x: u8) -> u64
-    ensures { λ r. ⌜ (r ≡ x) × (r < 256) ⌝ }
-{
-    x as u64
 }
 
 // The four bytes from `at` on as a number, the lowest first; two such make a word, which the compiler reads at once.

@@ -1,5 +1,5 @@
 use borrow.Author.Needs.{needs}
-use Rattle.hipokuta.proofs.Checking.{refuses, reports}
+use Rattle.hipokuta.proofs.Checking.{refuses, reported-is}
 use Rattle.hipokuta.proofs.check.answer.Statement.{statement}
 use Rattle.hipokuta.proofs.check.answer.Tie as tie
 
@@ -30,7 +30,7 @@ same-length-2 : tie.Need-same-length-2
 same-length-2 c = search needs
 
 returns-2 : tie.Need-returns-2
-returns-2 c = reports _ _ (c .before .before .before .before .before .verified2 .given .1) (c .before .before .put-report .ensures)
+returns-2 c = reported-is _ _ (c .before .before .before .before .before .verified2 .given .1) (c .before .before .put-report .ensures)
 
 pub answer-spec : {M : Type 1} → statement M
 answer-spec =
