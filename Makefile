@@ -24,7 +24,7 @@ reading = tools/stream.c tools/input.c tools/container.c c/refusal_text.c
 vbvreport = tools/vbvreport.c tools/plot.c tools/label.c tools/report.c tools/look.c tools/place.c tools/caution.c tools/words.c \
     tools/script.c $(reading)
 cbrsend = tools/cbrsend.c tools/request.c tools/advice.c tools/sending.c tools/split.c tools/why.c tools/outfile.c \
-    tools/progress.c tools/report.c $(reading)
+    tools/progress.c tools/report.c tools/caution.c tools/look.c tools/place.c $(reading)
 entries = tests/c/entries.c tests/c/places.c c/refusal_text.c
 sender = tests/c/sender.c tests/c/channel.c tests/c/rules.c tests/c/places.c c/refusal_text.c
 texts = tests/c/texts.c c/refusal_text.c
