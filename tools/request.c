@@ -1,6 +1,7 @@
 #define _POSIX_C_SOURCE 200809L
 #include "request.h"
 
+#include "container.h"
 #include "hipokuta.h"
 
 #include <getopt.h>
@@ -144,7 +145,8 @@ static int read_option(int option, char **words, struct request *r, int *least)
         *least = 1;
         return GO;
     case VERSION:
-        return print_only("cbrsend " HIPOKUTA_VERSION "\n");
+        printf("cbrsend (Hipokuta) %s, %s\n", HIPOKUTA_VERSION, CONTAINERS);
+        return print_only("");
     case 'h':
         return stands_alone(words[optind - 1]) ? print_only(help) : bad_word('h', words + 1);
     default:
