@@ -167,8 +167,10 @@ static void count_lead(const struct walk *w, struct pictures *p)
     size_t zeros = 0;
     while (zeros < lead.length && lead.bytes[zeros] == 0)
         zeros++;
-    p->before = zeros < lead.length ? lead.length : 0;
-    p->early = picture_codes(&lead);
+    if (zeros < lead.length && w->next < w->s->length) {
+        p->before = lead.length;
+        p->early = picture_codes(&lead);
+    }
 }
 
 /* Takes what stands at a start code. Returns 0, or 1 where memory does not suffice. */

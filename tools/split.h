@@ -16,7 +16,7 @@ struct pictures {
     size_t headers_length;
     size_t repeated, ends; /* sequence headers and sequence end codes that are left out */
     size_t after_ends;     /* bytes after end codes that are no start code's, zeros at their end not counted: left out too */
-    size_t before, early;  /* bytes before the first sequence header, 0 where these are zeros alone, and pictures among them */
+    size_t before, early;  /* bytes before the first sequence header, 0 where they are all zero, and pictures among them */
 };
 
 /* Takes a stream apart, from its first sequence header on. Left out are sequence end codes, and zero bytes before a start code beyond two: no header and no
