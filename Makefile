@@ -1,5 +1,6 @@
 # make            the proved archive for C, tools/vbvreport and tools/cbrsend
-# make install    these, the header, the texts of refusals, a pkg-config file and man pages, under PREFIX (below DESTDIR)
+# make install    these, the header, the texts of refusals, a pkg-config file, man pages and the documents that these name,
+#                 under PREFIX (below DESTDIR)
 # make uninstall  removes what that put there
 # make test-c     the C programs under tests/ and those in README.md, which ./test runs
 # make sanitized  all of these with the address and undefined-behaviour sanitizers, for tests/sanitized
@@ -24,7 +25,7 @@ reading = tools/stream.c tools/input.c tools/container.c c/refusal_text.c
 vbvreport = tools/vbvreport.c tools/plot.c tools/label.c tools/report.c tools/look.c tools/place.c tools/caution.c tools/words.c \
     tools/script.c $(reading)
 cbrsend = tools/cbrsend.c tools/request.c tools/advice.c tools/sending.c tools/split.c tools/why.c tools/outfile.c \
-    tools/progress.c tools/report.c $(reading)
+    tools/progress.c tools/report.c tools/caution.c tools/look.c tools/place.c $(reading)
 entries = tests/c/entries.c tests/c/places.c c/refusal_text.c
 sender = tests/c/sender.c tests/c/channel.c tests/c/rules.c tests/c/places.c c/refusal_text.c
 texts = tests/c/texts.c c/refusal_text.c
@@ -69,26 +70,35 @@ $(TOOLS) $(TESTS) $(SANITIZED): $$($$(notdir $$@)) $(HEADERS) $(LIB)
 # What is installed, by the folder below PREFIX that it goes to.
 PREFIX = /usr/local
 TO = $(DESTDIR)$(PREFIX)
-FOLDERS = bin lib lib/pkgconfig include share/hipokuta share/man/man1 share/man/man3
+OWN_FOLDERS = share/hipokuta share/doc/hipokuta
+FOLDERS = bin lib lib/pkgconfig include share/man/man1 share/man/man3 $(OWN_FOLDERS)
+ENTRIES = vbv_check vbv_report vbv_patch_delay cbr_create cbr_offer cbr_withdraw vbv_refusal_name vbv_refusal_text
 bin = $(TOOLS)
 lib = $(LIB)
 lib/pkgconfig = target/hipokuta.pc
 include = include/hipokuta.h
 share/hipokuta = c/refusal_text.c
 share/man/man1 = man/vbvreport.1 man/cbrsend.1
-share/man/man3 = man/hipokuta.3
+share/man/man3 = man/hipokuta.3 $(ENTRIES:%=target/man/%.3)
+share/doc/hipokuta = NOTICE docs/LAYOUT.md docs/REFUSALS.md docs/DIFFERENCES.md docs/SENDING.md
 
-install: all
+# A page that leads to the library's.
+target/man/%.3:
+	@mkdir -p $(@D)
+	echo '.so man3/hipokuta.3' >$@
+
+install: all $(share/man/man3)
+	$(if $(word 2,$(PREFIX)),@echo "make: PREFIX has a space in it: what pkg-config prints then has to be unquoted by eval" >&2)
 	sed 's,@PREFIX@,$(PREFIX),; s,@VERSION@,$(VERSION),' hipokuta.pc.in >target/hipokuta.pc
 	install -d $(FOLDERS:%="$(TO)/%")
 	$(foreach folder,$(FOLDERS),install -m $(if $(filter bin,$(folder)),755,644) $($(folder)) "$(TO)/$(folder)" &&) :
 
 uninstall:
 	rm -f $(foreach folder,$(FOLDERS),$(patsubst %,"$(TO)/$(folder)/%",$(notdir $($(folder)))))
-	if [ -d "$(TO)/share/hipokuta" ]; then rmdir "$(TO)/share/hipokuta"; fi
+	for own in $(OWN_FOLDERS:%="$(TO)/%"); do if [ -d "$$own" ]; then rmdir "$$own"; fi; done
 
 clean:
-	rm -rf $(TOOLS) target/tests target/sanitized target/bench $(LIB)
+	rm -rf $(TOOLS) target/man target/tests target/sanitized target/bench $(LIB)
 
 .DELETE_ON_ERROR:
 .PHONY: all test-c sanitized install uninstall clean

@@ -14,28 +14,28 @@ static const struct {
     [VBV_NO_PICTURE] = { "no picture", "There is nothing that a set could show. Capture more of the stream." },
     [VBV_VARIABLE_RATE] = { "first delay 0xFFFF",
         "The stream does not claim a constant rate, so no set can tell when to start, and no buffer is promised. "
-        "Make it constant: cbrsend does, or cbr_offer." },
+        "Encode it at a constant rate, or send its pictures by cbr_offer." },
     [VBV_FRAME_RATE] = { "frame rate code",
         "The frame rate is none that the standard knows (codes 1 to 8), so no set can tell when a picture is due. "
         "Set the right code." },
     [VBV_EARLY] = { "position beyond delivered bits",
         "A picture begins only after the time at which it is due: a set has run dry and the picture freezes. "
-        "Encode smaller, send fewer headers, or raise the rate." },
+        "Encode smaller pictures, shorten the headers before this one, or raise the rate." },
     [VBV_DELAY_TOO_LONG] = { "delay above 0xFFFE",
         "A picture waits longer than its delay field can say: a set that tunes in there starts wrong. "
         "Stuff the pictures before it: cbrsend does." },
     [VBV_OVERFLOW] = { "overflow",
         "The set's buffer is more than full before this picture is removed: bytes are lost and pictures smear. "
-        "Stuff the pictures before it (cbrsend does); of an offer, send fewer headers." },
+        "Stuff the pictures before it: cbrsend does. When offered: shorten its headers." },
     [VBV_UNDERFLOW] = { "underflow",
         "This picture is not whole in the set's buffer when it is due: it freezes or breaks up. "
-        "Encode it smaller, or raise rate or buffer." },
+        "Encode it smaller, or raise the rate or the buffer: cbrsend says to what." },
     [VBV_DELAY_MISMATCH] = { "delay mismatch",
         "The picture's delay is not the time at which it is due: a set that tunes in there overflows or runs dry later. "
         "Write the right delays: cbrsend does, or vbv_patch_delay." },
     [VBV_PARAMETER] = { "parameter out of range",
-        "Rate or buffer is zero or too large, or the buffer lasts above 65,534 ticks: no set can be held to it. Take others. "
-        "In C also: a standard, kind, interval, flag or state that is none." },
+        "The rate or the buffer is zero or too large, or the buffer takes more than 65,534 ticks to fill. Choose others. "
+        "From C also: a bad standard, kind, interval, flag or state." },
     [VBV_TOO_FAR] = { "stream too long",
         "The stream has more than 2^48 bits. Check it in parts; send the rest by a new writer." },
     [VBV_RECORD_PLACES] = { "too few record places",
@@ -44,16 +44,16 @@ static const struct {
         "Offer a picture of the kind that is wanted again, or withdraw that one. After the last picture create a new writer." },
     [CBR_HEADERS] = { "headers do not fit",
         "What stands before this picture cannot be sent as it is: a start code that no header has, or a sequence header that is "
-        "missing, late or not the writer's. Mend the headers." },
+        "missing, late or not the writer's. Correct the headers." },
     [CBR_ROOM] = { "too little room",
         "The output part, or a place for a report, refusal, answer or state, is too short. Make the same call with more room; "
         "the buffer's size is always enough for a picture." },
     [CBR_LAYER] = { "layer does not fit",
-        "This is not one whole MPEG-2 picture of the kind and interval told, or one that repeats a field; to a patch, no picture "
-        "header. Mend the encoder." },
+        "This is not one whole MPEG-2 picture of the kind and interval given, or it repeats a field; for vbv_patch_delay, it is "
+        "no picture header. Correct the encoder." },
     [CBR_TOO_LARGE] = { "too large",
         "At this rate and buffer the picture is not whole in a set when it is due. "
-        "Encode it with less detail, or raise rate or buffer." },
+        "Encode it with less detail, or raise the rate or the buffer." },
     [CBR_STUFFING] = { "stuffed end beyond delivered bits",
         "From one picture to the next this rate brings more bits than the buffer holds, and no stuffing helps. "
         "Take a larger buffer or a lower rate." },

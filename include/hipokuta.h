@@ -2,9 +2,11 @@
  * writer of an MPEG-2 one.
  *
  * A program links the archive, libhipokuta.a, and lends each call its bytes. The structs below lie over the places that a call
- * writes: numbers are 64-bit words, low byte first (docs/LAYOUT.md). Pointers need no alignment. A null pointer may stand with
- * the length 0, and with no other. What a call may write must not overlap anything else that the same call is lent. Nothing is
- * kept between calls but what the caller holds, no memory is allocated, and calls may run at the same time on different memory.
+ * writes: numbers are 64-bit words, low byte first (LAYOUT.md). Pointers need no alignment. A null pointer may stand with the
+ * length 0, and with no other. What a call may write must not overlap anything else that the same call is lent. Nothing is kept
+ * between calls but what the caller holds, no memory is allocated, and calls may run at the same time on different memory.
+ *
+ * LAYOUT.md and REFUSALS.md are in docs/, or where this is installed in share/doc/hipokuta/.
  */
 #ifndef HIPOKUTA_H
 #define HIPOKUTA_H
@@ -21,7 +23,7 @@ extern "C" {
 #define VBV_MPEG1 1
 #define VBV_MPEG2 2
 
-/* Refusals: the value that an entry returns, where it is not 0 (docs/REFUSALS.md). No entry returns any other number. */
+/* Refusals: the value that an entry returns, where it is not 0 (REFUSALS.md). No entry returns any other number. */
 enum {
     VBV_SHORT_HEADER = 1,    /* the bytes end inside a header */
     VBV_BAD_HEADER = 2,      /* a header with a value, code or prefix that it must not have */
@@ -159,14 +161,20 @@ struct cbr_answer {
  * than 65,534 ticks of 1/90,000 s.
  *
  * The rate is bit_rate_value (1 to CBR_MOST_RATE) times CBR_RATE_UNIT bits a second, the buffer vbv_buffer_size_value (1 to
- * CBR_MOST_BUFFER) times CBR_BUFFER_UNIT bits. quantiser (1 to 31) is where all kinds start. b_between (0 to 15) B pictures
- * between anchors and anchors_per_gop (1 to 255) set the targets that the quantisers are steered by, and nothing else.
+ * CBR_MOST_BUFFER) times CBR_BUFFER_UNIT bits. quantiser (1 to 31) is where all kinds start; quantisers are values of
+ * quantiser_scale_code. b_between (0 to 15) and anchors_per_gop (1 to 255) set the targets that the quantisers are steered by,
+ * and nothing else: a group is taken to have one I picture, anchors_per_gop P pictures (the I picture is not counted), and
+ * b_between B pictures before each of these.
  */
 uint64_t cbr_create(uint32_t bit_rate_value, uint16_t vbv_buffer_size_value, uint8_t frame_rate_code, uint8_t quantiser,
                     uint8_t b_between, uint8_t anchors_per_gop,
                     void *state, size_t state_len);
 
 /* Offers a picture. Returns 0, or the number of the refusal; answer holds a struct cbr_answer, unused words 0.
+ *
+ * Pictures are offered in coding order: an anchor comes before the B pictures that are shown before it. Of a frame coded as two
+ * fields each field is a picture of its own, offered with CBR_FIELD. The first picture placed is due three quarters of the
+ * buffer's time after its start code, in whole ticks: from there on it may take three quarters of the buffer, and no more.
  *
  * CBR_PLACED: the first bytes of out are the stream's next ones, for the line to take at the rate, without a gap. state has
  * gone on.
@@ -191,6 +199,11 @@ uint64_t cbr_create(uint32_t bit_rate_value, uint16_t vbv_buffer_size_value, uin
  * without an end never says 1: each picture is stuffed as the next removal needs it, and after each the check accepts all that
  * was handed out, so that the channel may stop there. To close it in form, or before 14 (2^48 bits, at 4,000,000 bits a second
  * 814 days), offer a picture with last 1; then create a new writer, whose first offer brings a sequence header.
+ *
+ * A set cannot start without a sequence header, and a writer's stream has one only at its front: a set that is switched on
+ * later waits for the next writer's. So end the channel with last 1 wherever sets are to come in, at each programme say, and
+ * begin anew. The two are streams of their own: let the line rest until the last picture is due, its delay after its start
+ * code, so that the new stream finds an empty buffer.
  *
  * Order of the tests: state bytes that hold no writer are 12, before anything else; an answer_len under CBR_ANSWER_BYTES is 19;
  * any other kind, interval or last is 12; then 17, 18, 20, 14, 7 and 9 (headers too long), too large (21 at quantiser 31), 22,

@@ -58,6 +58,19 @@ void print_wanted(const struct wanted *w)
     printf(".\n");
 }
 
+void print_why_setting(struct setting at)
+{
+    int in_range = at.rate >= 1 && at.rate <= CBR_MOST_RATE && at.buffer >= 1 && at.buffer <= CBR_MOST_BUFFER;
+    uint32_t most = in_range ? most_buffer(at.rate) : 0;
+    if (!in_range)
+        printf("  Rates go from %d to %d bits a second, buffers from 1 to %d units of %d bits.\n", CBR_RATE_UNIT,
+               CBR_MOST_RATE * CBR_RATE_UNIT, CBR_MOST_BUFFER, CBR_BUFFER_UNIT);
+    else if (most > 0)
+        printf("  The buffer takes too long to fill: at this rate it may have at most %" PRIu32 " unit%s.\n", most, plural(most));
+    else
+        printf("  The buffer takes too long to fill: this rate is too low for any buffer.\n");
+}
+
 int is_swollen(const struct source *in, uint64_t bytes)
 {
     return bytes / 2 > in->stream.length;

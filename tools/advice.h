@@ -16,6 +16,9 @@ struct wanted complete(const struct source *in, struct setting asked);
 /* Whether nobody has said a rate. */
 int names_no_rate(const struct wanted *w);
 
+/* Says why a writer takes no such rate and buffer (12). */
+void print_why_setting(struct setting at);
+
 /* Says what is wanted, and by whom. */
 void print_wanted(const struct wanted *w);
 

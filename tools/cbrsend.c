@@ -1,6 +1,7 @@
 /* cbrsend: sends the pictures of an MPEG-2 stream at a constant rate. All judgement is the library's. */
 #define _POSIX_C_SOURCE 200809L
 #include "advice.h"
+#include "caution.h"
 #include "hipokuta.h"
 #include "input.h"
 #include "outfile.h"
@@ -44,6 +45,15 @@ static void print_damage(const struct job *j)
         printf("  Packets of IN that are torn or follow a lost one: %zu. Capture it again, if you can.\n", j->input.damaged);
 }
 
+/* What of IN is not there, or not taken. */
+static void print_lost(const struct job *j)
+{
+    const struct pictures *p = &j->in.pictures;
+    print_damage(j);
+    if (p->before > 0)
+        printf("  Left out: %zu bytes before the first sequence header, with %zu pictures.\n", p->before, p->early);
+}
+
 /* What is wanted, and what would do instead. */
 static void advise_job(struct job *j)
 {
@@ -65,14 +75,13 @@ static int refuse(struct job *j, const struct sending *end)
         print_place(&j->in, end);
     }
     printf("\n  refusal %" PRIu64 ": %s\n  %s\n", end->number, vbv_refusal_name(end->number), vbv_refusal_text(end->number));
-    print_damage(j);
+    print_lost(j);
     if (end->number == CBR_TOO_LARGE)
         printf("  The picture is %" PRIu64 " bytes too large.\n", end->bytes_over);
     if (placed)
         print_cause(&j->in, end);
     if (end->number == VBV_PARAMETER)
-        printf("  Rates go from %d to %d bits a second, buffers from 1 to %d units of %d bits.\n", CBR_RATE_UNIT,
-               CBR_MOST_RATE * CBR_RATE_UNIT, CBR_MOST_BUFFER, CBR_BUFFER_UNIT);
+        print_why_setting(j->want.at);
     if (is_of_setting(end->number))
         advise_job(j);
     return REFUSED;
@@ -83,7 +92,7 @@ static int refuse_no_rate(struct job *j)
 {
     print_name(j, "refused");
     printf("\n");
-    print_damage(j);
+    print_lost(j);
     advise_job(j);
     return REFUSED;
 }
@@ -110,7 +119,35 @@ static void print_left_out(const struct source *in)
     }
     printf("  Left out: %zu bytes. Repeated sequence headers: %zu, sequence ends: %zu,\n", in->stream.length - headers - layers,
            p->repeated, p->ends);
-    printf("  bytes of headers without a picture: %zu; the rest is stuffing.\n", p->headers_length - headers);
+    printf("  bytes of headers without a picture: %zu", p->headers_length - headers);
+    if (p->before > 0)
+        printf(",\n  bytes before the first sequence header: %zu, with %zu pictures", p->before, p->early);
+    if (p->after_ends > 0)
+        printf(",\n  bytes after a sequence end that are no video: %zu", p->after_ends);
+    printf("; the rest is stuffing.\n");
+}
+
+/* Signs of a stream that is not whole, as vbvreport tells them: OUT does not show them any more. */
+static int is_of_the_end(const struct caution *c)
+{
+    return strncmp(c->name, "cut ", 4) == 0 || strcmp(c->name, "no sequence end") == 0;
+}
+
+static void print_cautions(const struct job *j)
+{
+    const struct stream *s = &j->input.stream;
+    struct answer a = { .number = 0 };
+    struct cautions found;
+    look(s, VBV_MPEG2, &a.look, NULL);
+    a.declared = declared_at(s, a.look.sequence, VBV_MPEG2);
+    find_cautions(&j->input, VBV_MPEG2, &a, &found);
+    if (a.look.changes > 0)
+        printf("  caution: Later sequence headers that declare another rate or buffer: %zu, the first at byte %zu%s. They\n"
+               "  are left out, and OUT declares what it is sent at.\n", a.look.changes, a.look.change,
+               j->in.unpacked ? " of its video" : "");
+    for (size_t i = 0; i < found.count; i++)
+        if (is_of_the_end(&found.of[i]))
+            printf("  caution: %s\n", found.of[i].words);
 }
 
 static void print_sent(const struct job *j, const struct sending *end, const struct vbv_report *report)
@@ -122,6 +159,7 @@ static void print_sent(const struct job *j, const struct sending *end, const str
     print_report(report);
     printf("  %-12s %12" PRIu64 "  bytes\n", "stuffing", end->stuffing);
     print_left_out(&j->in);
+    print_cautions(j);
     if (is_swollen(&j->in, end->bytes)) {
         struct request least = j->asked;
         least.to = NULL;
@@ -137,6 +175,7 @@ static int said(void)
     return fflush(stdout) != 0 || ferror(stdout) ? trouble("standard output", "cannot be written") : 0;
 }
 
+/* Words about a file come before it, words about standard output after. */
 static int send_to(struct job *j, struct outfile *out)
 {
     struct vbv_report report;
@@ -147,6 +186,8 @@ static int send_to(struct job *j, struct outfile *out)
     int status = end.unwritten != 0 ? trouble(out->name, strerror(end.unwritten)) : settle_out(out);
     if (status == 0)
         status = check(out, end.bytes, &report);
+    if (status == 0)
+        status = hand_out(out, j->data);
     end_progress(&j->in.progress);
     if (status != 0)
         return status;
@@ -161,12 +202,12 @@ static int send_job(struct job *j)
         return TROUBLE;
     int status = send_to(j, &out);
     if (status == SENT)
-        return keep_out(&out, j->data);
+        return keep_out(&out);
     drop_out(&out);
     return status;
 }
 
-/* The least rate alone on standard output. */
+/* Nothing but the least rate on standard output. */
 static int tell_least(struct job *j)
 {
     struct setting at = usable(j->want.at);
@@ -176,7 +217,7 @@ static int tell_least(struct job *j)
     print_name(j, found ? "the least rate for" : "no rate was found for");
     print_buffer(at.buffer);
     printf("\n");
-    print_damage(j);
+    print_lost(j);
     if (!found) {
         advise(&j->in, &j->asked, at, t);
         return REFUSED;
@@ -223,7 +264,7 @@ static int run(struct job *j)
     int status = work(j);
     close_source(&j->in);
     let_go(&j->input);
-    return said() != 0 ? TROUBLE : status;
+    return status != TROUBLE && said() != 0 ? TROUBLE : status;
 }
 
 /* Without this a file that is opened could become standard output, and take the words. */

@@ -188,10 +188,16 @@ int settle_out(struct outfile *out)
     return bad ? trouble(out->name, strerror(errno)) : 0;
 }
 
-int keep_out(struct outfile *out, int data)
+int hand_out(struct outfile *out, int data)
 {
-    int bad = out->target == NULL ? copy(fileno(out->file), data) : rename(beside, out->target);
-    int status = bad != 0 ? trouble(out->name, strerror(errno)) : 0;
+    int bad = out->target == NULL && copy(fileno(out->file), data) != 0;
+    return bad ? trouble("standard output", strerror(errno)) : 0;
+}
+
+int keep_out(struct outfile *out)
+{
+    int bad = out->target != NULL && rename(beside, out->target) != 0;
+    int status = bad ? trouble(out->name, strerror(errno)) : 0;
     if (status == 0 && out->target != NULL) {
         beside[0] = 0;
         sync_folder(out->target);

@@ -20,8 +20,11 @@ int open_out(const char *name, struct outfile *out);
 /* Sees to it that all of the new file is on the disk. */
 int settle_out(struct outfile *out);
 
-/* Puts the new file in OUT's place, or copies it to `data`, which is standard output's. Either of these is the last: */
-int keep_out(struct outfile *out, int data);
+/* Copies the new file to `data`, which is standard output's, where that is OUT. */
+int hand_out(struct outfile *out, int data);
+
+/* Puts the new file in the place of an OUT that is a file. Either of these is the last: */
+int keep_out(struct outfile *out);
 void drop_out(struct outfile *out);
 
 #endif

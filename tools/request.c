@@ -1,6 +1,7 @@
 #define _POSIX_C_SOURCE 200809L
 #include "request.h"
 
+#include "container.h"
 #include "hipokuta.h"
 
 #include <getopt.h>
@@ -15,7 +16,8 @@ static const char help[] =
     "delays, and stuffing where the buffer would overflow. OUT is checked before it takes the place of an older OUT, and when\n"
     "something is refused or goes wrong the older one stays. Pictures are not encoded again: where one is too large, it is\n"
     "said by how much, and which commands would do. IN is an elementary stream, a transport stream or a program stream; OUT\n"
-    "is an elementary stream. - is standard input or standard output. What is left out of IN: docs/SENDING.md.\n"
+    "is an elementary stream. - is standard input or standard output. What is left out of IN: SENDING.md (in docs/, or\n"
+    "where this is installed in share/doc/hipokuta/).\n"
     "\n"
     "  -b RATE       bits a second, a multiple of 400 from 400 to 104857200, such as 4000000, 4000k or 4M. Without it, what\n"
     "                IN's sequence header says.\n"
@@ -26,7 +28,7 @@ static const char help[] =
     "  -h, --help    prints this.\n"
     "\n"
     "Exit status: 0 sent, or a least rate found; 1 refused, or no rate found; 2 bad use, or something that cannot be read or\n"
-    "written, or that is no video. OUT is written with 0 alone.\n";
+    "written, or that is no video. OUT is written only with 0.\n";
 
 enum { LEAST_RATE = 256, STREAM, VERSION };
 
@@ -112,12 +114,21 @@ static int print_only(const char *text)
 static int bad_word(int option, char **words)
 {
     const char *word = words[optind - 1];
-    if (option != ':' && optopt > 0 && optopt < LEAST_RATE)
+    if (option == ':')
+        fprintf(stderr, "%s: %s: a word must follow; --help says more\n", program, word);
+    else if (option == '?' && optopt > 0 && optopt < LEAST_RATE)
         fprintf(stderr, "%s: -%c: there is no such option; --help lists them\n", program, optopt);
     else
-        fprintf(stderr, "%s: %s: %s; --help says more\n", program, word,
-                option == ':' ? "a word must follow" : "there is no such option");
+        fprintf(stderr, "%s: %s: there is no such option; --help lists them\n", program, word);
+    if (option != ':')
+        fprintf(stderr, "A file whose name begins with - is written ./-NAME.\n");
     return 2;
+}
+
+/* Not so is the -h in a name such as -hall.m2v. */
+static int stands_alone(const char *word)
+{
+    return strcmp(word, "-h") == 0 || strncmp(word, "--", 2) == 0;
 }
 
 static int read_option(int option, char **words, struct request *r, int *least)
@@ -134,9 +145,10 @@ static int read_option(int option, char **words, struct request *r, int *least)
         *least = 1;
         return GO;
     case VERSION:
-        return print_only("cbrsend " HIPOKUTA_VERSION "\n");
+        printf("cbrsend (Hipokuta) %s, %s\n", HIPOKUTA_VERSION, CONTAINERS);
+        return print_only("");
     case 'h':
-        return print_only(help);
+        return stands_alone(words[optind - 1]) ? print_only(help) : bad_word('h', words + 1);
     default:
         return bad_word(option, words);
     }
@@ -163,7 +175,7 @@ int read_words(int count, char **words, struct request *r)
     if (least && r->at.rate != 0)
         return bad_use("--least-rate finds a rate: leave out -b");
     if (least && names != 1)
-        return bad_use(names < 1 ? "IN is missing" : "--least-rate takes IN alone");
+        return bad_use(names < 1 ? "IN is missing" : "--least-rate takes IN and no OUT");
     if (!least && names < 2)
         return bad_use(names < 1 ? "IN and OUT are missing" : "OUT is missing");
     if (!least && names > 2)

@@ -184,6 +184,16 @@ struct sending send_first(struct source *in)
     return send_some(in, (struct setting){ CBR_MOST_RATE, CBR_MOST_BUFFER }, NULL, 1);
 }
 
+/* By the library: which is the largest does not depend on frame rate and quantiser. */
+uint32_t most_buffer(uint32_t rate)
+{
+    struct cbr_state w;
+    uint16_t buffer = CBR_MOST_BUFFER;
+    while (buffer > 0 && cbr_create(rate, buffer, 3, 31, 2, 5, &w, sizeof w) != 0)
+        buffer--;
+    return buffer;
+}
+
 int is_of_setting(uint64_t number)
 {
     return number == VBV_EARLY || number == VBV_OVERFLOW || number == VBV_PARAMETER || number == CBR_TOO_LARGE
@@ -294,10 +304,10 @@ struct trial least_rate(struct source *in, struct setting at)
     return least(in, at, (struct aim){ A_RATE, likely_rate(in, at.buffer), CBR_MOST_RATE, CBR_STUFFING });
 }
 
-struct trial least_of_both(struct source *in, uint32_t most_buffer)
+struct trial least_of_both(struct source *in, uint32_t largest)
 {
-    struct setting at = { 0, most_buffer };
-    return least(in, at, (struct aim){ BOTH, likely_rate(in, most_buffer), CBR_MOST_RATE, CBR_STUFFING });
+    struct setting at = { 0, largest };
+    return least(in, at, (struct aim){ BOTH, likely_rate(in, largest), CBR_MOST_RATE, CBR_STUFFING });
 }
 
 /* Too large is only a buffer that takes longer to fill than a delay can say. */

@@ -59,6 +59,9 @@ struct sending send_all(struct source *in, struct setting at, FILE *to);
 /* Offers the first picture at the most rate and buffer: what is refused so is refused at any. */
 struct sending send_first(struct source *in);
 
+/* The largest buffer that a writer takes at this rate; 0 where it takes none. */
+uint32_t most_buffer(uint32_t rate);
+
 /* Whether another rate or buffer may help against a refusal. */
 int is_of_setting(uint64_t number);
 
@@ -71,6 +74,6 @@ struct trial least_rate(struct source *in, struct setting at);
 struct trial least_buffer(struct source *in, struct setting at);
 
 /* The least rate with any buffer up to this one. */
-struct trial least_of_both(struct source *in, uint32_t most_buffer);
+struct trial least_of_both(struct source *in, uint32_t largest);
 
 #endif

@@ -153,18 +153,24 @@ static int take_header(struct walk *w, struct pictures *p, size_t at)
     else if (code != EXTENSION && code != USER_DATA)
         w->leaving_out = 0;
     p->repeated += w->leaving_out && code == SEQUENCE;
-    p->ends += code == SEQUENCE_END;
+    if (code == SEQUENCE_END) {
+        p->ends++;
+        p->after_ends += end_before(w->s, at, w->next, 0) - at - CODE_BYTES;
+    }
     return w->leaving_out || code == SEQUENCE_END ? 0 : keep(w, p, &unit);
 }
 
-/* Bytes before the first start code are kept too, unless they are zeros. */
-static int take_lead(struct walk *w, struct pictures *p)
+/* What no set can show, and so is left out: all before the first sequence header. */
+static void count_lead(const struct walk *w, struct pictures *p)
 {
-    size_t from = 0;
-    while (from < w->next && w->s->bytes[from] == 0)
-        from++;
-    struct stream lead = part(w->s, from, w->next);
-    return keep(w, p, &lead);
+    struct stream lead = part(w->s, 0, w->next);
+    size_t zeros = 0;
+    while (zeros < lead.length && lead.bytes[zeros] == 0)
+        zeros++;
+    if (zeros < lead.length && w->next < w->s->length) {
+        p->before = lead.length;
+        p->early = picture_codes(&lead);
+    }
 }
 
 /* Takes what stands at a start code. Returns 0, or 1 where memory does not suffice. */
@@ -181,9 +187,10 @@ static int take(struct walk *w, struct pictures *p, size_t at)
 
 int split(const struct stream *s, struct pictures *p)
 {
-    struct walk w = { .s = s, .sequence = s->length, .next = next_code(s, 0) };
+    struct walk w = { .s = s, .sequence = s->length, .next = find_code(s, SEQUENCE) };
+    int failed = 0;
     *p = (struct pictures){ .of = NULL };
-    int failed = s->length > 0 && take_lead(&w, p);
+    count_lead(&w, p);
     while (!failed && w.next < s->length) {
         size_t at = w.next;
         w.next = next_code(s, at + CODE_BYTES);

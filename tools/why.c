@@ -37,8 +37,6 @@ static struct stream extension_after(const struct stream *s, uint32_t id)
 static const char *why_first_headers(const struct stream *headers)
 {
     struct stream extension = extension_after(headers, SEQUENCE_EXTENSION);
-    if (code_at(headers, 0) != SEQUENCE)
-        return "No sequence header stands before the first picture: cut what comes before the first one.";
     if (extension.length == 0)
         return "No sequence extension follows the sequence header: this is MPEG-1, and only MPEG-2 is sent. vbvreport\n"
                "  checks MPEG-1 too; encode it as MPEG-2 to send it.";
@@ -52,9 +50,7 @@ static const char *why_first_headers(const struct stream *headers)
 void print_why_headers(const struct stream *headers, int first)
 {
     int strange = strange_code(headers);
-    if (headers->length > 0 && next_code(headers, 0) != 0)
-        printf("  Bytes that are no header stand before the first start code: cut them off.\n");
-    else if (strange >= 0)
+    if (strange >= 0)
         printf("  There is a start code %02X among them: %s. Copy or capture it again.\n", (unsigned)strange,
                code_name(strange));
     else if (first)

@@ -1,5 +1,5 @@
-/* Words for why the writer does not take headers (18) or a layer (20). The library has judged and tells the number
- * alone; this looks for the cause, and decides nothing. */
+/* Words for why the writer does not take headers (18) or a layer (20). The library has judged and tells only the
+ * number; this looks for the cause, and decides nothing. */
 #ifndef WHY_H
 #define WHY_H
 
