@@ -89,7 +89,8 @@ static void set_time(struct sheet *s)
     if (d->to > d->from) {
         s->missed = !(d->from <= last && d->to > 0);
         s->from = s->missed ? 0 : within(d->from, 0, last);
-        s->until = s->missed ? s->until : within(d->to, s->from + LEAST_SECONDS, s->until);
+        if (!s->missed)
+            s->until = within(d->to, s->from + LEAST_SECONDS, last + within((last - s->from) * .01, LEAST_SECONDS, MOST_SECONDS));
     }
     while (s->first < all && removal(d, s->first)->seconds < s->from)
         s->first++;
