@@ -4,6 +4,7 @@
 #include "container.h"
 #include "hipokuta.h"
 #include "input.h"
+#include "label.h"
 #include "place.h"
 #include "plot.h"
 #include "script.h"
@@ -126,11 +127,23 @@ static const char *verdict_words(const struct told *t)
     return t->answer->number != 0 ? "refused" : t->cautions->count > 0 ? "accepted, with cautions" : "accepted";
 }
 
+/* The refusal with its amount, or the delays that differ; the picture, and when it is due. */
+static const char *mark_words(const struct answer *a, const struct removal *bad, char *text, size_t room)
+{
+    char line[120], delays[120] = "", coded[LABEL_BYTES], expected[LABEL_BYTES], picture[LABEL_BYTES], at[LABEL_BYTES];
+    if (a->number == VBV_DELAY_MISMATCH)
+        snprintf(delays, sizeof delays, ", coded %s, expected %s", grouped(a->refusal.coded, coded),
+                 grouped(a->refusal.expected, expected));
+    snprintf(text, room, "%s%s: picture %s, at %s", refusal_line(a, line, sizeof line), delays, grouped(bad->picture, picture),
+             clocked(bad->seconds, 3, at));
+    return text;
+}
+
 /* Draws to an open file. Returns 0, or 2 with the trouble told. */
 static int draw_to(FILE *file, const struct told *t, const struct options *o)
 {
     const struct answer *a = t->answer;
-    char rate[TEXT], mark[120];
+    char rate[TEXT], mark[300];
     struct removal *of = calloc(a->recorded + 1, sizeof *of);
     struct drawing d = { .name = t->name, .verdict = verdict_words(t), .bit_rate = a->declared.bit_rate,
                          .buffer_bits = a->declared.buffer_bits, .frame_rate = rate, .of = of, .count = a->recorded,
@@ -143,7 +156,7 @@ static int draw_to(FILE *file, const struct told *t, const struct options *o)
         snprintf(rate, sizeof rate, "%" PRIu64, rate_over(a->declared.rate_code));
     fill_removals(a, of);
     if (a->number != 0 && bad_removal(a, &d.bad))
-        d.mark = refusal_line(a, mark, sizeof mark);
+        d.mark = mark_words(a, &d.bad, mark, sizeof mark);
     plot(file, &d);
     free(of);
     return 0;

@@ -1,17 +1,32 @@
 #include "words.h"
 
+#include "label.h"
 #include "report.h"
 #include "shell.h"
 
 #include <inttypes.h>
 #include <stdio.h>
+#include <stdlib.h>
+#include <string.h>
+
+/* Bits with tenths, and commas: "38,824.0". */
+static const char *amount(struct bits b, char *text)
+{
+    char plain[TEXT], whole[LABEL_BYTES];
+    tenths(b, plain);
+    if (plain[0] >= '0' && plain[0] <= '9')
+        snprintf(text, TEXT, "%s%s", grouped(strtoull(plain, NULL, 10), whole), strchr(plain, '.'));
+    else
+        snprintf(text, TEXT, "%s", plain);
+    return text;
+}
 
 const char *refusal_line(const struct answer *a, char *text, size_t room)
 {
     char bits[TEXT];
     int length = snprintf(text, room, "%s", vbv_refusal_name(a->number));
     if (a->place.measured && (size_t)length < room)
-        snprintf(text + length, room - (size_t)length, " by %s bits", tenths(a->place.over, bits));
+        snprintf(text + length, room - (size_t)length, " by %s bits", amount(a->place.over, bits));
     return text;
 }
 
