@@ -93,9 +93,13 @@ static void print_remedy(const struct told *t)
     } else if (t->answer->look.repeats > 0) {
         printf("  cbrsend does not take pictures that repeat a field, so encode this one again, at a constant rate and without.\n");
     } else {
-        printf("  The least rate that carries it: cbrsend --least-rate -B BUFFER");
+        char buffer[TEXT] = "BUFFER";
+        uint64_t units = t->answer->declared.buffer_bits / CBR_BUFFER_UNIT;
+        if (units >= 1 && units <= CBR_MOST_BUFFER)
+            snprintf(buffer, sizeof buffer, "%" PRIu64, units);
+        printf("  The least rate that carries it in this buffer: cbrsend --least-rate -B %s", buffer);
         print_input(t);
-        printf("\n  At that rate or above: cbrsend -b RATE -B BUFFER");
+        printf("\n  At that RATE or above: cbrsend -b RATE -B %s", buffer);
         print_input(t);
         printf(" OUT.m2v\n");
     }
