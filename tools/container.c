@@ -80,11 +80,35 @@ static int is_pack(const struct stream *s, size_t at)
     return next == length && code_at(&after, next) >= SYSTEM;
 }
 
+/* Where the packet of a program stream at `at` ends, zero bytes before it passed over; `at` itself where none stands there. */
+static size_t packet_end(const struct stream *s, size_t at)
+{
+    size_t from = at;
+    while (from < s->length && s->bytes[from] == 0)
+        from++;
+    from -= from < s->length && from >= at + 2 ? 2 : 0;
+    struct stream p = part(s, from, s->length);
+    if (p.length < PACK_BYTES)
+        return s->length;
+    if (memcmp(p.bytes, "\0\0\1", 3) != 0 || code_at(&p, 0) < SYSTEM)
+        return at;
+    if (code_at(&p, 0) == PACK)
+        return from + ((p.bytes[4] & 0xC0) == 0x40 ? PACK_BYTES + (p.bytes[13] & 7u) : OLD_PACK_BYTES);
+    return from + (code_at(&p, 0) == SYSTEM ? CODE_BYTES : 6 + 256u * p.bytes[4] + p.bytes[5]);
+}
+
+/* A packet of a program stream at the front, and another right after it; some recorders write no packs. */
+static int are_packets(const struct stream *s)
+{
+    size_t end = packet_end(s, 0);
+    return end > 0 && end + PACK_BYTES <= s->length && packet_end(s, end) > end;
+}
+
 static int is_program(const struct stream *s)
 {
     struct stream front = part(s, 0, s->length < PACKS_WITHIN ? s->length : PACKS_WITHIN);
     size_t at = next_code(&front, 0);
-    if (at == 0 && code_at(&front, at) == PACK)
+    if (at == 0 && (code_at(&front, at) == PACK || are_packets(&front)))
         return 1;
     while (at < front.length && !is_pack(&front, at))
         at = next_code(&front, at + CODE_BYTES);
@@ -199,23 +223,6 @@ static void count_error(void *context, int level, const char *format, va_list va
         if (faults != NULL)
             ++*faults;
     }
-}
-
-/* Where the packet of a program stream at `at` ends, zero bytes before it passed over; `at` itself where none stands there. */
-static size_t packet_end(const struct stream *s, size_t at)
-{
-    size_t from = at;
-    while (from < s->length && s->bytes[from] == 0)
-        from++;
-    from -= from < s->length && from >= at + 2 ? 2 : 0;
-    struct stream p = part(s, from, s->length);
-    if (p.length < PACK_BYTES)
-        return s->length;
-    if (memcmp(p.bytes, "\0\0\1", 3) != 0 || code_at(&p, 0) < SYSTEM)
-        return at;
-    if (code_at(&p, 0) == PACK)
-        return from + ((p.bytes[4] & 0xC0) == 0x40 ? PACK_BYTES + (p.bytes[13] & 7u) : OLD_PACK_BYTES);
-    return from + (code_at(&p, 0) == SYSTEM ? CODE_BYTES : 6 + 256u * p.bytes[4] + p.bytes[5]);
 }
 
 /* How often a program stream's packets do not follow one another; libavformat passes over that without a word. */

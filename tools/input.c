@@ -126,9 +126,10 @@ static int is_front(const struct stream *s, size_t at)
 static int is_video(const struct stream *s)
 {
     size_t first = next_code(s, 0);
-    if (first == s->length)
+    int front = is_front(s, first);
+    if (first == s->length || (front && code_at(s, first) >= SYSTEM))
         return 0;
-    if (code_at(s, first) == SEQUENCE && is_front(s, first))
+    if (front && code_at(s, first) == SEQUENCE)
         return 1;
     return is_sound_sequence(s, find_code(s, SEQUENCE)) ||
            (is_video_code(code_at(s, first)) && is_sound_picture(s, find_code(s, PICTURE)));
