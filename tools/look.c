@@ -2,7 +2,8 @@
 
 #include "hipokuta.h"
 
-static const struct field WIDTH = { 32, 12 }, HEIGHT = { 44, 12 }, ASPECT = { 56, 4 }, MARKER = { 82, 1 }, LOAD_MATRIX = { 94, 1 }, LOAD_SECOND = { 95, 1 };
+static const struct field WIDTH = { 32, 12 }, HEIGHT = { 44, 12 }, ASPECT = { 56, 4 }, MARKER = { 82, 1 };
+static const struct field LOAD_MATRIX = { 94, 1 }, LOAD_SECOND = { 95, 1 };
 static const struct field WIDTH_EXTENSION = { 47, 2 }, HEIGHT_EXTENSION = { 49, 2 };
 static const struct field EXTRA_BIT = { 61, 1 };
 

@@ -34,8 +34,8 @@ static const char help[] =
     "Checks the MPEG video stream in each FILE against the buffer model of ISO/IEC 13818-2, Annex C, at a constant rate, and\n"
     "prints the buffer report; or the first refusal, where in the stream it is, and what it means for the cabin set. FILE is an\n"
     "elementary stream, or a transport or program stream or another container (where this was built with libavformat); - is\n"
-    "standard input. Cautions below the verdict tell of what the check does not read (docs/DIFFERENCES.md) and of signs that\n"
-    "the stream is not whole.\n"
+    "standard input. Cautions below the verdict tell of what the check does not read, such as repeated fields, and of signs\n"
+    "that the stream is not whole.\n"
     "\n"
     "  -1, -2             the stream is MPEG-1, MPEG-2. Without either its headers tell.\n"
     "  -r, --records      lists a record for each picture: coded and expected delay in ticks of 1/90,000 s, bits of data, and\n"
@@ -406,7 +406,7 @@ int main(int count, char **words)
     opterr = 0;
     for (int option; (option = getopt_long(count, words, ":12rp:h", long_options, NULL)) != -1;) {
         if (option == 'h')
-            return asks_help(words[optind - 1]) ? print(help) : bad_use("-h stands for itself");
+            return asks_help(words[optind - 1]) ? print(help) : bad_use("-h goes by itself");
         if (option == VERSION)
             return print_version();
         if (option == '?' || option == ':')
