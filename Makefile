@@ -21,8 +21,8 @@ AVFORMAT_LIBS := $(shell pkg-config --libs $(AVFORMAT))
 endif
 
 # The sources of each C program.
-reading = tools/stream.c tools/input.c tools/container.c c/refusal_text.c
-vbvreport = tools/vbvreport.c tools/plot.c tools/label.c tools/report.c tools/look.c tools/place.c tools/caution.c tools/words.c \
+reading = tools/stream.c tools/input.c tools/container.c tools/look.c tools/shell.c c/refusal_text.c
+vbvreport = tools/vbvreport.c tools/plot.c tools/label.c tools/report.c tools/place.c tools/caution.c tools/words.c \
     tools/script.c $(reading)
 cbrsend = tools/cbrsend.c tools/request.c tools/advice.c tools/sending.c tools/split.c tools/why.c tools/outfile.c \
     tools/progress.c tools/report.c tools/caution.c tools/look.c tools/place.c $(reading)

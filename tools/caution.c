@@ -32,20 +32,28 @@ static const char *changed(const struct declared *a, const struct declared *b, c
     return text;
 }
 
-static void of_headers(const struct stream *s, uint8_t standard, const struct answer *a, struct cautions *c)
+/* Of what a byte is counted: of the file, or of the video out of a container. */
+static const char *of_what(const struct input *in)
 {
+    return in->about[0] != 0 ? " of the video" : "";
+}
+
+static void of_headers(const struct input *in, uint8_t standard, const struct answer *a, struct cautions *c)
+{
+    const struct stream *s = &in->stream;
     const struct look *l = &a->look;
     char text[80] = "";
     if (l->first_code > 0 && l->first_code < s->length)
         add(c, "bytes before the first start code", "Bytes before the first start code: %zu. They count as the first picture's "
             "data.", l->first_code);
     if (l->early > 0)
-        add(c, "pictures before the first sequence header", "Pictures before the first sequence header, at byte %zu: %zu of %zu. "
-            "A set cannot show them.", l->sequence, l->early, l->pictures);
+        add(c, "pictures before the first sequence header", "Pictures before the first sequence header, at byte %zu%s: %zu of "
+            "%zu. A set cannot show them.", l->sequence, of_what(in), l->early, l->pictures);
     if (l->changes > 0) {
         struct declared later = declared_at(s, l->change, standard);
-        add(c, "another sequence header", "Later sequence headers that declare something else: %zu, the first at byte %zu (%s). "
-            "This check reads the stream's first alone.", l->changes, l->change, changed(&a->declared, &later, text, sizeof text));
+        add(c, "another sequence header", "Later sequence headers that declare something else: %zu, the first at byte %zu%s "
+            "(%s). This check reads only the stream's first.", l->changes, l->change, of_what(in),
+            changed(&a->declared, &later, text, sizeof text));
     }
 }
 
@@ -79,31 +87,60 @@ static size_t least_bytes(const struct stream *header)
     }
 }
 
-/* Rows of macroblocks in the last picture, where its slices must reach the last: in MPEG-2. */
-static uint32_t rows(const struct answer *a, uint8_t standard)
+/* Rows of macroblocks in the last picture, where its slices must reach the last one: in a stream that says by its headers, too,
+ * that it is MPEG-2. 0 where that cannot be told. */
+static uint32_t rows(const struct input *in, uint8_t standard, const struct look *l)
 {
-    uint32_t lines = a->look.last.halves == 1 ? (a->declared.height + 1) / 2 : a->declared.height;
-    uint32_t count = (lines + ROW - 1) / ROW;
-    return standard == VBV_MPEG2 && count <= MOST_ROWS ? count : 0;
+    if (standard != VBV_MPEG2 || in->standard != VBV_MPEG2 || l->in_force == in->stream.length)
+        return 0;
+    uint32_t height = declared_at(&in->stream, l->in_force, standard).height;
+    uint32_t lines = l->last.halves == 1 ? (height + 1) / 2 : height, count = (lines + ROW - 1) / ROW;
+    return count <= MOST_ROWS ? count : 0;
+}
+
+/* Whether anything but zero bytes follows the last sequence end code. */
+static int goes_on(const struct stream *s, size_t end_code)
+{
+    size_t at = end_code + CODE_BYTES;
+    while (at < s->length && s->bytes[at] == 0)
+        at++;
+    return at < s->length;
 }
 
 /* What tells that the stream's end is not its maker's. */
-static void of_end(const struct stream *s, uint8_t standard, const struct answer *a, struct cautions *c)
+static void of_end(const struct input *in, uint8_t standard, const struct look *l, struct cautions *c)
 {
-    const struct look *l = &a->look;
+    const struct stream *s = &in->stream;
     struct stream last = part(s, l->last_code, s->length);
+    uint32_t all = rows(in, standard, l);
     int open = s->length >= 3 && memcmp(s->bytes + s->length - 3, "\0\0\1", 3) == 0;
     if (open)
         add(c, "cut in a start code", "The stream ends inside a start code: it is cut off.");
     else if (last.length < least_bytes(&last))
-        add(c, "cut in a header", "The stream ends inside a header, at byte %zu: it is cut off.", l->last_code);
+        add(c, "cut in a header", "The stream ends inside a header, at byte %zu%s: it is cut off.", l->last_code, of_what(in));
     else if (l->pictures > 0 && l->last_slice == 0)
-        add(c, "cut in a picture", "The last picture, at byte %zu, has no slice: it is cut off.", l->last.at);
-    else if (l->pictures > 0 && (uint32_t)l->last_slice < rows(a, standard))
-        add(c, "cut in a picture", "The last picture, at byte %zu, has slices up to row %d of %u alone: it is cut off.",
-            l->last.at, l->last_slice, (unsigned)rows(a, standard));
+        add(c, "cut in a picture", "The last picture, at byte %zu%s, has no slice: it is cut off.", l->last.at, of_what(in));
+    else if (l->pictures > 0 && (uint32_t)l->last_slice < all)
+        add(c, "cut in a picture", "The last picture, at byte %zu%s, has slices only up to row %d of %u: it is cut off.",
+            l->last.at, of_what(in), l->last_slice, (unsigned)all);
     else if (l->end_code == s->length || l->end_code < l->last.at)
         add(c, "no sequence end", "No sequence end code stands at the end: whether the last picture is whole cannot be told.");
+    else if (goes_on(s, l->end_code))
+        add(c, "bytes after the sequence end", "Bytes after the last sequence end code, at byte %zu%s: %zu. They are no "
+            "picture's, and this check does not count them.", l->end_code, of_what(in), s->length - l->end_code - CODE_BYTES);
+}
+
+/* What the user said against what the headers say. */
+static void of_standard(const struct input *in, uint8_t standard, struct cautions *c)
+{
+    if (in->standard != 0 && in->standard != standard)
+        add(c, "other standard", "Its headers say MPEG-%d, and it is judged as MPEG-%d, as -%d asks. Leave that out to have it "
+            "judged by its headers.", in->standard, standard, standard);
+}
+
+int spoils_model(const struct answer *a)
+{
+    return a->look.repeats > 0 || a->declared.rate_extensions != 0;
 }
 
 void find_cautions(const struct input *in, uint8_t standard, const struct answer *a, struct cautions *c)
@@ -112,7 +149,8 @@ void find_cautions(const struct input *in, uint8_t standard, const struct answer
     if (in->damaged > 0)
         add(c, "damaged container", "Packets of the container that are damaged, or follow a lost one: %zu. Bytes of the video are "
             "missing or wrong.", in->damaged);
-    of_headers(&in->stream, standard, a, c);
+    of_standard(in, standard, c);
+    of_headers(in, standard, a, c);
     of_pictures(a, c);
-    of_end(&in->stream, standard, a, c);
+    of_end(in, standard, &a->look, c);
 }

@@ -11,7 +11,7 @@ struct caution {
     char words[240];
 };
 
-enum { MOST_CAUTIONS = 8 };
+enum { MOST_CAUTIONS = 10 };
 
 struct cautions {
     struct caution of[MOST_CAUTIONS];
@@ -19,5 +19,8 @@ struct cautions {
 };
 
 void find_cautions(const struct input *in, uint8_t standard, const struct answer *a, struct cautions *c);
+
+/* Whether a caution says that a set's times are not the model's, so that nothing is promised of its buffer. */
+int spoils_model(const struct answer *a);
 
 #endif

@@ -1,6 +1,7 @@
 #include "container.h"
 
 #include "hipokuta.h"
+#include "shell.h"
 
 #include <stdio.h>
 #include <stdlib.h>
@@ -32,6 +33,7 @@ static const struct {
     { 0, "\x89PNG", { "PNG picture", NULL, NULL } },
     { 0, "\xFF\xD8\xFF", { "JPEG picture", NULL, NULL } },
     { 0, "%PDF", { "PDF file", NULL, NULL } },
+    { 257, "ustar", { "tar file", NULL, NULL } },
 };
 
 /* Transport packets are looked for this far from the front; pack headers further. */
@@ -49,13 +51,22 @@ static int packets_at(const struct stream *s, size_t at, size_t size)
     return found == SYNCS || (found >= 3 && at >= s->length);
 }
 
-/* Packets of 188 bytes, also with a time stamp before or a checksum after each. */
+/* Bytes from one packet to the next where packets begin: of 188 bytes, also with a time stamp before or a checksum after each; 0
+ * where none do. `at` is set to the first's place. */
+static size_t find_packets(const struct stream *s, size_t *at)
+{
+    static const size_t sizes[] = { 188, 192, 204 };
+    for (*at = 0; *at < s->length && *at < PACKETS_WITHIN; ++*at)
+        for (size_t i = 0; i < sizeof sizes / sizeof *sizes; i++)
+            if (packets_at(s, *at, sizes[i]))
+                return sizes[i];
+    return 0;
+}
+
 static int is_transport(const struct stream *s)
 {
-    for (size_t at = 0; at < s->length && at < PACKETS_WITHIN; at++)
-        if (packets_at(s, at, 188) || packets_at(s, at, 192) || packets_at(s, at, 204))
-            return 1;
-    return 0;
+    size_t at;
+    return find_packets(s, &at) != 0;
 }
 
 /* A pack header with another system code right after it. */
@@ -69,11 +80,35 @@ static int is_pack(const struct stream *s, size_t at)
     return next == length && code_at(&after, next) >= SYSTEM;
 }
 
+/* Where the packet of a program stream at `at` ends, zero bytes before it passed over; `at` itself where none stands there. */
+static size_t packet_end(const struct stream *s, size_t at)
+{
+    size_t from = at;
+    while (from < s->length && s->bytes[from] == 0)
+        from++;
+    from -= from < s->length && from >= at + 2 ? 2 : 0;
+    struct stream p = part(s, from, s->length);
+    if (p.length < PACK_BYTES)
+        return s->length;
+    if (memcmp(p.bytes, "\0\0\1", 3) != 0 || code_at(&p, 0) < SYSTEM)
+        return at;
+    if (code_at(&p, 0) == PACK)
+        return from + ((p.bytes[4] & 0xC0) == 0x40 ? PACK_BYTES + (p.bytes[13] & 7u) : OLD_PACK_BYTES);
+    return from + (code_at(&p, 0) == SYSTEM ? CODE_BYTES : 6 + 256u * p.bytes[4] + p.bytes[5]);
+}
+
+/* A packet of a program stream at the front, and another right after it; some recorders write no packs. */
+static int are_packets(const struct stream *s)
+{
+    size_t end = packet_end(s, 0);
+    return end > 0 && end + PACK_BYTES <= s->length && packet_end(s, end) > end;
+}
+
 static int is_program(const struct stream *s)
 {
     struct stream front = part(s, 0, s->length < PACKS_WITHIN ? s->length : PACKS_WITHIN);
     size_t at = next_code(&front, 0);
-    if (code_at(&front, at) >= SYSTEM)
+    if (at == 0 && (code_at(&front, at) == PACK || are_packets(&front)))
         return 1;
     while (at < front.length && !is_pack(&front, at))
         at = next_code(&front, at + CODE_BYTES);
@@ -104,6 +139,16 @@ uint8_t told_standard(const struct stream *s)
     return sequence < s->length && code >= 0 ? VBV_MPEG1 : 0;
 }
 
+/* That it is a container, and none that is taken apart. */
+static int closed(const struct container *c, struct input *in)
+{
+    return add_why(in, "%s, not an MPEG video stream, and none can be taken out. Give the video stream itself.", c->name);
+}
+
+#ifndef HAVE_AVFORMAT
+
+const char CONTAINERS[] = "without libavformat";
+
 /* A name without its ending; "video" for standard input. */
 static int stem(const char *name, const char **from)
 {
@@ -113,28 +158,31 @@ static int stem(const char *name, const char **from)
     return (int)(ends ? dot - name : (ptrdiff_t)strlen(*from));
 }
 
-/* What to do where the video cannot be taken out here. Returns 2. */
-static int way_out(const char *name, const struct container *c, const char *why)
+/* ffmpeg's word for the video: the first, or --stream's. */
+static const char *map_word(const char *which, char *text, size_t room)
 {
-    const char *from;
-    int length = stem(name, &from);
-    fprintf(stderr, "%s: %s: %s, not an MPEG video stream, %s. ", program, name, c->name, why);
-    if (c->format == NULL)
-        fprintf(stderr, "Give the video stream itself.\n");
+    char *end;
+    unsigned long n = which != NULL ? strtoul(which, &end, 0) : 1;
+    if (which != NULL && (strncmp(which, "0x", 2) == 0 || strncmp(which, "0X", 2) == 0))
+        snprintf(text, room, "0:i:0x%lx", n);
     else
-        fprintf(stderr, "Take the video out: ffmpeg -i %s -map 0:v -c copy -f mpeg2video %.*s.m2v\n", name, length, from);
-    return 2;
+        snprintf(text, room, "0:v:%lu", n > 0 ? n - 1 : 0);
+    return text;
 }
 
-#ifndef HAVE_AVFORMAT
-
-const char CONTAINERS[] = "without libavformat";
-
+/* The command that takes the video out. */
 int unpack(const char *name, const char *which, const struct container *c, struct input *in)
 {
-    (void)which;
-    (void)in;
-    return way_out(name, c, c->format == NULL ? "and none can be taken out" : "and this program was built without libavformat");
+    char from[WORD_BYTES], to[WORD_BYTES], path[4200], map[40];
+    const char *front;
+    int length = stem(name, &front);
+    if (c->format == NULL)
+        return closed(c, in);
+    snprintf(path, sizeof path, "%s%.*s.m2v", begins_like_option(name) ? "./" : "", length, front);
+    add_why(in, "%s, not an MPEG video stream, and this program was built without libavformat. Take the video out: ", c->name);
+    add_why(in, "ffmpeg -i %s -map %s -c copy -f mpeg2video %s", shell_word(name, from, sizeof from),
+            map_word(which, map, sizeof map), shell_word(path, to, sizeof to));
+    return which != NULL ? 2 : add_why(in, "   (0:v:1 takes the second video, if there are two)");
 }
 
 #else
@@ -175,23 +223,6 @@ static void count_error(void *context, int level, const char *format, va_list va
         if (faults != NULL)
             ++*faults;
     }
-}
-
-/* Where the packet of a program stream at `at` ends, zero bytes before it passed over; `at` itself where none stands there. */
-static size_t packet_end(const struct stream *s, size_t at)
-{
-    size_t from = at;
-    while (from < s->length && s->bytes[from] == 0)
-        from++;
-    from -= from < s->length && from >= at + 2 ? 2 : 0;
-    struct stream p = part(s, from, s->length);
-    if (p.length < PACK_BYTES)
-        return s->length;
-    if (memcmp(p.bytes, "\0\0\1", 3) != 0 || code_at(&p, 0) < SYSTEM)
-        return at;
-    if (code_at(&p, 0) == PACK)
-        return from + ((p.bytes[4] & 0xC0) == 0x40 ? PACK_BYTES + (p.bytes[13] & 7u) : OLD_PACK_BYTES);
-    return from + (code_at(&p, 0) == SYSTEM ? CODE_BYTES : 6 + 256u * p.bytes[4] + p.bytes[5]);
 }
 
 /* How often a program stream's packets do not follow one another; libavformat passes over that without a word. */
@@ -365,21 +396,40 @@ static int is_named(const struct track *t, size_t n, const char *which)
     return *which != 0 && *end == 0 && value == (hexadecimal ? number_of(t) : n);
 }
 
-static int list_choices(const char *name, const struct container *c, const struct tracks *t, const char *which)
+static int list_choices(const struct container *c, const struct tracks *t, const char *which, struct input *in)
 {
     size_t n = 0;
     char text[160];
     if (which != NULL)
-        fprintf(stderr, "%s: %s: there is no video stream %s in it; choose one:\n", program, name, which);
+        add_why(in, "there is no MPEG video stream %s in it; choose one (only MPEG videos are counted):", which);
     else
-        fprintf(stderr, "%s: %s: there are several video streams in it; choose one:\n", program, name);
+        add_why(in, "there are several MPEG video streams in it; choose one:");
     for (size_t i = 0; i < t->count; i++) {
         if (is_choice(t->of + i)) {
             describe(c, t->of + i, text, sizeof text);
-            fprintf(stderr, "  --stream %zu   %s, %zu bytes\n", ++n, text, t->of[i].length);
+            add_why(in, "\n  --stream %zu   %s, %zu bytes", ++n, text, t->of[i].length);
         }
     }
     return 2;
+}
+
+/* Whether packets of a transport stream are scrambled. */
+static int is_scrambled(const struct stream *s)
+{
+    size_t at, size = find_packets(s, &at), scrambled = 0;
+    for (; size > 0 && at + 4 <= s->length; at += size)
+        scrambled += s->bytes[at] == SYNC && (s->bytes[at + 3] & 0xC0) != 0;
+    return scrambled > 0;
+}
+
+/* What there is in place of MPEG video. */
+static int no_video(const struct container *c, const struct track *other, struct input *in)
+{
+    if (other != NULL)
+        return add_why(in, "%s, its video %s; only MPEG-1 and MPEG-2 video can be taken", c->name, other->codec);
+    if (c == &TRANSPORT && is_scrambled(&in->stream))
+        return add_why(in, "%s, its packets scrambled, so that no video can be read. Record it unscrambled.", c->name);
+    return add_why(in, "%s, and no video is in it. Give the recording that has the video.", c->name);
 }
 
 /* Hands over one track's bytes. */
@@ -393,28 +443,23 @@ static void hand_over(const struct container *c, struct track *t, size_t faults,
     t->bytes = NULL;
 }
 
-static int choose(const char *name, const char *which, const struct container *c, struct tracks *t, struct input *in)
+static int choose(const char *which, const struct container *c, struct tracks *t, struct input *in)
 {
-    size_t choices = 0, other = t->count;
-    struct track *chosen = NULL;
+    size_t choices = 0;
+    struct track *chosen = NULL, *other = NULL;
     for (size_t i = 0; i < t->count; i++) {
         if (!is_choice(t->of + i)) {
-            other = t->of[i].length > 0 ? i : other;
+            other = t->of[i].length > 0 ? t->of + i : other;
             continue;
         }
         choices++;
         if (which == NULL || is_named(t->of + i, choices, which))
             chosen = t->of + i;
     }
-    if (choices == 0 && other < t->count) {
-        fprintf(stderr, "%s: %s: %s, its video %s; only MPEG-1 and MPEG-2 video can be taken\n", program, name, c->name,
-                t->of[other].codec);
-        return 2;
-    }
     if (choices == 0)
-        return way_out(name, c, "and no video was found in it");
+        return no_video(c, other, in);
     if (chosen == NULL || (which == NULL && choices > 1))
-        return list_choices(name, c, t, which);
+        return list_choices(c, t, which, in);
     hand_over(c, chosen, t->faults, in);
     return 0;
 }
@@ -423,13 +468,14 @@ int unpack(const char *name, const char *which, const struct container *c, struc
 {
     struct source_bytes from = { in->stream, 0 };
     struct tracks t = { NULL, 0, 0 };
+    (void)name;
     if (c->format == NULL)
-        return way_out(name, c, "and none can be taken out");
+        return closed(c, in);
     av_log_set_callback(count_error);
     AVFormatContext *f = open_container(c, &from, &t.faults);
     if (f == NULL)
-        return way_out(name, c, "and libavformat cannot read it");
-    int status = take_packets(f, &t) != 0 ? trouble(name, "no memory for its video") : choose(name, which, c, &t, in);
+        return add_why(in, "%s that cannot be read: it is cut off or damaged. Give the whole recording.", c->name);
+    int status = take_packets(f, &t) != 0 ? add_why(in, "no memory for its video") : choose(which, c, &t, in);
     close_container(f);
     for (size_t i = 0; i < t.count; i++)
         free(t.of[i].bytes);

@@ -17,7 +17,7 @@ extern const char CONTAINERS[];
 /* The container that the bytes are; NULL for an elementary stream, or for what cannot be told. */
 const struct container *container_of(const struct stream *s);
 
-/* Takes the video out of the container that `in` holds, in place of it. Returns 0, or 2 with the trouble told. */
+/* Takes the video out of the container that `in` holds, in place of it. Returns 0, or 2 with in->why. */
 int unpack(const char *name, const char *which, const struct container *c, struct input *in);
 
 /* MPEG-2 where an extension follows the first sequence header, or with no sequence header the first picture header: MPEG-1 has no

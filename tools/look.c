@@ -2,7 +2,8 @@
 
 #include "hipokuta.h"
 
-static const struct field WIDTH = { 32, 12 }, HEIGHT = { 44, 12 }, LOAD_MATRIX = { 94, 1 }, LOAD_SECOND = { 95, 1 };
+static const struct field WIDTH = { 32, 12 }, HEIGHT = { 44, 12 }, ASPECT = { 56, 4 }, MARKER = { 82, 1 };
+static const struct field LOAD_MATRIX = { 94, 1 }, LOAD_SECOND = { 95, 1 };
 static const struct field WIDTH_EXTENSION = { 47, 2 }, HEIGHT_EXTENSION = { 49, 2 };
 static const struct field EXTRA_BIT = { 61, 1 };
 
@@ -69,6 +70,7 @@ static void begin_picture(struct walk *w, size_t at)
 {
     struct look *l = w->l;
     l->last = shown_at(w, at);
+    l->in_force = l->latest;
     l->last_slice = 0;
     l->early += l->sequence == w->s->length;
     l->repeats += l->last.repeats;
@@ -93,6 +95,7 @@ static int same_declared(struct declared a, struct declared b)
 static void take_sequence(struct walk *w, size_t at)
 {
     struct look *l = w->l;
+    l->latest = at;
     if (l->sequence == w->s->length) {
         l->sequence = at;
     } else if (!same_declared(declared_at(w->s, l->sequence, w->standard), declared_at(w->s, at, w->standard))) {
@@ -118,7 +121,7 @@ void look(const struct stream *s, uint8_t standard, struct look *l, struct shown
 {
     struct walk w = { s, standard, OUTSIDE, l, of };
     size_t none = s->length;
-    *l = (struct look){ .first_code = none, .sequence = none, .change = none, .last_code = none, .end_code = none };
+    *l = (struct look){ .sequence = none, .change = none, .latest = none, .in_force = none, .last_code = none, .end_code = none };
     l->first_code = next_code(s, 0);
     for (size_t at = l->first_code; at < s->length; at = next_code(s, at + CODE_BYTES)) {
         int code = s->bytes[at + 3];
@@ -168,6 +171,33 @@ struct declared declared_at(const struct stream *s, size_t sequence, uint8_t sta
     d.bit_rate *= RATE_UNIT;
     d.buffer_bits *= BUFFER_UNIT;
     return d;
+}
+
+/* The code that follows a header which ends at byte `end`, zero bytes between them passed over; -1 where none does. */
+static int code_after(const struct stream *s, size_t end)
+{
+    size_t at = end < s->length ? prefix_after(s, end) : s->length;
+    return at + CODE_BYTES <= s->length ? code_at(s, at) : -1;
+}
+
+int is_sound_sequence(const struct stream *s, size_t at)
+{
+    struct stream h = part(s, at, s->length);
+    if (code_at(&h, 0) != SEQUENCE)
+        return 0;
+    uint32_t aspect = field_value(&h, ASPECT), rate = field_value(&h, FRAME_RATE_CODE);
+    int code = code_after(&h, sequence_length(&h, 0, VBV_MPEG1));
+    return field_value(&h, WIDTH) != 0 && field_value(&h, HEIGHT) != 0 && aspect != 0 && aspect != 15 && rate >= 1 && rate <= 8 &&
+           field_value(&h, MARKER) == 1 && (code == EXTENSION || code == USER_DATA || code == GROUP || code == PICTURE);
+}
+
+int is_sound_picture(const struct stream *s, size_t at)
+{
+    struct stream p = part(s, at, s->length);
+    if (code_at(&p, 0) != PICTURE || type_letter((uint8_t)field_value(&p, PICTURE_CODING_TYPE)) == '?')
+        return 0;
+    int code = code_after(&p, picture_header_length(&p));
+    return coding_extension(&p).length > 0 || code == USER_DATA || code == FIRST_SLICE;
 }
 
 char type_letter(uint8_t type)

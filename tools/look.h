@@ -19,6 +19,7 @@ struct look {
     size_t pictures, early;      /* early: before the first sequence header */
     size_t repeats;              /* pictures that repeat a field */
     size_t changes, change;      /* later sequence headers that say something else, and the first of them */
+    size_t latest, in_force;     /* the last sequence header, and the last one before the last picture */
     size_t last_code;
     struct shown last;           /* the last picture */
     int last_slice;              /* its last slice's code; 0 for none */
@@ -38,6 +39,12 @@ struct declared declared_at(const struct stream *s, size_t sequence, uint8_t sta
 /* Bytes of a sequence header with its matrices; with its extension for MPEG-2, from the header's start code on. Not beyond
  * the stream. */
 size_t sequence_length(const struct stream *s, size_t sequence, uint8_t standard);
+
+/* Whether a sequence header stands at a place that its maker could have written, with a header that may follow right after it;
+ * and such a picture header, with an extension, user data or the first row's slice after it. Other files have stray start codes,
+ * but not these. */
+int is_sound_sequence(const struct stream *s, size_t at);
+int is_sound_picture(const struct stream *s, size_t at);
 
 /* 'I', 'P', 'B' or 'D'; '?' for a type that is none. */
 char type_letter(uint8_t type);

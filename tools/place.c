@@ -34,7 +34,7 @@ struct question {
     struct answer *a;
 };
 
-/* The verdict about a part alone. */
+/* Only the verdict, about a part. */
 static uint64_t verdict(const struct stream *s, uint8_t standard)
 {
     struct vbv_report report;
@@ -118,7 +118,7 @@ static const char *bad_sequence(const struct question *q)
     return is_header_refusal(verdict(&both, q->standard)) ? "sequence extension" : NULL;
 }
 
-/* Whether the header alone of a picture is refused: as MPEG-1, which has no extension, behind the sequence header. */
+/* Whether it is the header of a picture that is refused: as MPEG-1, which has no extension, behind the sequence header. */
 static int is_bad_header(const struct question *q, const struct shown *p)
 {
     const struct look *l = &q->a->look;

@@ -1,5 +1,5 @@
-/* The library's answer about a stream; and of a refused one where, when and by how much. The library tells pictures for some
- * refusals alone. But it takes headers and pictures in the stream's order, so a stream that is cut after a picture is answered as
+/* The library's answer about a stream; and of a refused one where, when and by how much. The library tells pictures only for
+ * some refusals. But it takes headers and pictures in the stream's order, so a stream that is cut after a picture is answered as
  * the whole is up to there, and asking about such parts finds the first that is refused. */
 #ifndef PLACE_H
 #define PLACE_H

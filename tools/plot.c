@@ -89,7 +89,8 @@ static void set_time(struct sheet *s)
     if (d->to > d->from) {
         s->missed = !(d->from <= last && d->to > 0);
         s->from = s->missed ? 0 : within(d->from, 0, last);
-        s->until = s->missed ? s->until : within(d->to, s->from + LEAST_SECONDS, s->until);
+        if (!s->missed)
+            s->until = within(d->to, s->from + LEAST_SECONDS, last + within((last - s->from) * .01, LEAST_SECONDS, MOST_SECONDS));
     }
     while (s->first < all && removal(d, s->first)->seconds < s->from)
         s->first++;
@@ -317,7 +318,7 @@ static int has_letter(const struct removal *r, int all)
     return r->type == 'I' || (all && (r->type == 'P' || r->type == 'B' || r->type == 'D'));
 }
 
-/* Whether letters have room, for all pictures or for I pictures alone. */
+/* Whether letters have room, for all pictures or only for I pictures. */
 static int have_room(const struct sheet *s, int all)
 {
     double last = s->left - LETTER;
@@ -334,7 +335,7 @@ static int have_room(const struct sheet *s, int all)
 
 static void letters(const struct sheet *s, int all)
 {
-    fprintf(s->to, "<g id='types' text-anchor='middle' font-size='11' fill='#444'>\n");
+    fprintf(s->to, "<g id='types' text-anchor='middle' font-family='serif' font-size='12' fill='#444'>\n");
     for (size_t n = s->first; n < s->end; n++) {
         const struct removal *r = removal(s->d, n);
         if (has_letter(r, all))
@@ -420,6 +421,12 @@ static double entry(const struct sheet *s, double x, double y, const char *words
     return x + text_width(words, LETTERS) + 24;
 }
 
+/* Whether the refused picture goes beyond the field. */
+static int is_cut(const struct sheet *s)
+{
+    return s->d->bad.before > s->highest || s->d->bad.after < s->lowest;
+}
+
 /* The first line of the legend: what is drawn. */
 static void legend(const struct sheet *s, const char *types)
 {
@@ -436,7 +443,7 @@ static void legend(const struct sheet *s, const char *types)
         x = entry(s, x, y, types);
     if (shows_refused(s)) {
         fprintf(s->to, "<path stroke='#c00' stroke-width='2.5' d='M%.2f %.2fl10 10m0 -10l-10 10'/>\n", x, y - 5);
-        entry(s, x + 18, y, "refused picture");
+        entry(s, x + 18, y, is_cut(s) ? "refused picture; what is beyond is cut" : "refused picture");
     }
 }
 
@@ -477,7 +484,7 @@ static void content(const struct sheet *s)
     }
     if (shows_refused(s))
         mark(s);
-    legend(s, all ? "I, P, B: types of the pictures" : some ? "I: I pictures" : NULL);
+    legend(s, all ? "I, P, B on top: types of the pictures" : some ? "I on top: an I picture" : NULL);
 }
 
 void plot(FILE *to, const struct drawing *d)

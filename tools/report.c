@@ -9,12 +9,17 @@ static void print_share(const char *name, uint64_t bits, uint64_t buffer, const 
     printf("  %-12s %12" PRIu64 "  bits: %s (%.1f %% of the buffer)\n", name, bits, words, percent);
 }
 
-void print_report(const struct vbv_report *r)
+void print_numbers(const struct vbv_report *r)
 {
     printf("  %-12s %12" PRIu64 "  bits a second\n", "bit_rate", r->bit_rate);
     printf("  %-12s %12" PRIu64 "  bits: what the set's buffer holds\n", "buffer_bits", r->buffer_bits);
     printf("  %-12s %12" PRIu64 "\n", "pictures", r->pictures);
     print_share("min_after", r->min_after, r->buffer_bits, "the least left after a removal");
     print_share("max_before", r->max_before, r->buffer_bits, "the most held before a removal");
+}
+
+void print_report(const struct vbv_report *r)
+{
+    print_numbers(r);
     printf("  By the model, a set with this buffer never overflows and never runs dry on this stream.\n");
 }

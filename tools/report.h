@@ -4,6 +4,8 @@
 
 #include "hipokuta.h"
 
+/* The numbers; and below them what an accepted stream is promised. */
+void print_numbers(const struct vbv_report *r);
 void print_report(const struct vbv_report *r);
 
 #endif

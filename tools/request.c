@@ -3,6 +3,7 @@
 
 #include "container.h"
 #include "hipokuta.h"
+#include "shell.h"
 
 #include <getopt.h>
 #include <inttypes.h>
@@ -185,26 +186,10 @@ int read_words(int count, char **words, struct request *r)
     return GO;
 }
 
-/* A word as a shell takes it: in quotes, where it has to be. */
 static void print_word(const char *word)
 {
-    static const char plain[] = "abcdefghijklmnopqrstuvwxyzABCDEFGHIJKLMNOPQRSTUVWXYZ0123456789%+,-./:=@_";
-    if (*word != 0 && strspn(word, plain) == strlen(word)) {
-        printf(" %s", word);
-        return;
-    }
-    printf(" '");
-    for (; *word != 0; word++)
-        if (*word == '\'')
-            printf("'\\''");
-        else
-            putchar(*word);
-    printf("'");
-}
-
-static int begins_like_option(const char *name)
-{
-    return name != NULL && name[0] == '-' && name[1] != 0;
+    char text[WORD_BYTES];
+    printf(" %s", shell_word(word, text, sizeof text));
 }
 
 void print_command(const struct request *r, struct setting at)

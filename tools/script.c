@@ -35,6 +35,13 @@ static void string(const char *text)
     putchar('"');
 }
 
+/* A picture's type; null for one that is none. */
+static const char *json_type(uint8_t type)
+{
+    static const char *const types[] = { "null", "\"I\"", "\"P\"", "\"B\"", "\"D\"" };
+    return type < sizeof types / sizeof *types ? types[type] : types[0];
+}
+
 static void json_pictures(const struct answer *a)
 {
     struct times times = { a, 0, 0 };
@@ -43,8 +50,8 @@ static void json_pictures(const struct answer *a)
     for (size_t n = 0; n < a->recorded; n++) {
         const struct vbv_record *r = a->records + n;
         struct bits at = next_time(&times);
-        printf("%s{\"picture\":%zu,\"byte\":%zu,\"time\":\"%s\",\"seconds\":%.6f,\"type\":\"%c\"", n > 0 ? "," : "", n, a->shown[n].at,
-               clock_time(at, a->declared.bit_rate, time), in_seconds(at, a->declared.bit_rate), type_letter(a->shown[n].type));
+        printf("%s{\"picture\":%zu,\"byte\":%zu,\"time\":\"%s\",\"seconds\":%.6f,\"type\":%s", n > 0 ? "," : "", n, a->shown[n].at,
+               clock_time(at, a->declared.bit_rate, time), in_seconds(at, a->declared.bit_rate), json_type(a->shown[n].type));
         printf(",\"delay\":%" PRIu64 ",\"expected\":%" PRIu64 ",\"data_bits\":%" PRIu64 ",\"before\":%" PRIu64 ",\"after\":%" PRIu64
                "}", r->delay, r->expected, r->data_bits, r->occupancy_before, r->occupancy_before - r->data_bits);
     }
@@ -73,7 +80,7 @@ static void json_place(const struct told *t)
     else
         printf(",\"byte\":null");
     if (p->in_picture)
-        printf(",\"picture\":%zu,\"type\":\"%c\"", p->picture, type_letter(a->shown[p->picture].type));
+        printf(",\"picture\":%zu,\"type\":%s", p->picture, json_type(a->shown[p->picture].type));
     else
         printf(",\"picture\":null,\"type\":null");
     if (p->timed)
@@ -136,11 +143,13 @@ void print_json(const struct told *t, int records)
     printf("}\n");
 }
 
-void print_json_trouble(const char *name)
+void print_json_trouble(const char *name, const char *why)
 {
     printf("{\"file\":");
     string(name);
-    printf(",\"verdict\":\"trouble\"}\n");
+    printf(",\"verdict\":\"trouble\",\"cause\":");
+    string(why);
+    printf("}\n");
 }
 
 /* A name in CSV, in quotes where it needs them. */
@@ -156,6 +165,16 @@ static void csv_name(const char *name)
     }
     if (quoted)
         putchar('"');
+}
+
+void print_csv_trouble(const char *name, const char *why)
+{
+    char text[sizeof((struct input *)0)->why + 16];
+    snprintf(text, sizeof text, "trouble: %s", why);
+    csv_name(name);
+    printf(",,,,,,,,,,");
+    csv_name(text);
+    printf("\n");
 }
 
 void print_csv_names(void)

@@ -111,9 +111,19 @@ size_t picture_codes(const struct stream *s)
     return count;
 }
 
+void put_name(FILE *to, const char *name)
+{
+    for (; *name != 0; name++) {
+        unsigned char c = (unsigned char)*name;
+        fprintf(to, c < ' ' || c == 0x7F ? "\\x%02x" : "%c", c);
+    }
+}
+
 int trouble(const char *name, const char *what)
 {
-    fprintf(stderr, "%s: %s: %s\n", program, name, what);
+    fprintf(stderr, "%s: ", program);
+    put_name(stderr, name);
+    fprintf(stderr, ": %s\n", what);
     return 2;
 }
 

@@ -5,6 +5,7 @@
 
 #include <stddef.h>
 #include <stdint.h>
+#include <stdio.h>
 
 struct stream {
     const uint8_t *bytes;
@@ -59,6 +60,9 @@ size_t picture_codes(const struct stream *s);
 
 /* Each program's own name. */
 extern const char program[];
+
+/* A file's name for people to read, its control characters as \x1b. */
+void put_name(FILE *to, const char *name);
 
 /* What ails a file, on standard error; returns 2, the exit status for it. */
 int trouble(const char *name, const char *what);

@@ -4,6 +4,7 @@
 #include "container.h"
 #include "hipokuta.h"
 #include "input.h"
+#include "label.h"
 #include "place.h"
 #include "plot.h"
 #include "script.h"
@@ -24,24 +25,30 @@ const char program[] = "vbvreport";
 enum { ACCEPTED = 0, REFUSED = 1, TROUBLE = 2, CAUTIONS = 3 };
 enum form { WORDS, JSON, CSV };
 
+/* After any stream's end. */
+static const double LAST_SECOND = 1e15;
+
 static const char help[] =
-    "usage: vbvreport [-1|-2] [-r] [-p PLOT.svg [--from T] [--to T]] [--json|--csv] [--strict] [--stream N] FILE..\n"
+    "usage: vbvreport [-1|-2] [-r] [-p PLOT.svg [--from T] [--to T]] [--json|--csv] [--strict] [--stream N] FILE...\n"
     "\n"
     "Checks the MPEG video stream in each FILE against the buffer model of ISO/IEC 13818-2, Annex C, at a constant rate, and\n"
     "prints the buffer report; or the first refusal, where in the stream it is, and what it means for the cabin set. FILE is an\n"
     "elementary stream, or a transport or program stream or another container (where this was built with libavformat); - is\n"
-    "standard input. Cautions below the verdict tell of what the check does not read (docs/DIFFERENCES.md) and of signs that\n"
-    "the stream is not whole.\n"
+    "standard input. Cautions below the verdict tell of what the check does not read, such as repeated fields, and of signs\n"
+    "that the stream is not whole.\n"
     "\n"
     "  -1, -2             the stream is MPEG-1, MPEG-2. Without either its headers tell.\n"
     "  -r, --records      lists a record for each picture: coded and expected delay in ticks of 1/90,000 s, bits of data, and\n"
     "                     bits in the buffer just before the picture is removed; of a refused stream, up to the refused picture.\n"
-    "  -p, --plot PLOT.svg  draws what the buffer holds before and after each removal, up to the refused picture if there is one.\n"
-    "  --from T, --to T   draws this part only; T in seconds, or as mm:ss.mmm.\n"
+    "  -p, --plot PLOT.svg  draws what the buffer holds before and after each removal, up to the refused picture if there is one;\n"
+    "                     to standard output where PLOT.svg is -, and what else is printed then goes to standard error.\n"
+    "  --from T, --to T   draws this part only, from the start or to the end where one is left out; T in seconds, or as mm:ss.mmm\n"
+    "                     or h:mm:ss.mmm.\n"
     "  --json             an object for each file, in a line; with the pictures under -r.\n"
-    "  --csv              a line for each picture; the refused one's is the last, and marked.\n"
+    "  --csv              a line for each picture; the refused one's is the last, and marked. Both also tell of a file that\n"
+    "                     gets no answer, and why.\n"
     "  --strict           exit status 3 where a stream is accepted with cautions.\n"
-    "  --stream N         the N-th video stream of a container, from 1, or its PID as 0x101.\n"
+    "  --stream N         the N-th MPEG video of a container, from 1 (others are not counted), or its PID as 0x101.\n"
     "  --version          prints the version.\n"
     "  -h, --help         prints this.\n"
     "\n"
@@ -53,7 +60,8 @@ struct options {
     int records, strict;
     enum form form;
     const char *picture, *which;
-    double from, to;
+    double from, to; /* to: less than 0 for the end */
+    FILE *canvas;    /* standard output, where the drawing goes there; else NULL */
 };
 
 /* The file that is worked on, and whether that was said, for the signal handler. */
@@ -114,15 +122,32 @@ static void fill_removals(const struct answer *a, struct removal *of)
     }
 }
 
+static const char *verdict_words(const struct told *t)
+{
+    return t->answer->number != 0 ? "refused" : t->cautions->count > 0 ? "accepted, with cautions" : "accepted";
+}
+
+/* The refusal with its amount, or the delays that differ; the picture, and when it is due. */
+static const char *mark_words(const struct answer *a, const struct removal *bad, char *text, size_t room)
+{
+    char line[120], delays[120] = "", coded[LABEL_BYTES], expected[LABEL_BYTES], picture[LABEL_BYTES], at[LABEL_BYTES];
+    if (a->number == VBV_DELAY_MISMATCH)
+        snprintf(delays, sizeof delays, ", coded %s, expected %s", grouped(a->refusal.coded, coded),
+                 grouped(a->refusal.expected, expected));
+    snprintf(text, room, "%s%s: picture %s, at %s", refusal_line(a, line, sizeof line), delays, grouped(bad->picture, picture),
+             clocked(bad->seconds, 3, at));
+    return text;
+}
+
 /* Draws to an open file. Returns 0, or 2 with the trouble told. */
 static int draw_to(FILE *file, const struct told *t, const struct options *o)
 {
     const struct answer *a = t->answer;
-    char rate[TEXT], mark[120];
+    char rate[TEXT], mark[300];
     struct removal *of = calloc(a->recorded + 1, sizeof *of);
-    struct drawing d = { .name = t->name, .verdict = a->number == 0 ? "accepted" : "refused", .bit_rate = a->declared.bit_rate,
+    struct drawing d = { .name = t->name, .verdict = verdict_words(t), .bit_rate = a->declared.bit_rate,
                          .buffer_bits = a->declared.buffer_bits, .frame_rate = rate, .of = of, .count = a->recorded,
-                         .from = o->from, .to = o->to };
+                         .from = o->from, .to = o->to >= 0 ? o->to : o->from > 0 ? LAST_SECOND : 0 };
     if (of == NULL)
         return trouble(o->picture, "no memory for the drawing");
     if (rate_under(a->declared.rate_code) > 1)
@@ -131,25 +156,41 @@ static int draw_to(FILE *file, const struct told *t, const struct options *o)
         snprintf(rate, sizeof rate, "%" PRIu64, rate_over(a->declared.rate_code));
     fill_removals(a, of);
     if (a->number != 0 && bad_removal(a, &d.bad))
-        d.mark = refusal_line(a, mark, sizeof mark);
+        d.mark = mark_words(a, &d.bad, mark, sizeof mark);
     plot(file, &d);
     free(of);
     return 0;
+}
+
+/* Of two statuses, the one that is told: 2 over 1 over 3 over 0. */
+static int worse(int a, int b)
+{
+    static const int order[] = { [ACCEPTED] = 0, [CAUTIONS] = 1, [REFUSED] = 2, [TROUBLE] = 3 };
+    return order[a] >= order[b] ? a : b;
+}
+
+/* Why there is nothing to draw; a drawing that is there already is left, and that is said. Returns the status for it. */
+static int not_drawn(const struct options *o)
+{
+    int older = o->canvas == NULL && access(o->picture, F_OK) == 0;
+    trouble(o->picture, older ? "not drawn: the refusal leaves no picture whose time is known; the older file of this name stays"
+                              : "not drawn: the refusal leaves no picture whose time is known");
+    return ACCEPTED;
 }
 
 static int draw(const struct told *t, const struct options *o)
 {
     struct removal bad;
     if (t->answer->recorded == 0 && (t->answer->number == 0 || !bad_removal(t->answer, &bad)))
-        return trouble(o->picture, "not drawn: the refusal leaves no picture whose time is known");
-    if (same_file(t->name, o->picture))
+        return not_drawn(o);
+    if (o->canvas == NULL && same_file(t->name, o->picture))
         return trouble(o->picture, "the same file as the stream");
-    FILE *file = fopen(o->picture, "w");
+    FILE *file = o->canvas != NULL ? o->canvas : fopen(o->picture, "w");
     if (file == NULL)
         return trouble(o->picture, strerror(errno));
     int status = draw_to(file, t, o), unwritten = ferror(file);
     if (fclose(file) != 0 || unwritten)
-        return trouble(o->picture, "cannot be written");
+        return trouble(o->canvas != NULL ? "standard output" : o->picture, "cannot be written");
     return status;
 }
 
@@ -163,26 +204,44 @@ static int tell(const struct told *t, const struct options *o)
         print_csv(t);
     else
         print_words(t, o->records);
-    if (o->picture != NULL && draw(t, o) != 0 && a->number == 0)
-        status = TROUBLE;
-    return status;
+    return o->picture != NULL ? worse(status, draw(t, o)) : status;
 }
 
-/* Asks the library about what was taken in, and tells its answer. */
+/* A file that gets no answer, for scripts. */
+static int no_answer(const char *name, const char *why, const struct options *o)
+{
+    if (o->form == JSON)
+        print_json_trouble(name, why);
+    else if (o->form == CSV)
+        print_csv_trouble(name, why);
+    return TROUBLE;
+}
+
+/* Asks the library about what was taken in. Returns NULL, or why there is no answer. */
+static const char *asked(const struct input *in, uint8_t standard, const struct options *o, struct answer *a)
+{
+    if (standard == 0)
+        return "its headers do not tell its standard; say -1 (MPEG-1) or -2 (MPEG-2)";
+    if (ask(&in->stream, standard, o->records || o->picture != NULL || o->form == CSV, a) != 0)
+        return "no memory for its pictures";
+    if (a->number != 0 && (a->number >= VBV_RECORD_PLACES || vbv_refusal_name(a->number) == NULL))
+        return "the library gave a refusal that no stream can cause";
+    return NULL;
+}
+
 static int check(const char *name, const struct input *in, const struct options *o)
 {
-    struct answer a;
+    struct answer a = { .number = 0 };
     struct cautions cautions;
     uint8_t standard = o->standard != 0 ? o->standard : in->standard;
+    const char *why = asked(in, standard, o, &a);
     int status;
-    if (standard == 0)
-        return trouble(name, "its headers do not tell its standard; say -1 (MPEG-1) or -2 (MPEG-2)");
-    if (ask(&in->stream, standard, o->records || o->picture != NULL || o->form == CSV, &a) != 0) {
-        status = trouble(name, "no memory for its pictures");
-    } else if (a.number != 0 && (a.number >= VBV_RECORD_PLACES || vbv_refusal_name(a.number) == NULL)) {
-        status = trouble(name, "the library gave a refusal that no stream can cause");
+    if (why != NULL) {
+        end_progress();
+        trouble(name, why);
+        status = no_answer(name, why, o);
     } else {
-        struct told t = { name, in, standard, &a, &cautions };
+        struct told t = { name, o->which, in, standard, &a, &cautions };
         find_cautions(in, standard, &a, &cautions);
         end_progress();
         status = tell(&t, o);
@@ -195,45 +254,42 @@ static int check_file(const char *name, const struct options *o)
 {
     struct input in;
     start_progress(name);
-    int status = take_in(name, o->which, &in);
+    int status = take_in_as(name, o->which, o->standard, &in);
     if (status == 0) {
         status = check(name, &in, o);
         let_go(&in);
+    } else {
+        no_answer(name, in.why, o);
     }
     end_progress();
-    if (status == TROUBLE && o->form == JSON)
-        print_json_trouble(name);
     return status;
-}
-
-/* Of two statuses, the one that is told: 2 over 1 over 3 over 0. */
-static int worse(int a, int b)
-{
-    static const int order[] = { [ACCEPTED] = 0, [CAUTIONS] = 1, [REFUSED] = 2, [TROUBLE] = 3 };
-    return order[a] >= order[b] ? a : b;
 }
 
 static int bad_use(const char *what)
 {
     fprintf(stderr, "vbvreport: %s\n", what);
-    fprintf(stderr, "usage: vbvreport [-1|-2] [-r] [-p PLOT.svg] [--json|--csv] FILE..   (--help says more)\n");
+    fprintf(stderr, "usage: vbvreport [-1|-2] [-r] [-p PLOT.svg] [--json|--csv] FILE...   (--help says more)\n");
     return TROUBLE;
 }
 
-/* Seconds, or mm:ss.mmm; less than 0 for anything else. */
+/* Seconds, mm:ss.mmm or h:mm:ss.mmm; less than 0 for anything else. */
 static double seconds(const char *text)
 {
-    char *end;
-    if (*text == 0 || strspn(text, "0123456789:.") != strlen(text))
+    double value = 0;
+    if (strspn(text, "0123456789:.") != strlen(text))
         return -1;
-    double value = strtod(text, &end);
-    if (*end == ':') {
-        const char *rest = end + 1;
-        value = 60 * value + strtod(rest, &end);
-        if (end == rest)
+    for (int parts = 0; parts < 3; parts++) {
+        char *end;
+        double some = strtod(text, &end);
+        int last = *end != ':';
+        if (end == text || (parts > 0 && some >= 60) || (!last && memchr(text, '.', (size_t)(end - text)) != NULL))
             return -1;
+        value = 60 * value + some;
+        if (last)
+            return *end == 0 ? value : -1;
+        text = end + 1;
     }
-    return *end == 0 ? value : -1;
+    return -1;
 }
 
 enum { FROM = 256, TO, JSON_FORM, CSV_FORM, STRICT, STREAM, VERSION };
@@ -268,13 +324,26 @@ static const char *take_option(struct options *o, int option)
     if (option == FROM || option == TO) {
         double value = seconds(optarg);
         *(option == FROM ? &o->from : &o->to) = value;
-        return value < 0 ? "a time is in seconds, or mm:ss.mmm" : NULL;
+        return value < 0 ? "a time is in seconds, or mm:ss.mmm, or h:mm:ss.mmm" : NULL;
     }
     o->records |= option == 'r';
     o->strict |= option == STRICT;
     o->picture = option == 'p' ? optarg : o->picture;
     o->which = option == STREAM ? optarg : o->which;
-    return option == '?' ? "see --help" : NULL;
+    return NULL;
+}
+
+/* An option that there is not, or that wants a word after it. */
+static int bad_option(int option, char **words)
+{
+    char text[200];
+    if (option == ':')
+        snprintf(text, sizeof text, "%.80s: a word must follow", words[optind - 1]);
+    else if (optopt > 0 && optopt < FROM)
+        snprintf(text, sizeof text, "-%c: there is no such option; -- goes before a file whose name begins with -", optopt);
+    else
+        snprintf(text, sizeof text, "%.80s: there is no such option", words[optind - 1]);
+    return bad_use(text);
 }
 
 /* What is wrong with the options together; NULL for nothing. */
@@ -284,9 +353,11 @@ static const char *wrong(const struct options *o, int files)
         return "name a file, or - for standard input";
     if (files > 1 && o->picture != NULL)
         return "-p draws one file";
-    if ((o->from > 0 || o->to > 0) && o->picture == NULL)
+    if ((o->from > 0 || o->to >= 0) && o->picture == NULL)
         return "--from and --to are for -p";
-    return o->to > 0 && o->to <= o->from ? "--to must be after --from" : NULL;
+    if (o->form != WORDS && o->picture != NULL && strcmp(o->picture, "-") == 0)
+        return "-p - draws to standard output, where --json and --csv print: name a file";
+    return o->to >= 0 && o->to <= o->from ? "--to must be after --from" : NULL;
 }
 
 static int print(const char *text)
@@ -313,18 +384,40 @@ static int check_files(char **names, const struct options *o)
     return status;
 }
 
+/* Keeps standard output for the drawing; what is printed goes to standard error from now on. */
+static int keep_output(struct options *o)
+{
+    int kept = dup(STDOUT_FILENO);
+    if (kept < 0 || dup2(STDERR_FILENO, STDOUT_FILENO) < 0 || (o->canvas = fdopen(kept, "w")) == NULL)
+        return trouble("standard output", strerror(errno));
+    return 0;
+}
+
+/* Whether the word just read is one for help and nothing else: -dash.m2v is not. */
+static int asks_help(const char *word)
+{
+    return strcmp(word, "-h") == 0 || strncmp(word, "--", 2) == 0;
+}
+
 int main(int count, char **words)
 {
-    struct options o = { .form = WORDS };
+    struct options o = { .form = WORDS, .to = -1 };
     const char *why = NULL;
-    for (int option; (option = getopt_long(count, words, "12rp:h", long_options, NULL)) != -1;) {
+    opterr = 0;
+    for (int option; (option = getopt_long(count, words, ":12rp:h", long_options, NULL)) != -1;) {
         if (option == 'h')
-            return print(help);
+            return asks_help(words[optind - 1]) ? print(help) : bad_use("-h goes by itself");
         if (option == VERSION)
             return print_version();
+        if (option == '?' || option == ':')
+            return bad_option(option, words);
         const char *bad = take_option(&o, option);
         why = why != NULL ? why : bad;
     }
     why = why != NULL ? why : wrong(&o, count - optind);
-    return why != NULL ? bad_use(why) : check_files(words + optind, &o);
+    if (why != NULL)
+        return bad_use(why);
+    if (o.picture != NULL && strcmp(o.picture, "-") == 0 && keep_output(&o) != 0)
+        return TROUBLE;
+    return check_files(words + optind, &o);
 }

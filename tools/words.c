@@ -1,16 +1,32 @@
 #include "words.h"
 
+#include "label.h"
 #include "report.h"
+#include "shell.h"
 
 #include <inttypes.h>
 #include <stdio.h>
+#include <stdlib.h>
+#include <string.h>
+
+/* Bits with tenths, and commas: "38,824.0". */
+static const char *amount(struct bits b, char *text)
+{
+    char plain[TEXT], whole[LABEL_BYTES];
+    tenths(b, plain);
+    if (plain[0] >= '0' && plain[0] <= '9')
+        snprintf(text, TEXT, "%s%s", grouped(strtoull(plain, NULL, 10), whole), strchr(plain, '.'));
+    else
+        snprintf(text, TEXT, "%s", plain);
+    return text;
+}
 
 const char *refusal_line(const struct answer *a, char *text, size_t room)
 {
     char bits[TEXT];
     int length = snprintf(text, room, "%s", vbv_refusal_name(a->number));
     if (a->place.measured && (size_t)length < room)
-        snprintf(text + length, room - (size_t)length, " by %s bits", tenths(a->place.over, bits));
+        snprintf(text + length, room - (size_t)length, " by %s bits", amount(a->place.over, bits));
     return text;
 }
 
@@ -60,6 +76,35 @@ static void print_sequence(const struct told *t)
     printf("\n");
 }
 
+/* The rest of a cbrsend command, from --stream on. */
+static void print_input(const struct told *t)
+{
+    char word[WORD_BYTES];
+    if (t->which != NULL)
+        printf(" --stream %s", shell_word(t->which, word, sizeof word));
+    printf("%s %s", begins_like_option(t->name) ? " --" : "", shell_word(t->name, word, sizeof word));
+}
+
+/* How a stream of a variable rate is made constant. */
+static void print_remedy(const struct told *t)
+{
+    if (t->standard == VBV_MPEG1) {
+        printf("  cbrsend takes only MPEG-2, so encode this one again, at a constant rate.\n");
+    } else if (t->answer->look.repeats > 0) {
+        printf("  cbrsend does not take pictures that repeat a field, so encode this one again, at a constant rate and without.\n");
+    } else {
+        char buffer[TEXT] = "BUFFER";
+        uint64_t units = t->answer->declared.buffer_bits / CBR_BUFFER_UNIT;
+        if (units >= 1 && units <= CBR_MOST_BUFFER)
+            snprintf(buffer, sizeof buffer, "%" PRIu64, units);
+        printf("  The least rate that carries it in this buffer: cbrsend --least-rate -B %s", buffer);
+        print_input(t);
+        printf("\n  At that RATE or above: cbrsend -b RATE -B %s", buffer);
+        print_input(t);
+        printf(" OUT.m2v\n");
+    }
+}
+
 static void print_refusal(const struct told *t)
 {
     const struct answer *a = t->answer;
@@ -70,20 +115,30 @@ static void print_refusal(const struct told *t)
     else if (a->place.header != NULL)
         print_sequence(t);
     printf("  %s\n", vbv_refusal_text(a->number));
-    if (a->number == VBV_VARIABLE_RATE && t->standard == VBV_MPEG2)
-        printf("  cbrsend makes it constant: cbrsend -b RATE -B BUFFER %s OUT\n", t->name);
+    if (a->number == VBV_VARIABLE_RATE)
+        print_remedy(t);
+}
+
+static void print_verdict(const struct told *t)
+{
+    if (t->in->about[0] != 0) {
+        put_name(stdout, t->name);
+        printf(": %s\n", t->in->about);
+    }
+    put_name(stdout, t->name);
+    printf(": MPEG-%d, %s\n", t->standard, t->answer->number == 0 ? "accepted" : "refused");
 }
 
 void print_words(const struct told *t, int records)
 {
     const struct answer *a = t->answer;
-    if (t->in->about[0] != 0)
-        printf("%s: %s\n", t->name, t->in->about);
-    printf("%s: MPEG-%d, %s\n", t->name, t->standard, a->number == 0 ? "accepted" : "refused");
-    if (a->number == 0)
-        print_report(&a->report);
-    else
+    print_verdict(t);
+    if (a->number != 0)
         print_refusal(t);
+    else if (spoils_model(a))
+        print_numbers(&a->report);
+    else
+        print_report(&a->report);
     for (size_t i = 0; i < t->cautions->count; i++)
         printf("  caution: %s\n", t->cautions->of[i].words);
     if (records)

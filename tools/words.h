@@ -7,6 +7,7 @@
 /* All that is told of a file. */
 struct told {
     const char *name;
+    const char *which; /* --stream's word, or NULL */
     const struct input *in;
     uint8_t standard;
     const struct answer *answer;

@@ -59,6 +59,7 @@ static const struct kind kinds[] = {
     { "many-refused", 90000, 4000000, 1835008, MISMATCH, 0, .6, 0, 0, .8, "many-refused.m2v" },
     { "many-closer", 100000, 4000000, 1835008, NULL, 0, 0, 600, 603.5, .8, "many-closer.m2v" },
     { "many-part", 100000, 4000000, 1835008, NULL, 0, 0, 600, 900, .8, "many-part.m2v" },
+    { "many-end", 100000, 4000000, 1835008, NULL, 0, 0, 3999, 1e15, .8, "many-end.m2v" },
     { "between", 100, 4000000, 1835008, NULL, 0, 0, 1.53, 1.535, .8, "between.m2v" },
     { "instant", 100, 4000000, 1835008, NULL, 0, 0, 2, 2.0000001, .8, "instant.m2v" },
     { "empty-range", 100, 4000000, 1835008, NULL, 0, 0, 2, 2, .8, "empty-range.m2v" },
