@@ -12,6 +12,9 @@ use bits::start_codes::PICTURE_START_CODE;
 use bits::start_codes::SEQUENCE_END_CODE;
 use bits::start_codes::SEQUENCE_HEADER_CODE;
 
+// The quiet bytes after which a search goes by larger blocks.
+const NEAR: usize = 1024;
+
 // Where a start code is, and its fourth byte.
 pub enum Found {
     At { offset: usize, code: u8 },
@@ -107,8 +110,18 @@ fn past_quiet(s: &[u8], from: usize, end: usize, n: usize) -> usize
     block
 }
 
-// The same by blocks of 16 bytes. In a dense stream the next code is near: only where the first block is quiet are blocks of
-// 64 bytes passed over.
+// NEAR bytes on from `from`, or `end` where there are fewer.
+fn near_end(from: usize, end: usize) -> usize
+    ensures { λ r. ⌜ r ≤ end ⌝ }
+{
+    if from < places(end, NEAR) {
+        return from + NEAR;
+    }
+    end
+}
+
+// The same to a block of 16 bytes. The next code is mostly near, and a search by one width is foreseen best: only past NEAR
+// quiet bytes are blocks of 64 passed over.
 fn next_block(s: &[u8], from: usize, end: usize) -> usize
     requires { ⌜ end + 3 ≤ length (now s) ⌝ }
     ensures { λ r. ⌜ (nextCode (now (s .entry)) r ≡ nextCode (now (s .entry)) from) × (from ≤ r) ⌝ }
@@ -119,8 +132,13 @@ fn next_block(s: &[u8], from: usize, end: usize) -> usize
     if has_zero_one(s, from, 16) {
         return from;
     }
-    let near = past_quiet(s, from + 16, end, 64);
-    past_quiet(s, near, end, 16)
+    let limit = near_end(from, end);
+    let near = past_quiet(s, from + 16, limit, 16);
+    if near < places(limit, 16) {
+        return near;
+    }
+    let far = past_quiet(s, near, end, 64);
+    past_quiet(s, far, end, 16)
 }
 
 // The first start code at or after `from`: blocks without 00 01 are passed over, a block with it and the last bytes searched.
