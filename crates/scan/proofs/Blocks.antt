@@ -1,24 +1,22 @@
--- What the block test and the bounded search say of the next code.
+-- What the block test and the search in a part say of the next code.
 -- Assumes nothing.
 use mathlib.Core.Path.{_≡_, refl, sym, ap, _∙_}
-use Prim.Native.Nat.{ℕ, zero, suc, _+_, _≤_, _<_}
+use Prim.Native.Nat.{ℕ, zero, suc, _+_, _≤_}
 use mathlib.Core.List.{List, [], _∷_}
 use mathlib.Core.Bool.{Bool, true, false, _&&_, _||_}
 use native.Mathlib.Omega.{arith}
-use native.Mathlib.Nat.{add-zero}
+use native.Mathlib.Nat.{add-zero, zero-add, suc-add}
 use native.Mathlib.Numerals.{add-one}
-use lib.ListN.{length, drop, getD}
-use lib.Seq.{drop-drop}
-use lib.Dec.{eqb, ltb}
-use borrow.Author.Tests.{lt-ltb, le-ltb}
+use lib.ListN.{take, drop, getD, length-take}
+use lib.Seq.{drop-drop, getD-take, take-nil}
+use lib.Dec.{eqb}
 use Rattle.bits.specs.Bits.{pick}
 use Rattle.bits.proofs.Flags.{or-left, or-right}
-use Rattle.scan.specs.declared.Found.{Found}
 use Rattle.scan.specs.declared.Found.the-variants.{At, Nothing}
 use Rattle.scan.specs.Codes.{starts, nextCode}
-use Rattle.scan.specs.Steps.{zeroOne, before}
-use Rattle.scan.proofs.NextCode.{firstFrom, next-first, no-pair}
-use Rattle.scan.proofs.Walk.{code-seen}
+use Rattle.scan.specs.Steps.{zeroOne}
+use Rattle.scan.proofs.NextCode.{firstFrom, next-first, short-none, no-pair}
+use Rattle.scan.proofs.Prefix.{starts-four}
 
 -- ---- the block test, place by place
 
@@ -44,64 +42,65 @@ quiet s at (suc k) e =
     let i : at + suc k ≡ at + k + 1 = omega arith in
     rw i (no-pair s (at + k) (or-right (zeroOne s at k) _ e) ∙ quiet s at k (or-left _ _ e))
 
--- ---- the bounded search
+-- ---- the search in a part that ends k + 3 bytes on: what begins at one of its first k places is found
 
--- what begins at or after the bound is not told
-late : (e o : ℕ) (l : List ℕ) → e ≤ o → before e (firstFrom o l) ≡ Nothing
-unfolding before firstFrom pick
-late e o [] h = refl
-late e o (b ∷ l) h = go (late e (suc o) l (omega arith)) (starts (b ∷ l))
+-- four bytes tell whether a code begins
+starts-part : (k b : ℕ) (l : List ℕ) → starts (b ∷ take (k + 3) l) ≡ starts (b ∷ l)
+starts-part k b l =
+    let e : k + 3 ≡ suc (suc (suc k)) = omega arith in
+    rw e (go l)
   where
-    go : before e (firstFrom (suc o) l) ≡ Nothing → (t : Bool)
-        → before e (pick t (At o (getD (b ∷ l) 3 0)) (firstFrom (suc o) l)) ≡ Nothing
-    go r true = rw (le-ltb o e h)
-    go r false = r
+    go : (l : List ℕ) → starts (b ∷ take (suc (suc (suc k))) l) ≡ starts (b ∷ l)
+    go [] = refl
+    go (c ∷ []) = refl
+    go (c ∷ d ∷ []) = refl
+    go (c ∷ d ∷ e ∷ l) = starts-four b c d e (take k l) ∙ sym (starts-four b c d e l)
 
-pub none-before : (s : List ℕ) (e i : ℕ) → e ≤ i → Nothing ≡ before e (nextCode s i)
-none-before s e i h = rw (next-first s i) (sym (late e i (drop i s) h))
+part-here : (k o b : ℕ) (l : List ℕ)
+    → firstFrom o (b ∷ take (k + 3) l) ≡ pick (starts (b ∷ l)) (At o (getD (b ∷ l) 3 0)) (firstFrom (suc o) (take (k + 3) l))
+unfolding firstFrom
+part-here k o b l = rw (starts-part k b l, getD-take (k + 3) l 2 0 (omega arith))
 
--- a code before the bound is told
-pub told-before : (e o d : ℕ) (f : Found) → o < e → At o d ≡ f → At o d ≡ before e f
-unfolding before pick
-told-before e o d f h q = rw (← q, lt-ltb o e h)
-
--- a code that is told is the next one
-pub tells : (e o d : ℕ) (f : Found) → before e f ≡ At o d → At o d ≡ f
-unfolding before pick
-tells e o d Nothing q = cc
-tells e o d (At p c) q = go (ltb p e) q
+-- a code that is found is the next one
+part-found : (k o : ℕ) (l : List ℕ) (q c : ℕ) → firstFrom o (take (k + 3) l) ≡ At q c → At q c ≡ firstFrom o l
+unfolding firstFrom pick
+part-found zero o l q c e = let z : Nothing ≡ At q c = sym (short-none (take 3 l) o (omega (arith, length-take 3 l))) ∙ e in cc
+part-found (suc k) o [] q c e = sym (rw suc-add at (e))
+part-found (suc k) o (b ∷ l) q c e = go (part-found k (suc o) l q c) (starts (b ∷ l)) (sym (part-here k o b l) ∙ rw suc-add at (e))
   where
-    go : (t : Bool) → pick t (At p c) Nothing ≡ At o d → At o d ≡ At p c
-    go true r = sym r
-    go false r = cc
+    go : (firstFrom (suc o) (take (k + 3) l) ≡ At q c → At q c ≡ firstFrom (suc o) l) → (t : Bool)
+        → pick t (At o (getD (b ∷ l) 3 0)) (firstFrom (suc o) (take (k + 3) l)) ≡ At q c
+        → At q c ≡ pick t (At o (getD (b ∷ l) 3 0)) (firstFrom (suc o) l)
+    go ih true r = sym r
+    go ih false r = ih r
 
--- where none is told, the search goes on from the bound
-nothing : (k o : ℕ) (l : List ℕ) → before (o + k) (firstFrom o l) ≡ Nothing → firstFrom (o + k) (drop k l) ≡ firstFrom o l
-unfolding before firstFrom pick
-nothing zero o l q = rw add-zero
-nothing (suc k) o [] q = refl
-nothing (suc k) o (b ∷ l) q = go (λ r. nothing k (suc o) l r) (starts (b ∷ l)) q
+-- where none is found, the search goes on k bytes later
+part-none : (k o : ℕ) (l : List ℕ) → firstFrom o (take (k + 3) l) ≡ Nothing → firstFrom (o + k) (drop k l) ≡ firstFrom o l
+unfolding firstFrom pick
+part-none zero o l e = rw add-zero
+part-none (suc k) o [] e = refl
+part-none (suc k) o (b ∷ l) e = go (part-none k (suc o) l) (starts (b ∷ l)) (sym (part-here k o b l) ∙ rw suc-add at (e))
   where
-    e : suc o + k ≡ o + suc k
-    e = omega arith
+    m : o + suc k ≡ suc o + k
+    m = omega arith
 
-    go : (before (suc o + k) (firstFrom (suc o) l) ≡ Nothing → firstFrom (suc o + k) (drop k l) ≡ firstFrom (suc o) l) → (t : Bool)
-        → before (o + suc k) (pick t (At o (getD (b ∷ l) 3 0)) (firstFrom (suc o) l)) ≡ Nothing
+    go : (firstFrom (suc o) (take (k + 3) l) ≡ Nothing → firstFrom (suc o + k) (drop k l) ≡ firstFrom (suc o) l) → (t : Bool)
+        → pick t (At o (getD (b ∷ l) 3 0)) (firstFrom (suc o) (take (k + 3) l)) ≡ Nothing
         → firstFrom (o + suc k) (drop k l) ≡ pick t (At o (getD (b ∷ l) 3 0)) (firstFrom (suc o) l)
-    go rec true r =
-        let h : o < o + suc k = omega arith in
-        let z : At o (getD (b ∷ l) 3 0) ≡ Nothing = rw (lt-ltb o (o + suc k) h) at (r) in
-        cc
-    go rec false r = rw e at (rec (rw e r))
+    go ih true r = cc
+    go ih false r = rw m (ih r)
 
-pub goes-on : (s : List ℕ) (i k : ℕ) → before (i + k) (nextCode s i) ≡ Nothing → nextCode s (i + k) ≡ nextCode s i
-goes-on s i k q = rw (next-first s (i + k), next-first s i, ← drop-drop k i s) (nothing k i (drop i s) (rw (next-first s i) at (q)))
+-- in a stream
+drop-part : (i n : ℕ) (l : List ℕ) → drop i (take (i + n) l) ≡ take n (drop i l)
+drop-part zero n l = rw zero-add
+drop-part (suc i) n [] = rw (take-nil n, suc-add)
+drop-part (suc i) n (b ∷ l) = rw suc-add (drop-part i n l)
 
--- a bound that leaves room for no code after it cuts nothing off
-pub all-told : (s : List ℕ) (e i : ℕ) → length s < e + 4 → before e (nextCode s i) ≡ nextCode s i
-unfolding before pick
-all-told s e i h = go (nextCode s i) refl
-  where
-    go : (f : Found) → nextCode s i ≡ f → before e f ≡ f
-    go Nothing q = refl
-    go (At o d) q = rw (lt-ltb o e (omega (arith, code-seen s i o d q .room)))
+part-first : (s : List ℕ) (i k : ℕ) → nextCode (take (i + (k + 3)) s) i ≡ firstFrom i (take (k + 3) (drop i s))
+part-first s i k = next-first (take (i + (k + 3)) s) i ∙ ap (firstFrom i) (drop-part i (k + 3) s)
+
+pub found-inside : (s : List ℕ) (i k o c : ℕ) → nextCode (take (i + (k + 3)) s) i ≡ At o c → At o c ≡ nextCode s i
+found-inside s i k o c e = rw (next-first s i) (part-found k i (drop i s) o c (sym (part-first s i k) ∙ e))
+
+pub none-inside : (s : List ℕ) (i k : ℕ) → nextCode (take (i + (k + 3)) s) i ≡ Nothing → nextCode s (i + k) ≡ nextCode s i
+none-inside s i k e = rw (next-first s (i + k), next-first s i, ← drop-drop k i s) (part-none k i (drop i s) (sym (part-first s i k) ∙ e))

@@ -5,7 +5,9 @@ use Prim.Native.Nat.{ℕ}
 use mathlib.Core.List.{List, [], _∷_, _++_}
 use mathlib.Core.Bool.{true}
 use lib.ListN.{length, replicate}
+use Rattle.scan.specs.declared.Found.the-variants.{At, Nothing}
 use Rattle.scan.specs.Codes.{codes, every, endsPrefix, sequenceEnd}
+use Rattle.scan.specs.Scanned.{scanned}
 use Rattle.scan.specs.Pictures.{pictures, isSlice, notSlice, notPicture}
 use Rattle.bits.proofs.Reading.{same-more, same-none}
 use Rattle.scan.proofs.Laying.{Opened, Piece, none, more, laidPieces, laidPics}
@@ -21,6 +23,31 @@ overlap = simp (same-more, same-none)
 zeros-before : codes (7 ∷ 0 ∷ 0 ∷ 0 ∷ 1 ∷ 0xB3 ∷ []) ≡ record { offset = 2; code = 0xB3 } ∷ []
 unfolding codes
 zeros-before = simp (same-more, same-none)
+
+-- request 03: what the scan by places finds, and how many places it looks at
+one-place : scanned (2 ∷ 2 ∷ 2 ∷ 2 ∷ []) 0 ≡ record { found = Nothing; looked = 1 }
+unfolding scanned
+one-place = simp same-more
+
+own-place : scanned (0 ∷ 0 ∷ 1 ∷ 0xB3 ∷ []) 0 ≡ record { found = At 0 0xB3; looked = 1 }
+unfolding scanned
+own-place = simp (same-more, same-none)
+
+after-zero : scanned (0 ∷ 0 ∷ 0 ∷ 1 ∷ 0xB3 ∷ []) 0 ≡ record { found = At 1 0xB3; looked = 2 }
+unfolding scanned
+after-zero = simp (same-more, same-none)
+
+after-five : scanned (5 ∷ 0 ∷ 0 ∷ 1 ∷ 0xB3 ∷ []) 0 ≡ record { found = At 1 0xB3; looked = 2 }
+unfolding scanned
+after-five = simp (same-more, same-none)
+
+after-ones : scanned (1 ∷ 1 ∷ 1 ∷ 0 ∷ 0 ∷ 1 ∷ 0 ∷ []) 0 ≡ record { found = At 3 0; looked = 2 }
+unfolding scanned
+after-ones = simp (same-more, same-none)
+
+three-bytes : scanned (0 ∷ 0 ∷ 1 ∷ []) 0 ≡ record { found = Nothing; looked = 0 }
+unfolding scanned
+three-bytes = refl
 
 -- a picture, a slice, the end
 one-picture-ended : pictures (0 ∷ 0 ∷ 1 ∷ 0 ∷ 9 ∷ 0 ∷ 0 ∷ 1 ∷ 1 ∷ 8 ∷ 0 ∷ 0 ∷ 1 ∷ 0xB7 ∷ []) ≡ record { start = 0; end = 14 } ∷ []

@@ -2,6 +2,8 @@ pub mod Prefix
 pub mod NextCode
 pub mod Codes
 pub mod Walk
+pub mod Looked
+pub mod Scans
 pub mod Blocks
 pub mod Pictures
 pub mod Laid

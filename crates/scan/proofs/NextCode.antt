@@ -3,7 +3,7 @@
 use mathlib.Core.Path.{_≡_, refl, sym, ap, _∙_}
 use Prim.Native.Nat.{ℕ, suc, _+_, _-_, _≤_, _<_}
 use mathlib.Core.List.{List, [], _∷_}
-use mathlib.Core.Bool.{Bool, true, false, _&&_, and-false}
+use mathlib.Core.Bool.{Bool, true, false, _&&_, and-false, and-true}
 use native.Mathlib.Omega.{arith}
 use native.Mathlib.Nat.{add-zero}
 use native.Mathlib.Numerals.{add-one}
@@ -13,14 +13,15 @@ use lib.Dec.{eqb, leb}
 use borrow.Author.Tests.{ne-eqb, le-leb}
 use Rattle.bits.specs.Bits.{pick}
 use Rattle.bits.specs.Fields.{sameBytes}
-use Rattle.bits.specs.StartCodes.{startCode, pictureStartCode}
-use Rattle.bits.proofs.Flags.{clash}
-use Rattle.bits.proofs.Reading.{same-bytes, same-not}
+use Rattle.bits.specs.StartCodes.{startCodePrefix, startCode, pictureStartCode}
+use Rattle.bits.proofs.Flags.{clash, both-true}
+use Rattle.bits.proofs.Reading.{same-bytes, same-not, same-more, same-none}
 use Rattle.scan.specs.declared.Found.{Found}
 use Rattle.scan.specs.declared.Found.the-variants.{At, Nothing}
 use Rattle.scan.specs.Codes.{starts, codesFrom, codesAt, found, nextCode}
 use Rattle.scan.specs.Steps.{pictureAt}
-use Rattle.scan.proofs.Prefix.{starts-is, starts-four}
+use Rattle.scan.proofs.Prefix.{starts-is, starts-four, starts-third}
+use Rattle.scan.proofs.Walk.{code-seen}
 
 -- ---- over a list
 
@@ -41,7 +42,7 @@ first-from-is o (b ∷ l) = go (first-from-is (suc o) l) (starts (b ∷ l))
     go ih true = refl
     go ih false = ih
 
-short-none : (l : List ℕ) (o : ℕ) → length l < 4 → firstFrom o l ≡ Nothing
+pub short-none : (l : List ℕ) (o : ℕ) → length l < 4 → firstFrom o l ≡ Nothing
 unfolding firstFrom starts pick
 short-none [] o h = refl
 short-none (a ∷ []) o h = refl
@@ -72,11 +73,17 @@ starts-at : (s : List ℕ) (i : ℕ)
     → starts (drop i s) ≡ (leb 4 (length s - i) && (eqb (getD s i 0) 0 && (eqb (getD s (i + 1) 0) 0 && eqb (getD s (i + 2) 0) 1)))
 starts-at s i = starts-is (drop i s) ∙ rw (length-drop, getD-drop i s 0 0, getD-drop i s 1 0, getD-drop i s 2 0, add-zero i)
 
-pub next-here : (s : List ℕ) (i : ℕ) → i + 4 ≤ length s → getD s i 0 ≡ 0 → getD s (i + 1) 0 ≡ 0 → getD s (i + 2) 0 ≡ 1
-    → At i (getD s (i + 3) 0) ≡ nextCode s i
-next-here s i h a b c =
+-- where there are four bytes, three tell it
+abbrev pub three : List ℕ → ℕ → List ℕ
+three s i = getD s i 0 ∷ getD s (i + 1) 0 ∷ getD s (i + 2) 0 ∷ []
+
+pub prefix-test : (s : List ℕ) (i : ℕ) → i + 4 ≤ length s → sameBytes (three s i) startCodePrefix ≡ starts (drop i s)
+prefix-test s i h =
     let l : 4 ≤ length s - i = omega arith in
-    rw (next-first s i, ← getD-drop i s 3 0) (first-here i (drop i s) (starts-at s i ∙ rw (le-leb 4 (length s - i) l, a, b, c)))
+    sym (starts-at s i ∙ rw (le-leb 4 (length s - i) l, same-more, same-more, same-more, same-none, and-true))
+
+pub next-here : (s : List ℕ) (i : ℕ) → starts (drop i s) ≡ true → At i (getD s (i + 3) 0) ≡ nextCode s i
+next-here s i e = rw (next-first s i, ← getD-drop i s 3 0) (first-here i (drop i s) e)
 
 -- ---- a picture's start code
 
@@ -109,7 +116,7 @@ picture-next s i h =
 
 -- ---- no code at i
 
-next-on : (s : List ℕ) (i : ℕ) → starts (drop i s) ≡ false → nextCode s (i + 1) ≡ nextCode s i
+pub next-on : (s : List ℕ) (i : ℕ) → starts (drop i s) ≡ false → nextCode s (i + 1) ≡ nextCode s i
 next-on s i e = rw (next-first s (i + 1), next-first s i, ← drop-drop 1 i s) (first-on i (drop i s) e)
 
 not-first : (s : List ℕ) (i : ℕ) → (getD s i 0 ≡ 0 → ⊥) → nextCode s (i + 1) ≡ nextCode s i
@@ -118,24 +125,36 @@ not-first s i n = next-on s i (starts-at s i ∙ rw (ne-eqb (getD s i 0) 0 n, an
 not-second : (s : List ℕ) (i : ℕ) → (getD s (i + 1) 0 ≡ 0 → ⊥) → nextCode s (i + 1) ≡ nextCode s i
 not-second s i n = next-on s i (starts-at s i ∙ rw (ne-eqb (getD s (i + 1) 0) 0 n, and-false, and-false))
 
+pub no-third : (s : List ℕ) (i : ℕ) → (getD s (i + 2) 0 ≡ 1 → ⊥) → starts (drop i s) ≡ false
+no-third s i n = starts-third (drop i s) (rw (getD-drop i s 2 0) n)
+
 pub not-third : (s : List ℕ) (i : ℕ) → (getD s (i + 2) 0 ≡ 1 → ⊥) → nextCode s (i + 1) ≡ nextCode s i
-not-third s i n = next-on s i (starts-at s i ∙ rw (ne-eqb (getD s (i + 2) 0) 1 n, and-false, and-false, and-false))
+not-third s i n = next-on s i (no-third s i n)
 
 pub no-pair : (s : List ℕ) (i : ℕ) → (eqb (getD s (i + 1) 0) 0 && eqb (getD s (i + 2) 0) 1) ≡ false → nextCode s (i + 1) ≡ nextCode s i
 no-pair s i e = next-on s i (starts-at s i ∙ rw (e, and-false, and-false))
 
 -- a third byte that is not 00 is neither the second byte of a code nor its first
-stride : (s : List ℕ) (i : ℕ) → (getD s (i + 2) 0 ≡ 0 → ⊥) → nextCode s (i + 3) ≡ nextCode s (i + 1)
-stride s i n =
+two-on : (s : List ℕ) (i : ℕ) → (getD s (i + 2) 0 ≡ 0 → ⊥) → nextCode s (i + 3) ≡ nextCode s (i + 1)
+two-on s i n =
     let e2 : i + 1 + 1 ≡ i + 2 = omega arith in
     let e3 : i + 2 + 1 ≡ i + 3 = omega arith in
     rw e3 at (not-first s (i + 2) n) ∙ rw e2 at (not-second s (i + 1) (rw e2 n))
 
-pub far-first : (s : List ℕ) (i : ℕ) → (getD s (i + 2) 0 ≡ 0 → ⊥) → (getD s i 0 ≡ 0 → ⊥) → nextCode s (i + 3) ≡ nextCode s i
-far-first s i n m = stride s i n ∙ not-first s i m
+pub far-on : (s : List ℕ) (i : ℕ) → starts (drop i s) ≡ false → (getD s (i + 2) 0 ≡ 0 → ⊥) → nextCode s (i + 3) ≡ nextCode s i
+far-on s i e n = two-on s i n ∙ next-on s i e
 
-pub far-second : (s : List ℕ) (i : ℕ) → (getD s (i + 2) 0 ≡ 0 → ⊥) → (getD s (i + 1) 0 ≡ 0 → ⊥) → nextCode s (i + 3) ≡ nextCode s i
-far-second s i n m = stride s i n ∙ not-second s i m
+-- ---- the four bytes of a code that the scan finds
 
-pub far-third : (s : List ℕ) (i : ℕ) → 1 < getD s (i + 2) 0 → nextCode s (i + 3) ≡ nextCode s i
-far-third s i h = stride s i (λ e. omega arith) ∙ not-third s i (λ e. omega arith)
+pub four-told : (s : List ℕ) (i c x : ℕ) → nextCode s i ≡ At i c
+    → sameBytes (getD s i 0 ∷ getD s (i + 1) 0 ∷ getD s (i + 2) 0 ∷ c ∷ []) (startCode x) ≡ eqb c x
+four-told s i c x h = go (starts (drop i s)) refl
+  where
+    go : (t : Bool) → starts (drop i s) ≡ t → sameBytes (getD s i 0 ∷ getD s (i + 1) 0 ∷ getD s (i + 2) 0 ∷ c ∷ []) (startCode x) ≡ eqb c x
+    go true e =
+        let m = eqb (getD s (i + 1) 0) 0 && eqb (getD s (i + 2) 0) 1 in
+        let r = both-true (leb 4 (length s - i)) (eqb (getD s i 0) 0 && m) (sym (starts-at s i) ∙ e) in
+        let p = both-true (eqb (getD s i 0) 0) m (r .1) in
+        let q = both-true (eqb (getD s (i + 1) 0) 0) (eqb (getD s (i + 2) 0) 1) (p .1) in
+        rw (same-more, same-more, same-more, same-more, same-none, p .0, q .0, q .1, and-true)
+    go false e = absurd (omega (arith, code-seen s (i + 1) i c (next-on s i e ∙ h) .from))

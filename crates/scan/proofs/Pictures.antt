@@ -8,7 +8,7 @@ use native.Mathlib.Omega.{arith}
 use lib.ListN.{length}
 use lib.Seq.{drop-length}
 use lib.Dec.{eqb}
-use borrow.Author.Tests.{not-true, not-false, eqb-true, ne-eqb}
+use borrow.Author.Tests.{not-true, not-false, eqb-true}
 use Rattle.bits.specs.Bits.{pick}
 use Rattle.bits.specs.StartCodes.{sequenceEndCode}
 use Rattle.bits.proofs.Flags.{clash}
@@ -17,12 +17,12 @@ use Rattle.scan.specs.declared.Found.the-variants.{At, Nothing}
 use Rattle.scan.specs.declared.Next.{Next}
 use Rattle.scan.specs.declared.Next.the-variants.{Picture, Done}
 use Rattle.scan.specs.declared.Stop.the-variants.{AtSlice, AfterSlices}
-use Rattle.scan.specs.Codes.{Code, codesFrom, codes, codesAt, found}
+use Rattle.scan.specs.Codes.{Code, codesFrom, codes, codesAt, found, nextCode}
 use Rattle.scan.specs.Pictures.{Pic, skip, isSlice, notSlice, notPicture, notSequence, afterSlices, endAt, picturesF, picturesOf, pictures, goOn, nextIn, nextPicture}
 use Rattle.scan.specs.Order as walk
 use Rattle.scan.specs.Order.{WalkGives, WalkGivesPictures, InOrder, PicturesInOrder}
 use Rattle.scan.specs.Steps.{passed}
-use Rattle.scan.proofs.Walk.{Sought, sought, unsought}
+use Rattle.scan.proofs.Walk.{Sought, sought, unsought, next-again}
 
 -- ---- the definition's equations, without the count
 
@@ -129,13 +129,12 @@ module _ (s : List ℕ) (i a d : ℕ) (f : found (skip notPicture (codesAt s i))
   next-last e = rw (unsought (afterSlices (codesAt s (a + 4))) e) at next-some
 
   module _ (g c : ℕ) (h : found (afterSlices (codesAt s (a + 4))) ≡ At g c) where
-    pub next-ended : c ≡ sequenceEndCode → Picture a (g + 4) g ≡ nextPicture s i
-    unfolding endAt goOn pick
-    next-ended e = rw (slices-passed s (a + 4) g c h .list, e) at next-some
+    pub end-code : nextCode s g ≡ At g c
+    end-code = next-again s g c (slices-passed s (a + 4) g c h .again)
 
-    pub next-followed : (c ≡ sequenceEndCode → ⊥) → Picture a g g ≡ nextPicture s i
-    unfolding endAt goOn pick
-    next-followed n = rw (slices-passed s (a + 4) g c h .list, ne-eqb c sequenceEndCode n) at next-some
+    pub next-ended : (e : ℕ) → e ≡ pick (eqb c sequenceEndCode) (g + 4) g → Picture a e g ≡ nextPicture s i
+    unfolding endAt goOn
+    next-ended e q = rw q (rw (slices-passed s (a + 4) g c h .list) at next-some)
 
 -- ---- what a step of the walk says
 

@@ -36,15 +36,18 @@ pub starts-long : (s : List ℕ) → starts s ≡ true → 4 ≤ length s
 unfolding starts
 starts-long s h = leb-true 4 (length s) (and-left _ _ h)
 
--- none begins at a byte that is not zero, at one whose next is not zero, or before two zero bytes
+-- none begins at a byte that is not zero, at one whose next is not zero, where the third byte is not 01, or before two zero bytes
 pub starts-first : (a : ℕ) (s : List ℕ) → (a ≡ 0 → ⊥) → starts (a ∷ s) ≡ false
 starts-first a s n = starts-is (a ∷ s) ∙ rw (ne-eqb a 0 n, and-false)
 
 pub starts-second : (a b : ℕ) (s : List ℕ) → (b ≡ 0 → ⊥) → starts (a ∷ b ∷ s) ≡ false
 starts-second a b s n = starts-is (a ∷ b ∷ s) ∙ rw (ne-eqb b 0 n, and-false, and-false)
 
+pub starts-third : (s : List ℕ) → (getD s 2 0 ≡ 1 → ⊥) → starts s ≡ false
+starts-third s n = starts-is s ∙ rw (ne-eqb (getD s 2 0) 1 n, and-false, and-false, and-false)
+
 pub starts-before : (a b : ℕ) (s : List ℕ) → starts (a ∷ b ∷ 0 ∷ s) ≡ false
-starts-before a b s = starts-is (a ∷ b ∷ 0 ∷ s) ∙ rw (and-false, and-false, and-false)
+starts-before a b s = starts-third (a ∷ b ∷ 0 ∷ s) (λ e. omega arith)
 
 -- ---- the bytes end 00 00 01
 

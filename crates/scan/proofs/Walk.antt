@@ -136,6 +136,10 @@ code-seen s i o c e =
     let m : Sought never s i o c = sought never s i o c (ap found (skip-never (codesAt s i)) ∙ sym (next-code-is s i) ∙ e) in
     record { from = m .from; room = m .room; list = sym (skip-never (codesAt s i)) ∙ m .list; again = m .again }
 
+pub next-again : (s : List ℕ) (o c : ℕ) → codesAt s o ≡ record { offset = o; code = c } ∷ codesAt s (o + 4) → nextCode s o ≡ At o c
+unfolding found
+next-again s o c e = next-code-is s o ∙ rw e
+
 pub unseen : (s : List ℕ) (i : ℕ) → nextCode s i ≡ Nothing → codesAt s i ≡ []
 unseen s i e = unsought (codesAt s i) (sym (next-code-is s i) ∙ e)
 

@@ -1,4 +1,5 @@
 pub mod Codes
+pub mod Scanned
 pub mod Pictures
 pub mod Order
 pub mod Steps

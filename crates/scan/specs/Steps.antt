@@ -1,15 +1,12 @@
--- The promises of private functions: the parts of the search for the next start code, a picture's start code, and what a search passes over.
+-- The promises of private functions: the block test of the search for the next start code, a picture's start code, and what a search passes over.
 -- Assumes nothing.
 use Prim.Native.Nat.{ℕ, zero, suc, _+_}
 use mathlib.Core.List.{List}
 use mathlib.Core.Bool.{Bool, false, _&&_, _||_}
 use lib.ListN.{getD, take, drop}
-use lib.Dec.{eqb, ltb}
-use Rattle.bits.specs.Bits.{pick}
+use lib.Dec.{eqb}
 use Rattle.bits.specs.Fields.{sameBytes}
 use Rattle.bits.specs.StartCodes.{startCode, pictureStartCode}
-use Rattle.scan.specs.declared.Found.{Found}
-use Rattle.scan.specs.declared.Found.the-variants.{At, Nothing}
 use Rattle.scan.specs.declared.Stop.{Stop}
 use Rattle.scan.specs.declared.Stop.the-variants.{AtSequence, AtPicture, AtSlice, AfterSlices}
 use Rattle.scan.specs.Pictures.{isSlice, notSlice, notPicture, notSequence}
@@ -18,12 +15,6 @@ use Rattle.scan.specs.Pictures.{isSlice, notSlice, notPicture, notSequen
 unfoldable pub zeroOne : List ℕ → ℕ → ℕ → Bool
 zeroOne s at zero = false
 zeroOne s at (suc k) = zeroOne s at k || (eqb (getD s (at + k + 1) 0) 0 && eqb (getD s (at + k + 2) 0) 1)
-
--- a start code, if it begins before `end`
-unfoldable pub before : ℕ → Found → Found
-unfolding pick
-before end (At offset code) = pick (ltb offset end) (At offset code) Nothing
-before end Nothing = Nothing
 
 -- a picture's start code stands at `at`
 unfoldable pub pictureAt : List ℕ → ℕ → Bool

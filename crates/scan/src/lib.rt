@@ -1,16 +1,23 @@
 // Start codes of a stream, and the walk from picture to picture.
 ghost use mathlib.Core.Path.{_≡_};
+ghost use lib.Dec.{eqb};
 ghost use lib.ListN.{length};
 ghost use Prim.Native.Nat.{_+_, _-_, _≤_};
+ghost use Rattle.bits.specs.Bits.{pick};
+ghost use Rattle.bits.specs.StartCodes.{sequenceEndCode};
+ghost use Rattle.scan.specs.declared.Found.the-variants.{At};
 ghost use Rattle.scan.specs.Codes.{found, nextCode, codes, codesAt};
 ghost use Rattle.scan.specs.Pictures.{skip, notSequence, notPicture, afterSlices, nextPicture};
-ghost use Rattle.scan.specs.Steps.{zeroOne, before, passed, pictureAt};
+ghost use Rattle.scan.specs.Scanned.{scanned};
+ghost use Rattle.scan.specs.Steps.{zeroOne, passed, pictureAt};
 use bits::start_codes::FIRST_SLICE_CODE;
 use bits::start_codes::LAST_SLICE_CODE;
 use bits::start_codes::PICTURE_START;
 use bits::start_codes::PICTURE_START_CODE;
+use bits::start_codes::SEQUENCE_END;
 use bits::start_codes::SEQUENCE_END_CODE;
 use bits::start_codes::SEQUENCE_HEADER_CODE;
+use bits::start_codes::START_CODE_PREFIX;
 
 // The quiet bytes after which a search goes by larger blocks.
 const NEAR: usize = 1024;
@@ -19,6 +26,12 @@ const NEAR: usize = 1024;
 pub enum Found {
     At { offset: usize, code: u8 },
     Nothing,
+}
+
+// A start code, or none, and how many places a scan looked at.
+pub struct Scanned {
+    pub found: Found,
+    pub looked: usize,
 }
 
 // A picture: its start code, the end of its data, and where the walk goes on.
@@ -51,14 +64,25 @@ fn has_zero_one(s: &[u8], at: usize, n: usize) -> bool
     some
 }
 
-// The first start code at or after `from`, if it begins before `end`. Where no code is at a place, the next place is one
-// on if the third byte is 00, and otherwise three on: so the prefix is compared byte by byte, its third byte first.
-fn next_before(s: &[u8], from: usize, end: usize) -> Found
-    requires { ⌜ end + 3 ≤ length (now s) ⌝ }
-    ensures { λ r. ⌜ r ≡ before end (nextCode (now (s .entry)) from) ⌝ }
+// How many places have `n` bytes before `end`: those below the answer.
+fn places(end: usize, n: usize) -> usize
+    requires { ⌜ 1 ≤ n ⌝ }
+    ensures { λ r. ⌜ r ≡ end + 1 - n ⌝ }
+{
+    if end < n { 0 } else { end - n + 1 }
+}
+
+// The scan of a part whose places with four bytes are those before `end`, which a caller often knows. The length is tested
+// once a place; without a code there the next is one on if the third byte is 00, otherwise three. Only where the third byte
+// is 01 are the three compared with the prefix.
+fn scan_places(s: &[u8], from: usize, end: usize) -> Scanned
+    requires { ⌜ end ≡ length (now s) - 3 ⌝ }
+    ensures { λ r. ⌜ r ≡ scanned (now (s .entry)) from ⌝ }
 {
     let mut i = from;
+    let mut looked: usize = 0;
     while i < end {
+        looked += 1;
         let third = s[i + 2];
         if 1 < third {
             i += 3;
@@ -68,28 +92,27 @@ fn next_before(s: &[u8], from: usize, end: usize) -> Found
             i += 1;
             continue;
         }
-        if s[i] != 0 {
-            i += 3;
-            continue;
+        if bits::starts_with(&[s[i], s[i + 1], third], &START_CODE_PREFIX) {
+            let found = Found::At {
+                offset: i,
+                code: s[i + 3],
+            };
+            return Scanned { found, looked };
         }
-        if s[i + 1] != 0 {
-            i += 3;
-            continue;
-        }
-        return Found::At {
-            offset: i,
-            code: s[i + 3],
-        };
+        i += 3;
     }
-    Found::Nothing
+    Scanned {
+        found: Found::Nothing,
+        looked,
+    }
 }
 
-// How many places have `n` bytes before `end`: those below the answer.
-fn places(end: usize, n: usize) -> usize
-    requires { ⌜ 1 ≤ n ⌝ }
-    ensures { λ r. ⌜ r ≡ end + 1 - n ⌝ }
+// The first start code at or after `from`, and how many places were looked at for it, its own among them (paper 02, request
+// 03).
+pub fn scan_code(s: &[u8], from: usize) -> Scanned
+    ensures { λ r. ⌜ r ≡ scanned (now (s .entry)) from ⌝ }
 {
-    if end < n { 0 } else { end - n + 1 }
+    scan_places(s, from, places(s.len(), 4))
 }
 
 // Passes over the blocks of `n` bytes from `from` on that have no 00 01, up to one that has, or to where fewer than `n` bytes
@@ -120,8 +143,8 @@ fn near_end(from: usize, end: usize) -> usize
     end
 }
 
-// The same to a block of 16 bytes. The next code is mostly near, and a search by one width is foreseen best: only past NEAR
-// quiet bytes are blocks of 64 passed over.
+// Passes over quiet blocks up to one of 16 bytes. The next code is mostly near, and a search by one width is foreseen best:
+// only past NEAR quiet bytes are blocks of 64 passed over.
 fn next_block(s: &[u8], from: usize, end: usize) -> usize
     requires { ⌜ end + 3 ≤ length (now s) ⌝ }
     ensures { λ r. ⌜ (nextCode (now (s .entry)) r ≡ nextCode (now (s .entry)) from) × (from ≤ r) ⌝ }
@@ -141,7 +164,8 @@ fn next_block(s: &[u8], from: usize, end: usize) -> usize
     past_quiet(s, far, end, 16)
 }
 
-// The first start code at or after `from`: blocks without 00 01 are passed over, a block with it and the last bytes searched.
+// The first start code at or after `from`: blocks without 00 01 are passed over; a block with it is scanned, with the three
+// bytes after it, and so are the last bytes.
 pub fn next_code(s: &[u8], from: usize) -> Found
     ensures { λ r. ⌜ r ≡ nextCode (now (s .entry)) from ⌝ }
 {
@@ -155,9 +179,10 @@ pub fn next_code(s: &[u8], from: usize) -> Found
     loop {
         at = next_block(s, at, end);
         if whole <= at {
-            return next_before(s, at, end);
+            return scan_places(s, at, end).found;
         }
-        if let Found::At { offset, code } = next_before(s, at, at + 16) {
+        let inside = scan_places(&s[..at + 19], at, at + 16).found;
+        if let Found::At { offset, code } = inside {
             return Found::At { offset, code };
         }
         at += 16;
@@ -236,6 +261,21 @@ fn first_picture(s: &[u8], from: usize) -> Found
     seek(s, from, Stop::AtPicture)
 }
 
+// Where a picture ends that this code follows: after it, if it is a sequence end code, and else before it. Where the fourth
+// byte is B7 the four are compared with the end code, the form that paper 01 names: after a prefix they are it.
+fn picture_end(s: &[u8], offset: usize, code: u8) -> usize
+    requires { ⌜ nextCode (now s) offset ≡ At offset code ⌝ }
+    ensures { λ r. ⌜ r ≡ pick (eqb code sequenceEndCode) (offset + 4) offset ⌝ }
+{
+    if code == SEQUENCE_END_CODE {
+        let four = [s[offset], s[offset + 1], s[offset + 2], code];
+        if bits::starts_with(&four, &SEQUENCE_END) {
+            return offset + 4;
+        }
+    }
+    offset
+}
+
 // The first picture that begins at a code which a scan from `from` finds.
 pub fn next_picture(s: &[u8], from: usize) -> Next
     ensures { λ r. ⌜ r ≡ nextPicture (now (s .entry)) from ⌝ }
@@ -246,18 +286,11 @@ pub fn next_picture(s: &[u8], from: usize) -> Next
             offset: at,
             code: _,
         } => match after_slices(s, at + 4) {
-            Found::At { offset, code } => {
-                let end = if code == SEQUENCE_END_CODE {
-                    offset + 4
-                } else {
-                    offset
-                };
-                Next::Picture {
-                    at,
-                    end,
-                    next: offset,
-                }
-            }
+            Found::At { offset, code } => Next::Picture {
+                at,
+                end: picture_end(s, offset, code),
+                next: offset,
+            },
             Found::Nothing => Next::Picture {
                 at,
                 end: n,

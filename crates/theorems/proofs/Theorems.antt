@@ -12,6 +12,7 @@ use Rattle.picture_header.proofs.Numbering.{picture-numbers}
 use Rattle.writers.proofs.GopHeader.{group-read-back, time-code-written}
 use Rattle.vbv.proofs.Fractions.{fractions}
 use Rattle.vbv.proofs.Numbering.{model-numbers, model-stays}
+use Rattle.scan.proofs.Scans.{scans-owed}
 use Rattle.scan.proofs.Pictures.{walk-gives, in-order}
 use Rattle.verify.proofs.Accepted.{accepted-exactly, nothing-cut}
 use Rattle.verify.proofs.Due.{check-due}
@@ -53,6 +54,7 @@ theorems = record {
   in-fractions = fractions;
   model-numbers = model-numbers;
   model-stays = model-stays;
+  scans = scans-owed;
   walk-gives-pictures = walk-gives;
   pictures-in-order = in-order;
   steps-give-pictures = steps-give;

@@ -7,6 +7,7 @@ use Rattle.picture_header.specs.Numbers.{PictureNumbers}
 use Rattle.writers.specs.RoundTrips.{GroupWrittenReads, TimeCodeWrites}
 use Rattle.vbv.specs.Fractions.{FractionsOwed as InFractions}
 use Rattle.vbv.specs.Numbers.{ModelNumbers, ModelStays}
+use Rattle.scan.specs.Scanned.{OwedOfScans}
 use Rattle.scan.specs.Order.{WalkGivesPictures, PicturesInOrder}
 use Rattle.verify.specs.Accepted.{AcceptedExactly, NothingCut}
 use Rattle.verify.specs.Due.{CheckDue}
@@ -60,6 +61,9 @@ pub record Theorems : Type 0 where
   pub model-numbers : ModelNumbers
   -- A model that `new` and calls left is in its ranges.
   pub model-stays : ModelStays
+  -- ---- the start codes of a stream
+  -- The scan by places goes on as request 03 says and finds the stream's codes; over n bytes all above 01 it looks at n / 3 places at most.
+  pub scans : OwedOfScans
   -- ---- the pictures of a stream
   -- A walk from picture to picture finds the pictures of the stream, in order, and no others.
   pub walk-gives-pictures : WalkGivesPictures

@@ -1,12 +1,14 @@
 -- The loop's invariant: the next code from `at` on is the next code from `from` on.
 use borrow.Author.Needs.{needs}
 use mathlib.Core.Path.{_≡_, refl, sym, _∙_}
-use Prim.Native.Nat.{_-_}
+use Prim.Native.Nat.{_+_, _-_}
 use native.Mathlib.Omega.{arith}
-use lib.ListN.{length}
+use lib.ListN.{length, length-take}
+use lib.Seq.{length-take-le}
 use Rattle.scan.specs.Codes.{nextCode}
 use Rattle.scan.proofs.NextCode.{next-short}
-use Rattle.scan.proofs.Blocks.{tells, goes-on, all-told}
+use Rattle.scan.proofs.Blocks.{found-inside, none-inside}
+use Rattle.scan.proofs.Scans.{found-by}
 use Rattle.scan.proofs.next_code.Statement.{statement}
 use Rattle.scan.proofs.next_code.Tie as tie
 
@@ -31,27 +33,33 @@ loop-holds c = refl
 next-block-requires : tie.Need-next-block-requires Inv-loop μ-loop
 next-block-requires c κs = omega arith
 
-next-before-requires : tie.Need-next-before-requires Inv-loop μ-loop
-next-before-requires c κs = omega arith
+scan-places-requires : tie.Need-scan-places-requires Inv-loop μ-loop
+scan-places-requires c κs = omega arith
 
 returns-2 : tie.Need-returns-2 Inv-loop μ-loop
 returns-2 c =
     let r = c .before .before in
-    c .next-before .ensures ∙ all-told _ _ _ (omega arith) ∙ r .next-block .ensures .0 ∙ r .before .loop .inv
+    found-by _ _ (c .scan-places .ensures) ∙ r .next-block .ensures .0 ∙ r .before .loop .inv
 
-add-next-before : tie.Need-add-next-before Inv-loop μ-loop
-add-next-before c = omega arith
+add-scan-places : tie.Need-add-scan-places Inv-loop μ-loop
+add-scan-places c = omega arith
 
-next-before-requires-2 : tie.Need-next-before-requires-2 Inv-loop μ-loop
-next-before-requires-2 c κs = omega arith
+slice-aggregate-scan-places : tie.Need-slice-aggregate-scan-places Inv-loop μ-loop
+slice-aggregate-scan-places c = sym (length-take-le _ _ (omega arith))
 
-enum-known-offset : tie.Need-enum-known-offset Inv-loop μ-loop
-enum-known-offset c = search needs
+add-scan-places-2 : tie.Need-add-scan-places-2 Inv-loop μ-loop
+add-scan-places-2 c = omega arith
+
+scan-places-requires-2 : tie.Need-scan-places-requires-2 Inv-loop μ-loop
+scan-places-requires-2 c κs = omega (arith, length-take (c .before .before .next-block .result + 19) (c .before .before .before .before .before .before .before .args .s .now))
+
+enum-known-inside : tie.Need-enum-known-inside Inv-loop μ-loop
+enum-known-inside c = search needs
 
 returns-3 : tie.Need-returns-3 Inv-loop μ-loop
 returns-3 c =
-    let r = c .before .before .before .before .before in
-    tells _ _ _ _ (sym (c .before .before .before .next-before2 .ensures) ∙ c .before .offset .given .1)
+    let r = c .before .before .before .before .before .before in
+    found-inside _ _ 16 _ _ (sym (found-by _ _ (c .before .before .before .scan-places2 .ensures)) ∙ c .before .inside .given .1)
     ∙ r .next-block .ensures .0
     ∙ r .before .loop .inv
 
@@ -66,8 +74,8 @@ loop-less c = omega arith
 
 loop-again : tie.Need-loop-again Inv-loop μ-loop
 loop-again c =
-    let r = c .before .before .before .before in
-    goes-on _ _ 16 (sym (c .before .before .next-before2 .ensures) ∙ c .enum-told .given .1)
+    let r = c .before .before .before .before .before in
+    none-inside _ _ 16 (sym (found-by _ _ (c .before .before .scan-places2 .ensures)) ∙ c .enum-told .given .1)
     ∙ r .next-block .ensures .0
     ∙ r .before .loop .inv
 
@@ -82,11 +90,13 @@ next-code-spec =
     places-requires
     loop-holds
     next-block-requires
-    next-before-requires
+    scan-places-requires
     returns-2
-    add-next-before
-    next-before-requires-2
-    enum-known-offset
+    add-scan-places
+    slice-aggregate-scan-places
+    add-scan-places-2
+    scan-places-requires-2
+    enum-known-inside
     returns-3
     enum-told
     add-at

@@ -2,7 +2,7 @@ use borrow.Author.Needs.{needs}
 use mathlib.Core.Path.{sym, _∙_}
 use native.Mathlib.Omega.{arith}
 use Rattle.scan.proofs.Walk.{sought}
-use Rattle.scan.proofs.Pictures.{slices-passed, next-none, next-last, next-ended, next-followed}
+use Rattle.scan.proofs.Pictures.{next-none, next-last, next-ended, end-code}
 use Rattle.scan.proofs.next_picture.Statement.{statement}
 use Rattle.scan.proofs.next_picture.Tie as tie
 
@@ -21,8 +21,11 @@ after-slices-requires c κs = search needs
 enum-known-offset : tie.Need-enum-known-offset
 enum-known-offset c = search needs
 
-add-end : tie.Need-add-end
-add-end c = omega (arith, slices-passed _ _ _ _ (sym (c .before .before .before .before .after-slices .ensures) ∙ c .before .before .offset .given .1) .room)
+picture-end-requires : tie.Need-picture-end-requires
+picture-end-requires c κs =
+    let r = c .before .before .before .before .before in
+    end-code _ _ _ _ (sym (r .before .before .first-picture .ensures) ∙ r .at .given .1) _ _
+    (sym (c .before .before .before .after-slices .ensures) ∙ c .before .offset .given .1)
 
 enum-told : tie.Need-enum-told
 enum-told c = search needs
@@ -35,22 +38,16 @@ returns c =
     let r = c .before .before .before .before .before .before in
     next-ended _ _ _ _ (sym (r .before .before .first-picture .ensures) ∙ r .at .given .1) _ _
     (sym (c .before .before .before .before .after-slices .ensures) ∙ c .before .before .offset .given .1)
-    (c .if1 .taken)
+    _
+    (c .picture-end .ensures)
 
 returns-2 : tie.Need-returns-2
 returns-2 c =
-    let r = c .before .before .before .before .before .before in
-    next-followed _ _ _ _ (sym (r .before .before .first-picture .ensures) ∙ r .at .given .1) _ _
-    (sym (c .before .before .before .before .after-slices .ensures) ∙ c .before .before .offset .given .1)
-    (c .if1 .left)
-
-returns-3 : tie.Need-returns-3
-returns-3 c =
     let r = c .before .before .before .before in
     next-last _ _ _ _ (sym (r .before .before .first-picture .ensures) ∙ r .at .given .1) (sym (c .before .before .after-slices .ensures) ∙ c .enum-told .given .1)
 
-returns-4 : tie.Need-returns-4
-returns-4 c = next-none _ _ (sym (c .before .before .first-picture .ensures) ∙ c .enum-told2 .given .1)
+returns-3 : tie.Need-returns-3
+returns-3 c = next-none _ _ (sym (c .before .before .first-picture .ensures) ∙ c .enum-told2 .given .1)
 
 pub next-picture-spec : {M : Type 1} → statement M
 next-picture-spec =
@@ -61,10 +58,9 @@ next-picture-spec =
     add-after-slices
     after-slices-requires
     enum-known-offset
-    add-end
+    picture-end-requires
     enum-told
     enum-told-2
     returns
     returns-2
-    returns-3
-    returns-4)
+    returns-3)
