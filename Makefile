@@ -9,6 +9,8 @@ WARNINGS = -Wall -Wextra -Wpedantic -Wshadow -Wconversion -Wsign-conversion -Wca
     -Wstrict-prototypes -Wmissing-prototypes -Wformat=2 -Wvla -Werror
 CFLAGS = -std=c99 $(WARNINGS) -O2 -Iinclude
 LIB = target/staticlib/libhipokuta.a
+# The searches for start codes by themselves, for oracle/scans and bench/run.
+SEARCHES = target/staticlib/libsearches.a
 PROVED = $(shell find crates crates.txt -name '*.rt' -o -name '*.antt' -o -name crates.txt)
 HEADERS = include/hipokuta.h $(wildcard tools/*.h tests/c/*.h)
 VERSION = $(shell sed -n 's/^.define HIPOKUTA_VERSION "\(.*\)"$$/\1/p' include/hipokuta.h)
@@ -47,8 +49,8 @@ all: $(LIB) $(TOOLS)
 test-c: $(TESTS)
 sanitized: $(SANITIZED)
 
-$(LIB): $(PROVED)
-	rt staticlib hipokuta
+$(LIB) $(SEARCHES): $(PROVED)
+	rt staticlib $(@:target/staticlib/lib%.a=%)
 
 # The programs that stand in README.md, the first and the second.
 target/tests/readme_check.c: nth = 1
@@ -98,7 +100,7 @@ uninstall:
 	for own in $(OWN_FOLDERS:%="$(TO)/%"); do if [ -d "$$own" ]; then rmdir "$$own"; fi; done
 
 clean:
-	rm -rf $(TOOLS) target/man target/tests target/sanitized target/bench $(LIB)
+	rm -rf $(TOOLS) target/man target/tests target/sanitized target/bench $(LIB) $(SEARCHES)
 
 .DELETE_ON_ERROR:
 .PHONY: all test-c sanitized install uninstall clean
