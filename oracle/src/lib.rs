@@ -1,4 +1,4 @@
-//! Cases for both programs of the oracle: drawn inputs, and the answers of the original or of a model of paper 01.
+//! What the oracle's programs share: drawn inputs, the answers of the original or of a model of paper 01, and places to lend.
 
 pub mod answers;
 pub mod calls;
@@ -11,6 +11,7 @@ pub mod known;
 pub mod layout;
 pub mod lists;
 pub mod model;
+pub mod place;
 pub mod sends;
 pub mod spans;
 pub mod state;

@@ -6,12 +6,12 @@
 //! (state.rs).
 
 use crate::entry;
-use crate::place::{Left, Place, lay};
 use crate::run::{Owed, Run};
 use oracle::draw::Draw;
 use oracle::format::pattern;
 use oracle::layout::{CBR_AGAIN, CBR_ANSWER_BYTES, CBR_FIELD, CBR_FRAME, CBR_PLACED, CBR_REFUSED, CBR_STATE_BYTES};
 use oracle::lists::{Call, call, configured};
+use oracle::place::{Left, Place, lay};
 use oracle::state::{WORDS, held, limits, words, words_of};
 use oracle::writer::{Config, Offer, Told, Writer};
 

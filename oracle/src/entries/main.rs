@@ -8,7 +8,6 @@
 
 mod cbr;
 mod entry;
-mod place;
 mod run;
 mod vbv;
 

@@ -1,7 +1,7 @@
 //! A run: what was called, what was met, and what differs.
 
-use crate::place::Left;
 use oracle::draw::Draw;
+use oracle::place::Left;
 use std::collections::BTreeMap;
 
 /// Differences that are told one by one.

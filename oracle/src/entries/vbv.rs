@@ -3,13 +3,13 @@
 //! or for a standard that there is none of. After each check stands the report alone, of the same stream in the same places.
 
 use crate::entry;
-use crate::place::{Left, Place};
 use crate::run::{Owed, Run};
 use oracle::check::judged;
 use oracle::draw::Draw;
 use oracle::format::number;
 use oracle::layout::{VBV_MPEG1, VBV_MPEG2, VBV_RECORD_BYTES, VBV_REFUSAL_BYTES, VBV_REPORT_BYTES};
 use oracle::model::patched;
+use oracle::place::{Left, Place};
 use oracle::spans::picture_codes;
 use original::vbv::VbvStandard;
 

@@ -1,6 +1,6 @@
-//! Places that are lent to an entry, and what a call leaves in them.
+//! Places that are lent to a call from C, and what it leaves in them.
 
-use oracle::draw::Draw;
+use crate::draw::Draw;
 
 /// What lies around a lent place.
 const AROUND: u8 = 0xA5;
@@ -25,11 +25,12 @@ impl Place {
     }
 
     /// The bytes that it holds now.
-    fn bytes(&self) -> &[u8] {
+    pub fn bytes(&self) -> &[u8] {
         &self.memory[self.from..self.from + self.len]
     }
 
-    fn around(&self) -> bool {
+    /// What lies around it is as it was.
+    pub fn around(&self) -> bool {
         let (before, rest) = self.memory.split_at(self.from);
         before.iter().chain(&rest[self.len..]).all(|&b| b == AROUND)
     }
