@@ -1,9 +1,11 @@
 //! The buffers that both are timed on.
 
+use crate::Streams;
 use oracle::model::{BUFFER_UNIT, RATE_UNIT};
 use oracle::spans::spans;
 use original::picture_header::{Mpeg2PictureHeader, PictureStructure};
 use original::sequence_header::Mpeg2SequenceHeader;
+use original::vbv::VbvStandard::{Mpeg1, Mpeg2};
 use original::vbv::{
     RemovalInterval, VbvCbrModel, VbvParams, VbvStandard, frame_rate_value, oracle_scan_start_codes, patch_vbv_delay,
 };
@@ -52,7 +54,7 @@ fn stamp(standard: VbvStandard, stream: &mut [u8], first: u16) {
 /// A stream of 25 frames a second, over and over up to `size` bytes, and accepted: the rate that it declares is the least
 /// that carries it, each round is padded to that rate, and the delays are the expected ones. It begins with the buffer three
 /// quarters full; any delay would do that lets nothing overflow or starve.
-pub fn repeated(standard: VbvStandard, stream: &[u8], size: usize) -> Vec<u8> {
+fn repeated(standard: VbvStandard, stream: &[u8], size: usize) -> Vec<u8> {
     let fields: usize =
         pictures(standard, stream).iter().map(|p| if p.interval == RemovalInterval::Frame { 2 } else { 1 }).sum();
     let rate = stream.len().div_ceil(fields); // in 400 bits a second, which is one byte a field period
@@ -69,7 +71,7 @@ pub fn repeated(standard: VbvStandard, stream: &[u8], size: usize) -> Vec<u8> {
 }
 
 /// Fields of 23 or 24 bytes at 60 frames a second, the least that the least rate (22,800) carries; accepted.
-pub fn tiny(size: usize) -> Vec<u8> {
+fn tiny(size: usize) -> Vec<u8> {
     let mut stream = vec![0, 0, 1, 0xB3, 1, 0, 0x10, 0x18, 0, 0x0E, 0x60, 8];
     stream.extend([0, 0, 1, 0xB5, 0x14, 0x82, 0, 1, 0, 0]);
     let mut n = 0;
@@ -122,7 +124,7 @@ fn slice(stream: &mut Vec<u8>, row: usize, data: &[u8]) {
 
 /// Pictures as a broadcast at 3.6 Mbit/s has them: some 36 slices of 40 to some 1,500 bytes, drawn, 505 on average. Their data
 /// are taken from anywhere in those of a small stream's slices.
-pub fn broadcast(from: &[u8], size: usize) -> Vec<u8> {
+fn broadcast(from: &[u8], size: usize) -> Vec<u8> {
     let data = slice_data(from);
     let mut draw = Xorshift::new();
     frames(size, |stream| {
@@ -139,14 +141,14 @@ pub fn broadcast(from: &[u8], size: usize) -> Vec<u8> {
 }
 
 /// The same with 36 slices of 504 bytes, whose data go on from one to the next.
-pub fn equal_slices(from: &[u8], size: usize) -> Vec<u8> {
+fn equal_slices(from: &[u8], size: usize) -> Vec<u8> {
     let data = slice_data(from);
     let mut data = data.chunks_exact(499).cycle();
     frames(size, |stream| (1..=36).for_each(|row| slice(stream, row, data.next().unwrap())))
 }
 
 /// Random bytes.
-pub fn random(size: usize) -> Vec<u8> {
+fn random(size: usize) -> Vec<u8> {
     let mut draw = Xorshift::new();
     (0..size / 8).flat_map(|_| draw.next().to_le_bytes()).collect()
 }
@@ -169,3 +171,19 @@ impl Xorshift {
         (self.next() % n as u64) as usize
     }
 }
+
+pub const MB: usize = 1_000_000;
+
+/// A stream's name, its sizes in MB, its standard, and how it is made of some bytes.
+type Case = (&'static str, &'static [usize], VbvStandard, fn(&Streams, usize) -> Vec<u8>);
+
+pub const CASES: [Case; 8] = [
+    ("mpeg2-25.m2v, repeated", &[1, 16, 64, 256, 1000], Mpeg2, |s, n| repeated(Mpeg2, &s.two, n)),
+    ("broadcast", &[1, 16, 64, 256, 1000], Mpeg2, |s, n| broadcast(&s.two, n)),
+    ("broadcast, equal slices", &[64], Mpeg2, |s, n| equal_slices(&s.two, n)),
+    ("mpeg1-25.m1v, repeated", &[64], Mpeg1, |s, n| repeated(Mpeg1, &s.one, n)),
+    ("fields.m2v, repeated", &[64], Mpeg2, |s, n| repeated(Mpeg2, &s.fields, n)),
+    ("mpeg2-25.m2v, repeated as it is", &[64], Mpeg2, |s, n| s.two.repeat(n / s.two.len())),
+    ("tiny fields", &[1, 16, 64], Mpeg2, |_, n| tiny(n)),
+    ("random bytes", &[1, 64, 256], Mpeg2, |_, n| random(n)),
+];

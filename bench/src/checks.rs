@@ -3,15 +3,14 @@
 //! Timed is the one call. The stream, and for ours the places to write to, lie in memory that was written before; the original
 //! allocates what it needs and frees what it does not hand back, and its report is dropped after the time.
 
-use crate::buffers;
+use crate::buffers::{CASES, MB};
 use crate::entry::vbv_check;
-use crate::table::{Pick, Table, counted};
-use crate::timing::{rounds, seconds, stack};
+use crate::table::{Pick, Table, counted, rate};
+use crate::timing::{best, seconds, stack};
 use crate::{Streams, heap};
 use oracle::layout::{VBV_MPEG1, VBV_MPEG2, VBV_RECORD_BYTES, VBV_REFUSAL_BYTES, VBV_REPORT_BYTES};
 use oracle::spans::picture_codes;
-use original::vbv::VbvStandard::{self, Mpeg1, Mpeg2};
-use original::vbv::{VbvVerifyError, verify_cbr_stream};
+use original::vbv::{VbvStandard, VbvVerifyError, verify_cbr_stream};
 use std::hint::black_box;
 
 /// Where our check writes.
@@ -33,7 +32,7 @@ impl Places {
 
     /// Our check, with places for the records of some pictures.
     pub fn check(&mut self, standard: VbvStandard, stream: &[u8], pictures: usize) -> u64 {
-        let number = if standard == Mpeg1 { VBV_MPEG1 } else { VBV_MPEG2 };
+        let number = if standard == VbvStandard::Mpeg1 { VBV_MPEG1 } else { VBV_MPEG2 };
         unsafe {
             vbv_check(
                 stream.as_ptr(),
@@ -115,15 +114,9 @@ impl Work {
 fn line(table: &mut Table, name: &str, mut work: Work) {
     let answer = work.same();
     let size = work.stream.len() as f64;
-    let mut best = [f64::MAX; 3];
-    rounds(100, || {
-        for (best, (side, _)) in best.iter_mut().zip(SIDES) {
-            *best = best.min(work.run(side));
-        }
-    });
-    let ratio = best[0] / best[1];
-    let rate = |s| size / s / 1e9;
-    let [original, core, one_walk] = best.map(|s| format!("{:.*}", if rate(s) < 0.995 { 3 } else { 2 }, rate(s)));
+    let times = best(100, SIDES, |(side, _)| work.run(side));
+    let ratio = times[0] / times[1];
+    let [original, core, one_walk] = times.map(|s| rate(size, s));
     let heap = heap::most_held(|| drop(black_box(verify_cbr_stream(&work.stream, work.standard)))) as f64 / 1e6;
     let stack = stack(|| _ = work.places.check(work.standard, &work.stream, work.places.pictures()));
     let mega = size / 1e6;
@@ -141,31 +134,17 @@ fn count(name: &str, mut work: Work) {
     }
 }
 
-/// A stream's name, its sizes in MB, and how it is made of some bytes.
-type Case = (&'static str, &'static [usize], fn(&Streams, usize) -> Work);
-
-const CASES: [Case; 8] = [
-    ("mpeg2-25.m2v, repeated", &[1, 16, 64, 256, 1000], |s, n| Work::new(Mpeg2, buffers::repeated(Mpeg2, &s.two, n))),
-    ("broadcast", &[1, 16, 64, 256, 1000], |s, n| Work::new(Mpeg2, buffers::broadcast(&s.two, n))),
-    ("broadcast, equal slices", &[64], |s, n| Work::new(Mpeg2, buffers::equal_slices(&s.two, n))),
-    ("mpeg1-25.m1v, repeated", &[64], |s, n| Work::new(Mpeg1, buffers::repeated(Mpeg1, &s.one, n))),
-    ("fields.m2v, repeated", &[64], |s, n| Work::new(Mpeg2, buffers::repeated(Mpeg2, &s.fields, n))),
-    ("mpeg2-25.m2v, repeated as it is", &[64], |s, n| Work::new(Mpeg2, s.two.repeat(n / s.two.len()))),
-    ("tiny fields", &[1, 16, 64], |_, n| Work::new(Mpeg2, buffers::tiny(n))),
-    ("random bytes", &[1, 64, 256], |_, n| Work::new(Mpeg2, buffers::random(n))),
-];
-
 pub fn table(streams: &Streams, pick: &Pick) {
-    const MB: usize = 1_000_000;
     let mut table = Table::new(
         "| stream | size | answer | original GB/s | this core GB/s | ratio | no record places | original's heap | its own stack |",
     );
-    for (name, sizes, make) in CASES {
+    for (name, sizes, standard, make) in CASES {
+        let work = |size| Work::new(standard, make(streams, size));
         let picked = sizes.iter().filter(|size| pick.has(&format!("{name}, {size} MB")));
         if !pick.count {
-            picked.for_each(|size| line(&mut table, name, make(streams, size * MB)));
+            picked.for_each(|size| line(&mut table, name, work(size * MB)));
         } else if picked.count() != 0 {
-            count(name, make(streams, MB));
+            count(name, work(MB));
         }
     }
 }

@@ -11,6 +11,7 @@ mod entry;
 mod heap;
 mod memory;
 mod offers;
+mod searches;
 mod table;
 mod timing;
 
@@ -36,4 +37,5 @@ fn main() {
     checks::table(&streams, &pick);
     offers::table(&streams.two, &pick);
     offers::withdrawal_table(&streams.two, &pick);
+    searches::table(&streams, &pick);
 }

@@ -32,6 +32,12 @@ impl Pick {
     }
 }
 
+/// GB/s of some bytes in some seconds.
+pub fn rate(bytes: f64, seconds: f64) -> String {
+    let rate = bytes / seconds / 1e9;
+    format!("{rate:.*}", if rate < 0.995 { 3 } else { 2 })
+}
+
 /// Tells whoever counts what the next call of `timed` is.
 pub fn counted(table: &str, name: &str, pictures: usize, bytes: usize, side: &str) {
     println!("{table}\t{name}\t{pictures}\t{bytes}\t{side}");

@@ -35,6 +35,17 @@ pub fn rounds(most: usize, mut round: impl FnMut()) {
     }
 }
 
+/// The best time of each side; they run in turn.
+pub fn best<S: Copy, const N: usize>(most: usize, sides: [S; N], mut run: impl FnMut(S) -> f64) -> [f64; N] {
+    let mut best = [f64::MAX; N];
+    rounds(most, || {
+        for (best, side) in best.iter_mut().zip(sides) {
+            *best = best.min(run(side));
+        }
+    });
+    best
+}
+
 /// Bytes of stack that a run uses, without those that a thread uses anyway.
 pub fn stack(mut run: impl FnMut()) -> usize {
     extern "C" fn call(run: *mut c_void) {
