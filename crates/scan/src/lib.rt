@@ -143,8 +143,8 @@ fn near_end(from: usize, end: usize) -> usize
     end
 }
 
-// Passes over quiet blocks up to one of 16 bytes. The next code is mostly near, and a search by one width is foreseen best:
-// only past NEAR quiet bytes are blocks of 64 passed over.
+// Passes over quiet blocks up to one of 16 bytes that has 00 01, or to the last bytes. The next code is mostly near, and a
+// search by one width is foreseen best: only past NEAR quiet bytes are blocks of 64 passed over.
 fn next_block(s: &[u8], from: usize, end: usize) -> usize
     requires { ⌜ end + 3 ≤ length (now s) ⌝ }
     ensures { λ r. ⌜ (nextCode (now (s .entry)) r ≡ nextCode (now (s .entry)) from) × (from ≤ r) ⌝ }

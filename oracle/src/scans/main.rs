@@ -3,7 +3,7 @@
 //!
 //!     scans COUNT SEED
 //!
-//! All strings of four bytes up to 9 long, searched from every place; then COUNT drawn inputs.
+//! All strings of the bytes 00, 01, 02 and B3 up to 9 long, searched from every place; then COUNT drawn inputs.
 
 mod entry;
 mod inputs;

@@ -108,7 +108,7 @@ impl Met {
         ];
         println!("searches:");
         for (name, n) in self.facts.iter().chain(&more) {
-            println!("    {} {name}", if *n == 0 { "none".into() } else { n.to_string() });
+            println!("    {} {name}", if *n == 0 { "not met:".into() } else { n.to_string() });
         }
         self.facts.iter().chain(&more).all(|&(_, n)| n > 0)
     }
