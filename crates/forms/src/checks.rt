@@ -30,6 +30,7 @@ fn put_record(out: &mut [u8], at: usize, record: VbvPictureRecord) -> usize {
         record.expected_delay as u64,
         record.data_bits,
         record.occupancy_before_bits,
+        record.periods as u64,
     ];
     put_words(out, at, &words)
 }
@@ -77,22 +78,23 @@ fn is_report(answer: VbvVerified) -> bool {
     false
 }
 
-// Whether both forms give the same answer and leave the same four places, of which each holds 7, 8, 9, 10 before.
+// Whether both forms give the same answer and leave the same four places, of which each holds 7, 8, 9, 10, 11 before.
 fn compare(tally: Tally, stream: &[u8], standard: VbvStandard) -> Tally {
     let filling = VbvPictureRecord {
         vbv_delay: 7,
         expected_delay: 8,
         data_bits: 9,
         occupancy_before_bits: 10,
+        periods: 11,
     };
-    let mut bytes = [0u8; 128];
+    let mut bytes = [0u8; 160];
     let before = [filling; 4];
     put_records(&mut bytes, before);
     let by_bytes = verify::verify_cbr_stream(stream, standard, &mut bytes);
     let mut told = [0u8; 40];
     put_answer(&mut told, by_bytes);
     let records = places(stream, standard, filling);
-    let mut lent_bytes = [0u8; 128];
+    let mut lent_bytes = [0u8; 160];
     put_records(&mut lent_bytes, records);
     let by_structs = answer(stream, standard, filling);
     let mut lent_told = [0u8; 40];

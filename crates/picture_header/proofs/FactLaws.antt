@@ -1,6 +1,6 @@
 -- A picture's facts, one by one, and what parsed headers tell.
 -- Assumes nothing.
-use mathlib.Core.Path.{_≡_, refl, ap}
+use mathlib.Core.Path.{_≡_, refl, sym, ap}
 use mathlib.Core.List.{List}
 use mathlib.Core.Bool.{false}
 use Prim.Native.Nat.{ℕ, _<_}
@@ -37,6 +37,14 @@ pub told-parsed : (s : List ℕ) (h : Mpeg2PictureHeader) (x : PictureCodingExte
     → pictureTold s ≡ value (h .«vbv_delay», factsOf h x)
 unfolding pictureTold
 told-parsed s h x e = rw e
+
+-- a picture that its header alone tells of is a frame
+pub header-told-frame : (s : List ℕ) (t : ℕ × PictureFacts) → headerTold s ≡ value t → t .1 .field ≡ false
+unfolding headerTold factsBy isField
+header-told-frame s t e =
+    let a = then-value (pictureHeader s) e in
+    let x : _≡_ {A = ℕ × PictureFacts} (a .0 .«vbv_delay», factsBy (a .0 .«picture_coding_type») Frame false false) t = cc in
+    sym (ap (λ (y : ℕ × PictureFacts). y .1 .field) x)
 
 -- a coded delay is a number of 16 bits
 module _ (s : List ℕ) (t : ℕ × PictureFacts) where

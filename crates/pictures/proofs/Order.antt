@@ -1,14 +1,15 @@
 -- The steps of the walk give the pictures of a stream, which lie one after another within it.
 -- Assumes nothing.
-use mathlib.Core.Path.{_≡_, refl, sym, ap}
+use mathlib.Core.Path.{_≡_, refl, sym, ap, _∙_}
 use Prim.Native.Nat.{ℕ, zero, suc, _+_, _*_, _≤_, _<_}
 use mathlib.Core.List.{List, [], _∷_}
+use mathlib.Core.Bool.{false}
 use native.Mathlib.Omega.{arith}
 use lib.ListN.{length, drop}
 use Rattle.vbv.specs.Model.{farthest}
 use Rattle.bits.specs.Refusals.{Answer, value, refused}
 use Rattle.bits.proofs.Following.{then-value}
-use Rattle.picture_header.proofs.FactLaws.{header-told-small, picture-told-small}
+use Rattle.picture_header.proofs.FactLaws.{header-told-frame, header-told-small, picture-told-small}
 use Rattle.scan.specs.Pictures.{Pic, pictures}
 use Rattle.scan.specs.Order as scanned
 use Rattle.scan.specs.Order.{InOrder}
@@ -63,6 +64,32 @@ each-length standard s (q ∷ qs) xs h =
 pub seen-length : (standard : VbvStandard) (s : List ℕ) (xs : List SeenPicture) → seenPictures standard s ≡ value xs → length xs ≡ length (pictures s)
 unfolding seenPictures
 seen-length standard s xs h = each-length standard s (pictures s) xs h
+
+-- ---- MPEG-1 pictures are all frames
+
+pub data Frames : List SeenPicture → Type 0 where
+  no-frame : Frames []
+  one-frame : {x : SeenPicture} {xs : List SeenPicture} → x .facts .field ≡ false → Frames xs → Frames (x ∷ xs)
+
+frame-at : (s : List ℕ) (q : Pic) (x : SeenPicture) → seenAt Mpeg1 s q ≡ value x → x .facts .field ≡ false
+unfolding seenAt seenOf shown
+frame-at s q x h =
+    let a = then-value (shown Mpeg1 (drop (q .start) s)) h in
+    let e : seenOf q (a .0) ≡ x = cc in
+    sym (ap (λ (y : SeenPicture). y .facts .field) e) ∙ header-told-frame (drop (q .start) s) (a .0) (a .1)
+
+each-frame : (s : List ℕ) (qs : List Pic) (xs : List SeenPicture) → seenEach Mpeg1 s qs ≡ value xs → Frames xs
+unfolding seenEach
+each-frame s [] xs h = let e : [] ≡ xs = cc in rw (← e) no-frame
+each-frame s (q ∷ qs) xs h =
+    let a = then-value (seenAt Mpeg1 s q) h in
+    let c = then-value (seenEach Mpeg1 s qs) (a .2) in
+    let y : a .0 ∷ c .0 ≡ xs = cc in
+    rw (← y) (one-frame {x = a .0} (frame-at s q (a .0) (a .1)) (each-frame s qs (c .0) (c .1)))
+
+pub all-frames : (s : List ℕ) (xs : List SeenPicture) → seenPictures Mpeg1 s ≡ value xs → Frames xs
+unfolding seenPictures
+all-frames s xs h = each-frame s (pictures s) xs h
 
 -- ---- where the pictures lie
 

@@ -103,13 +103,14 @@ LeastStuffing p d previous x = Stuffs p (x .before) d (x .offer) (x .stuffing)
 
 -- ---- the check
 
--- coded equal to expected, data bits 8 × the bytes placed
+-- coded equal to expected, data bits 8 × the bytes placed, periods by the offer's interval
 unfoldable pub sentRecord : VbvParams → ℕ → ℕ → Sent → VbvPictureRecord
 sentRecord p d previous x = record {
   «vbv_delay» = x .delay;
   «expected_delay» = x .delay;
   «data_bits» = 8 * length (x .bytes);
   «occupancy_before_bits» = occupancy p previous d;
+  periods = periods (x .offer .interval);
 }
 
 -- one record a picture, in order

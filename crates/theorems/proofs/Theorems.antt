@@ -21,6 +21,7 @@ use Rattle.pictures.proofs.Order.{steps-give, seen-rising}
 use Rattle.pictures.proofs.Due.{front-due}
 use Rattle.pictures.proofs.Numbering.{front-numbers}
 use Rattle.verify.proofs.Bounds.{records-small}
+use Rattle.verify.proofs.Periods.{periods-told}
 use Rattle.rate_control.proofs.Demand.{owed}
 use Rattle.rate_control.proofs.Refusing.{writer-numbers}
 use Rattle.rate_control.proofs.Figures.{writer-figures, target-figures, rules, steering}
@@ -65,6 +66,7 @@ theorems = record {
   check-due = check-due;
   nothing-cut = nothing-cut;
   check-numbers = check-numbers;
+  periods-told = periods-told;
   records-small = records-small;
   demand-3 = owed;
   writer-numbers = writer-numbers;

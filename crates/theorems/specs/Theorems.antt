@@ -15,6 +15,7 @@ use Rattle.verify.specs.Numbers.{CheckNumbers}
 use Rattle.pictures.specs.Order.{StepsGivePictures, SeenRising}
 use Rattle.pictures.specs.Due.{FrontIsDue}
 use Rattle.pictures.specs.Numbers.{FrontNumbers}
+use Rattle.verify.specs.Periods.{PeriodsTold}
 use Rattle.verify.specs.Sizes.{RecordsSmall}
 use Rattle.rate_control.specs.Demand.{Demand3}
 use Rattle.rate_control.specs.Numbers.{WriterNumbers}
@@ -86,7 +87,9 @@ pub record Theorems : Type 0 where
   pub nothing-cut : NothingCut
   -- A refusal is one of paper 01's numbers; only 9 to 11 carry picture, coded and expected.
   pub check-numbers : CheckNumbers
-  -- In a record the delays have 16 bits, the data bits are at most 2^48 and the occupancy at most the largest buffer.
+  -- A record tells the field periods up to the next removal: 1 for a field picture, 2 for a frame, so 2 throughout MPEG-1.
+  pub periods-told : PeriodsTold
+  -- In a record the delays have 16 bits, the data bits are at most 2^48, the occupancy is at most the largest buffer and the periods are at most 6.
   pub records-small : RecordsSmall
   -- ---- the writer
   -- Demand 3: of every creation, and of every list of offers and withdrawals on a writer that was created.

@@ -1,6 +1,6 @@
 -- What the tests of parameters and of a state say: bounds, and back.
 -- Assumes nothing.
-use mathlib.Core.Path.{_≡_}
+use mathlib.Core.Path.{_≡_, refl}
 use mathlib.Core.Bool.{true, false, _&&_}
 use Prim.Native.Nat.{ℕ, _*_, _/_, _≤_, _<_}
 use native.Mathlib.Omega.{arith}
@@ -14,7 +14,7 @@ use Rattle.vbv.specs.declared.VbvParams.{VbvParams}
 use Rattle.vbv.specs.declared.VbvCbrModel.{VbvCbrModel}
 use Rattle.vbv.specs.Annex.{unit}
 use Rattle.vbv.specs.Steps.{ParamsFit, ModelFits, EndFits}
-use Rattle.vbv.specs.Model.{farthest, mostDelivered, paramsInRange, ratioFits, paramsFit, delivered, modelFits, periods, endFits}
+use Rattle.vbv.specs.Model.{farthest, mostDelivered, paramsInRange, ratioFits, paramsFit, delivered, modelFits, intervalOf, periods, endFits}
 
 -- the ranges keep the test of the ratio in 64 bits
 pub in-range : (p : VbvParams) → paramsInRange p ≡ true → (p .«bit_rate» ≤ 429496729200) × (p .«buffer_size_bits» ≤ 4294950912)
@@ -111,3 +111,12 @@ delivered-div m h = digits-div (m .whole) (model-fits h .rest-low)
 pub periods-most : (i : RemovalInterval) → periods i ≤ 2
 periods-most Frame = omega arith
 periods-most Field = omega arith
+
+-- a field picture lasts one, a frame two
+pub field-lasts : periods (intervalOf true) ≡ 1
+unfolding intervalOf
+field-lasts = refl
+
+pub frame-lasts : periods (intervalOf false) ≡ 2
+unfolding intervalOf
+frame-lasts = refl

@@ -6,7 +6,7 @@ ghost use Rattle.vbv.specs.Annex.{unit, firstDelivered};
 ghost use Rattle.vbv.specs.Answers.{modelNumber, modelAnswer, removalAnswer, delayAnswer, modelBitsAnswer, patchAnswer, rateAnswer, frameRate, violationRefusal};
 ghost use Rattle.vbv.specs.Steps.{ModelFits, EndFits};
 ghost use Rattle.vbv.specs.Params.{paramsOf};
-ghost use Rattle.vbv.specs.Model.{farthest, paramsInRange, paramsFit, delivered, modelFits, atDelivered, periods, nextDelivered, newModel, startModel, delayForPicture, removePicture, maxEndBits, minEndBits, occupancyBeforeRemoval, intervalOf};
+ghost use Rattle.vbv.specs.Model.{farthest, paramsInRange, paramsFit, delivered, modelFits, atDelivered, periods as periodsOf, nextDelivered, newModel, startModel, delayForPicture, removePicture, maxEndBits, minEndBits, occupancyBeforeRemoval, intervalOf};
 ghost use Rattle.vbv.specs.Patch.{startsPicture, patchPicture, patched};
 
 pub mod lent; // the model by reference
@@ -422,7 +422,8 @@ impl VbvCbrModel {
         let params = self.params;
         let unit = 180000 * params.frn;
         let fields = 2 * params.frn;
-        let gain = params.bit_rate * params.frd * periods_of(interval);
+        let count = periods(interval) as u64;
+        let gain = params.bit_rate * params.frd * count;
         let sum = self.rest + gain % fields * 90000;
         VbvCbrModel {
             params,
@@ -492,8 +493,9 @@ pub fn interval(field: bool) -> RemovalInterval
     RemovalInterval::Frame
 }
 
-fn periods_of(interval: RemovalInterval) -> u64
-    ensures { λ r. ⌜ (r ≡ periods interval) × (r ≤ 2) ⌝ }
+// The field periods up to the next removal.
+pub fn periods(interval: RemovalInterval) -> u8
+    ensures { λ r. ⌜ r ≡ periodsOf interval ⌝ }
 {
     match interval {
         RemovalInterval::Frame => 2,

@@ -17,10 +17,11 @@ use Rattle.vbvcheck.specs.Text.{line, recordLines}
 use Rattle.vbvcheck.specs.Steps.{lineOf, linesOf}
 
 -- the words of the part from a place on
-pub line-read : (s : List ℕ) (i : ℕ) {a b d e : ℕ} → a ≡ wordAt (take (length s - i) (drop i s)) 0 → b ≡ wordAt (take (length s - i) (drop i s)) 1
-    → d ≡ wordAt (take (length s - i) (drop i s)) 2 → e ≡ wordAt (take (length s - i) (drop i s)) 3 → line (a ∷ b ∷ d ∷ e ∷ []) ≡ lineOf (drop i s)
+pub line-read : (s : List ℕ) (i : ℕ) {a b d e f : ℕ} → a ≡ wordAt (take (length s - i) (drop i s)) 0 → b ≡ wordAt (take (length s - i) (drop i s)) 1
+    → d ≡ wordAt (take (length s - i) (drop i s)) 2 → e ≡ wordAt (take (length s - i) (drop i s)) 3
+    → f ≡ wordAt (take (length s - i) (drop i s)) 4 → line (a ∷ b ∷ d ∷ e ∷ f ∷ []) ≡ lineOf (drop i s)
 unfolding lineOf
-line-read s i a b d e = rw (a, b, d, e, rest-is s i)
+line-read s i a b d e f = rw (a, b, d, e, f, rest-is s i)
 
 pub lines-step : (n k : ℕ) (s p : List ℕ) {q : List ℕ} → k < n → q ≡ p ++ lineOf (drop (recordSize * k) s)
     → q ++ linesOf (n - (k + 1)) (drop (recordSize * (k + 1)) s) ≡ p ++ linesOf (n - k) (drop (recordSize * k) s)
@@ -38,13 +39,14 @@ pub lines-are : (rs : List VbvPictureRecord) (rest : List ℕ) → AllSmall rs �
 unfolding linesOf recordLines lineOf
 lines-are [] rest none = refl
 lines-are (r ∷ rs) rest (some q t) =
-    let ws = r .«vbv_delay» ∷ r .«expected_delay» ∷ r .«data_bits» ∷ r .«occupancy_before_bits» ∷ [] in
+    let ws = r .«vbv_delay» ∷ r .«expected_delay» ∷ r .«data_bits» ∷ r .«occupancy_before_bits» ∷ r .periods ∷ [] in
     let more = recordsBytes rs ++ rest in
     let small : AllWords ws
     = word {v = r .«vbv_delay»} (omega (arith, q .coded-small))
     (word {v = r .«expected_delay»} (omega (arith, q .expected-small))
     (word {v = r .«data_bits»} (omega (arith, q .data-small))
-    (word {v = r .«occupancy_before_bits»} (omega (arith, q .occupancy-small)) no-word))) in
+    (word {v = r .«occupancy_before_bits»} (omega (arith, q .occupancy-small))
+    (word {v = r .periods} (omega (arith, q .periods-small)) no-word)))) in
     rw (
       records-more r rs,
       append-assoc (wordsBytes ws) (recordsBytes rs) rest,
@@ -52,6 +54,7 @@ lines-are (r ∷ rs) rest (some q t) =
       word-put small more 1 (omega arith),
       word-put small more 2 (omega arith),
       word-put small more 3 (omega arith),
+      word-put small more 4 (omega arith),
       drop-at (wordsBytes ws) more recordSize (length-words ws),
       lines-are rs rest t,
     )

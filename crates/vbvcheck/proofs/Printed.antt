@@ -54,7 +54,7 @@ text-refused (refused n k c x) e h =
     rw (← a, ← b, ← d, ← f)
 
 text-reported : (v : Answer Accepted) (x : VbvStreamReport) → value x ≡ reported v
-    → reportText x ++ (ascii "delay expected data_bits occupancy_before\n" ++ recordLines (records v)) ≡ verdictText v
+    → reportText x ++ (ascii "delay expected data_bits occupancy_before periods\n" ++ recordLines (records v)) ≡ verdictText v
 unfolding verdictText
 text-reported (value a) x h = let e : x ≡ reportOf a = cc in rw e
 text-reported (refused n k c y) x h = absurd (clash cc)
@@ -66,7 +66,7 @@ module _ (s : List ℕ) (places : ℕ) (h : length s ≤ 65536) (l : places ≡ 
 
   pub printed-report : (x : VbvStreamReport) (old new : List ℕ) → r ≡ Report x → verifiedAnswer r ≡ reported (verdict Mpeg2 s places)
       → new ≡ over (recordsBytes (records (verdict Mpeg2 s places))) old
-      → reportText x ++ (ascii "delay expected data_bits occupancy_before\n" ++ linesOf (x .pictures) new) ≡ printed s
+      → reportText x ++ (ascii "delay expected data_bits occupancy_before periods\n" ++ linesOf (x .pictures) new) ≡ printed s
   unfolding printed pick
   printed-report x old new q t w =
       let rs = records (verdict Mpeg2 s places) in

@@ -7,9 +7,9 @@ use Rattle.words.specs.Words.{wordAt}
 use Rattle.verify.specs.Layout.{recordSize}
 use Rattle.vbvcheck.specs.Text.{line}
 
--- the first four words, as a line
+-- the first five words, as a line
 unfoldable pub lineOf : List ℕ → List ℕ
-lineOf s = line (wordAt s 0 ∷ wordAt s 1 ∷ wordAt s 2 ∷ wordAt s 3 ∷ [])
+lineOf s = line (wordAt s 0 ∷ wordAt s 1 ∷ wordAt s 2 ∷ wordAt s 3 ∷ wordAt s 4 ∷ [])
 
 -- the lines of the first n places
 unfoldable pub linesOf : ℕ → List ℕ → List ℕ

@@ -36,7 +36,7 @@ line (n ∷ ns) = decimal 20 n ++ (ending ns ∷ line ns)
 unfoldable pub recordLines : List VbvPictureRecord → List ℕ
 recordLines [] = []
 recordLines (r ∷ rs) =
-    line (r .«vbv_delay» ∷ r .«expected_delay» ∷ r .«data_bits» ∷ r .«occupancy_before_bits» ∷ []) ++ recordLines rs
+    line (r .«vbv_delay» ∷ r .«expected_delay» ∷ r .«data_bits» ∷ r .«occupancy_before_bits» ∷ r .periods ∷ []) ++ recordLines rs
 
 unfoldable pub reportText : VbvStreamReport → List ℕ
 reportText r =
@@ -47,7 +47,7 @@ unfoldable pub refusalText : VbvRefusal → List ℕ
 refusalText r = ascii "refused picture coded expected\n" ++ line (r .number ∷ r .picture ∷ r .coded ∷ r .expected ∷ [])
 
 unfoldable pub verdictText : Answer Accepted → List ℕ
-verdictText (value a) = reportText (reportOf a) ++ (ascii "delay expected data_bits occupancy_before\n" ++ recordLines (a .first ∷ a .others))
+verdictText (value a) = reportText (reportOf a) ++ (ascii "delay expected data_bits occupancy_before periods\n" ++ recordLines (a .first ∷ a .others))
 verdictText (refused n k c e) = refusalText (record { number = n; picture = k; coded = c; expected = e })
 
 unfoldable pub printed : List ℕ → List ℕ

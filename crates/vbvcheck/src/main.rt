@@ -8,7 +8,7 @@ use libc::STDOUT_FILENO;
 // A stream has 65,536 bytes at most: one more is read to tell a longer one.
 fn main() {
     let mut stream = [0u8; 65537];
-    let mut records = [0u8; 32768];
+    let mut records = [0u8; 40960];
     let mut out = [0u8; 131072];
     let n = io::read_full(STDIN_FILENO, &mut stream);
     let m = text::put_printed(&stream[..n], &mut records, &mut out);

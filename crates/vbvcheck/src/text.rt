@@ -59,9 +59,9 @@ fn put_line(out: &mut [u8], at: usize, numbers: &[u64]) -> usize
 
 // The record at place k, as a line.
 fn put_record(out: &mut [u8], at: usize, records: &[u8], k: usize) -> usize
-    requires { ⌜ at + 84 ≤ length (now out) ⌝ }
+    requires { ⌜ at + 105 ≤ length (now out) ⌝ }
     requires { ⌜ recordSize * (k + 1) ≤ length (now records) ⌝ }
-    ensures { λ r. ⌜ r ≤ at + 84 ⌝ }
+    ensures { λ r. ⌜ r ≤ at + 105 ⌝ }
     ensures { λ r. ⌜ take r (now (out .exit)) ≡ take at (now (out .entry)) ++ lineOf (drop (recordSize * k) (now (records .entry))) ⌝ }
 {
     let from = RECORD_BYTES * k;
@@ -71,15 +71,16 @@ fn put_record(out: &mut [u8], at: usize, records: &[u8], k: usize) -> usize
         word_at(record, 1),
         word_at(record, 2),
         word_at(record, 3),
+        word_at(record, 4),
     ];
     put_line(out, at, &numbers)
 }
 
 // The records of the first n places, a line each.
 fn put_records(out: &mut [u8], at: usize, records: &[u8], n: usize) -> usize
-    requires { ⌜ at + 84 * n ≤ length (now out) ⌝ }
+    requires { ⌜ at + 105 * n ≤ length (now out) ⌝ }
     requires { ⌜ recordSize * n ≤ length (now records) ⌝ }
-    ensures { λ r. ⌜ r ≤ at + 84 * n ⌝ }
+    ensures { λ r. ⌜ r ≤ at + 105 * n ⌝ }
     ensures { λ r. ⌜ take r (now (out .exit)) ≡ take at (now (out .entry)) ++ linesOf n (now (records .entry)) ⌝ }
 {
     let mut next = at;
@@ -128,19 +129,23 @@ fn put_refusal(out: &mut [u8], r: VbvRefusal) -> usize
 
 // A report and the lines of its records.
 fn put_accepted(out: &mut [u8], r: VbvStreamReport, records: &[u8]) -> usize
-    requires { ⌜ 90000 ≤ length (now out) ⌝ }
+    requires { ⌜ 110000 ≤ length (now out) ⌝ }
     requires { ⌜ recordSize * r .pictures ≤ length (now records) ⌝ }
     requires { ⌜ r .pictures ≤ 1024 ⌝ }
     ensures { λ n. ⌜ n ≤ length (now (out .exit)) ⌝ }
-    ensures { λ n. ⌜ take n (now (out .exit)) ≡ reportText r ++ (ascii "delay expected data_bits occupancy_before\n" ++ linesOf (r .pictures) (now (records .entry))) ⌝ }
+    ensures { λ n. ⌜ take n (now (out .exit)) ≡ reportText r ++ (ascii "delay expected data_bits occupancy_before periods\n" ++ linesOf (r .pictures) (now (records .entry))) ⌝ }
 {
     let head = put_report(out, r);
-    let next = put(out, head, b"delay expected data_bits occupancy_before\n");
+    let next = put(
+        out,
+        head,
+        b"delay expected data_bits occupancy_before periods\n",
+    );
     put_records(out, next, records, r.pictures as usize)
 }
 
 // What is printed of a stream, from byte 0 on; `records` is where its records go meanwhile.
-pub(crate) fn put_printed(stream: &[u8], records: &mut [u8; 32768], out: &mut [u8; 131072]) -> usize
+pub(crate) fn put_printed(stream: &[u8], records: &mut [u8; 40960], out: &mut [u8; 131072]) -> usize
     ensures { λ n. ⌜ Counts n (now (out .exit)) ⌝ }
     ensures { λ n. ⌜ take n (now (out .exit)) ≡ printed (now (stream .entry)) ⌝ }
 {

@@ -38,6 +38,7 @@ exactRecord p previous d c = record {
   «expected_delay» = c .«vbv_delay»;
   «data_bits» = c .«end_bits» - previous;
   «occupancy_before_bits» = occupancy p previous d;
+  periods = periods (c .interval);
 }
 
 passed-conforms : {p : VbvParams} {previous d : ℕ} {c : CodedPicture} → Passed p previous d c → Conforms p previous d c (exactRecord p previous d c)

@@ -10,6 +10,7 @@ pub mod Storing
 pub mod Lending
 pub mod Accepting
 pub mod Bounds
+pub mod Periods
 pub mod Cases
 pub mod Places
 pub mod Numbering

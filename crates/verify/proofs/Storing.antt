@@ -39,7 +39,7 @@ length-record r = length-words _
 
 -- four words laid over the part from a place on
 pub record-laid : (out new : List ℕ) (at : ℕ) (r : VbvPictureRecord) → at + recordSize ≤ length out
-    → new ≡ laid (wordsBytes (r .«vbv_delay» ∷ r .«expected_delay» ∷ r .«data_bits» ∷ r .«occupancy_before_bits» ∷ [])) (take (length out - at) (drop at out))
+    → new ≡ laid (wordsBytes (r .«vbv_delay» ∷ r .«expected_delay» ∷ r .«data_bits» ∷ r .«occupancy_before_bits» ∷ r .periods ∷ [])) (take (length out - at) (drop at out))
     → take at out ++ (new ++ drop (length out - at) (drop at out)) ≡ sets out at (recordBytes r)
 unfolding recordBytes
 record-laid out new at r h e = rw e (laid-part (recordBytes r) out at (omega (arith, length-record r)))
@@ -56,7 +56,7 @@ length-records (r ∷ rs) = rw (length-append (recordBytes r) (recordsBytes rs),
 -- what the bytes of records are
 pub records-more : (r : VbvPictureRecord) (rs : List VbvPictureRecord)
     → recordsBytes (r ∷ rs)
-    ≡ wordsBytes (r .«vbv_delay» ∷ r .«expected_delay» ∷ r .«data_bits» ∷ r .«occupancy_before_bits» ∷ []) ++ recordsBytes rs
+    ≡ wordsBytes (r .«vbv_delay» ∷ r .«expected_delay» ∷ r .«data_bits» ∷ r .«occupancy_before_bits» ∷ r .periods ∷ []) ++ recordsBytes rs
 unfolding recordsBytes recordBytes
 records-more r rs = refl
 

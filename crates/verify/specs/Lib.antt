@@ -5,6 +5,7 @@ pub mod Accepted
 pub mod Due
 pub mod Answers
 pub mod Layout
+pub mod Periods
 pub mod Sizes
 pub mod Numbers
 pub mod Steps

@@ -21,6 +21,7 @@ recordOf p previous d c = record {
   «expected_delay» = expectedDelay p (c .«pos_bits») d;
   «data_bits» = c .«end_bits» - previous;
   «occupancy_before_bits» = occupancy p previous d;
+  periods = periods (c .interval);
 }
 
 -- picture n is removed with d delivered, all before `previous` removed: its record

@@ -7,12 +7,13 @@ use Rattle.pictures.specs.declared.VbvStandard.{VbvStandard}
 use Rattle.verify.specs.Check.{verdict, records}
 use Rattle.verify.specs.declared.VbvPictureRecord.{VbvPictureRecord}
 
--- 16 bits for a delay, 2^48 bits of data, and no buffer is larger than 4,294,950,912 bits
+-- 16 bits for a delay, 2^48 bits of data, no buffer is larger than 4,294,950,912 bits, and no picture lasts longer than six field periods
 pub record Small (r : VbvPictureRecord) : Type 0 where
   pub coded-small : r .«vbv_delay» < 65536
   pub expected-small : r .«expected_delay» < 65536
   pub data-small : r .«data_bits» ≤ farthest
   pub occupancy-small : r .«occupancy_before_bits» ≤ 4294950912
+  pub periods-small : r .periods ≤ 6
 
 pub data AllSmall : List VbvPictureRecord → Type 0 where
   none : AllSmall []

@@ -7,7 +7,7 @@ use lib.ListN.{length}
 use lib.Seq.{sets}
 use Rattle.bits.specs.Bits.{pick}
 use Rattle.bits.specs.Refusals.{Answer, value, refused, refuse, andThen, orElse}
-use Rattle.vbv.specs.Model.{newModel, startModel, delayForPicture, removePicture, occupancyBeforeRemoval}
+use Rattle.vbv.specs.Model.{periods, newModel, startModel, delayForPicture, removePicture, occupancyBeforeRemoval}
 use Rattle.vbv.specs.Steps.{modelOf, delayOf, bitsOf, removalOf}
 use Rattle.vbv.specs.declared.VbvParams.{VbvParams}
 use Rattle.vbv.specs.declared.VbvCbrModel.{VbvCbrModel}
@@ -63,6 +63,7 @@ recordedIf m c expected before (rm.Model next) =
       «expected_delay» = expected;
       «data_bits» = c .«end_bits» - m .«prev_end_bits»;
       «occupancy_before_bits» = before;
+      periods = periods (c .interval);
     })
     next
 recordedIf m c expected before (rm.Refused e) = Refused (Model e)
@@ -176,7 +177,7 @@ recorderOf standard (refused n k c e) =
     record { standard = standard; params = record { «bit_rate» = 0; «buffer_size_bits» = 0; frn = 0; frd = 0 }; at = 0; progress = Unmodelled NoSequenceHeader }
 
 unfoldable pub noRecord : VbvPictureRecord
-noRecord = record { «vbv_delay» = 0; «expected_delay» = 0; «data_bits» = 0; «occupancy_before_bits» = 0 }
+noRecord = record { «vbv_delay» = 0; «expected_delay» = 0; «data_bits» = 0; «occupancy_before_bits» = 0; periods = 0 }
 
 unfoldable pub lastOf : Progress → VbvPictureRecord
 lastOf Fresh = noRecord

@@ -22,14 +22,15 @@ use vbv::VbvParams;
 use vbv::VbvViolation;
 
 // The bytes of a record (docs/LAYOUT.md).
-pub const RECORD_BYTES: usize = 32;
+pub const RECORD_BYTES: usize = 40;
 
-// One removal. Occupancy is in whole bits, just before it.
+// One removal. Occupancy is in whole bits, just before it; the periods are the field periods up to the next removal.
 pub struct VbvPictureRecord {
     pub vbv_delay: u16,
     pub expected_delay: u16,
     pub data_bits: u64,
     pub occupancy_before_bits: u64,
+    pub periods: u8,
 }
 
 pub struct VbvStreamReport {

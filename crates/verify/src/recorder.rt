@@ -46,6 +46,7 @@ fn no_record() -> VbvPictureRecord
         expected_delay: 0,
         data_bits: 0,
         occupancy_before_bits: 0,
+        periods: 0,
     }
 }
 

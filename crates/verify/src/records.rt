@@ -1,4 +1,4 @@
-// Records as bytes (docs/LAYOUT.md): four words each.
+// Records as bytes (docs/LAYOUT.md): five words each.
 ghost use mathlib.Core.Path.{_≡_};
 ghost use Prim.Native.Nat.{_+_, _*_, _≤_};
 ghost use lib.ListN.{length};
@@ -21,6 +21,7 @@ fn put_record(out: &mut [u8], at: usize, record: VbvPictureRecord)
         record.expected_delay as u64,
         record.data_bits,
         record.occupancy_before_bits,
+        record.periods as u64,
     ];
     put_words(&mut out[at..], &words);
 }

@@ -21,6 +21,7 @@ use vbv::VbvParams;
 use vbv::VbvRemoval;
 use vbv::VbvViolation;
 use vbv::interval;
+use vbv::periods;
 
 // The difference, or 0.
 fn less(a: u64, b: u64) -> u64
@@ -108,6 +109,7 @@ fn remove_expected(model: VbvCbrModel, coded: CodedPicture, expected: u16) -> Re
                         expected_delay: expected,
                         data_bits: less(coded.end_bits, model.prev_end_bits),
                         occupancy_before_bits: before,
+                        periods: periods(interval),
                     },
                     next,
                 ),

@@ -27,7 +27,7 @@ returns c =
     let l = c .before .before .put-records .ensures in
     let p = c .before .before .before .before .before .before .put .ensures in
     let r = c .before .before .before .before .before .before .before .before .before .before .before .put-report .ensures in
-    (omega (arith, l .0, p .0, r .0), three-texts (reportText (a .r)) (ascii "delay expected data_bits occupancy_before\n") (linesOf (a .r .pictures) (a .records .now)) (r .1) (p .1) (l .1))
+    (omega (arith, l .0, p .0, r .0), three-texts (reportText (a .r)) (ascii "delay expected data_bits occupancy_before periods\n") (linesOf (a .r .pictures) (a .records .now)) (r .1) (p .1) (l .1))
 
 pub put-accepted-spec : {M : Type 1} → statement M
 put-accepted-spec =

@@ -31,6 +31,9 @@ word-at-requires-3 c κs = search needs
 word-at-requires-4 : tie.Need-word-at-requires-4
 word-at-requires-4 c κs = search needs
 
+word-at-requires-5 : tie.Need-word-at-requires-5
+word-at-requires-5 c κs = search needs
+
 slice-aggregate-put-line : tie.Need-slice-aggregate-put-line
 slice-aggregate-put-line c = search needs
 
@@ -44,8 +47,8 @@ returns : tie.Need-returns
 returns c =
     let l = c .before .before .put-line .ensures in
     let w = c .before .before .before .before .before in
-    let a = c .before .before .before .before .before .before .before .before .before .before .before .before .args in
-    let e = line-read (a .records .now) (recordSize * a .k) (w .before .before .before .word-at .ensures) (w .before .before .word-at2 .ensures) (w .before .word-at3 .ensures) (w .word-at4 .ensures) in
+    let a = c .before .before .before .before .before .before .before .before .before .before .before .before .before .args in
+    let e = line-read (a .records .now) (recordSize * a .k) (w .before .before .before .before .word-at .ensures) (w .before .before .before .word-at2 .ensures) (w .before .before .word-at3 .ensures) (w .before .word-at4 .ensures) (w .word-at5 .ensures) in
     (omega (arith, l .0), l .1 ∙ rw e)
 
 pub put-record-spec : {M : Type 1} → statement M
@@ -60,6 +63,7 @@ put-record-spec =
     word-at-requires-2
     word-at-requires-3
     word-at-requires-4
+    word-at-requires-5
     slice-aggregate-put-line
     put-line-requires
     same-length

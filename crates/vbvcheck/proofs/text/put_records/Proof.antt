@@ -15,7 +15,7 @@ abbrev Inv-loop : tie.InvT-loop
 Inv-loop out₀ at records n next₀ k₀ out next k =
     (take next out ++ linesOf (n - k) (drop (recordSize * k) records) ≡ take at out₀ ++ linesOf n records)
     × (length out ≡ length out₀)
-    × (next ≤ at + 84 * k)
+    × (next ≤ at + 105 * k)
     × (k ≤ n)
 
 abbrev μ-loop : tie.MeasureT-loop

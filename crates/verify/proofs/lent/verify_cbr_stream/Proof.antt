@@ -111,7 +111,7 @@ abbrev nvals : VbvStandard → List Val
 nvals = EL.vals N.the-type N′.the-laws
 
 -- ---- facts of numbers
-byte-fits : {i n : ℕ} → n * 24 < 2 ^ 63 → i < n → i * 24 < 2 ^ 64
+byte-fits : {i n : ℕ} → n * 32 < 2 ^ 63 → i < n → i * 32 < 2 ^ 64
 byte-fits room l = omega arith
 
 next-fits : {i n : ℕ} → n < 2 ^ 64 → i < n → i + 1 < 2 ^ 64
@@ -308,7 +308,7 @@ module _ {M : Type 1} (𝓤 : URA M) (H : Heap 𝓤) (A : Atoms 𝓤) (W : Given
           rewrite ! 15 (λ (us : List Val). ‵ (fat fullShare D′.mir l₈ 0 (only us))) (LL.tells D.the-type D′.the-laws (nx (i .0)) (v ∷ []) is) refl $
           assigns ! (bin ! (load ! (from ! (stop !)) (look ! 17 refl)) (lit ! tt) (record { fits = byte-fits (room .1) in-ys })) (from ! (stop !)) (init ! 9 refl (tt, record { fits = byte-fits (room .1) in-ys })) $
           assigns ! (bin ! (load ! (from ! (fld ! refl (stop !))) (look-in ! 25 (sub ! 0 refl (whole !)))) (load ! (from ! (stop !)) (look ! 9 refl)) tt) (from ! (stop !)) (init ! 7 refl (tt, tt)) $
-          rewrite ! 7 (λ (p : ℕ). ‵ (fat fullShare tyPtr l₁₂ 0 (vptr b p))) (sym (place-is 24 o (i .0))) refl $
+          rewrite ! 7 (λ (p : ℕ). ‵ (fat fullShare tyPtr l₁₂ 0 (vptr b p))) (sym (place-is 32 o (i .0))) refl $
           move ! (4 ∷ 5 ∷ 6 ∷ []) $ opens-slice ! tt T.the-row (zs (i .0)) b o $
           elem-out ! T.the-row (Is T.the-row) (shows 𝓤 H A T.the-row) rvals (LL.tells T.the-type T′.the-laws) fullShare (zs (i .0)) (i .0) (nx (i .0) .last) b o in-zs (λ _.
           -- [records[i]; what it owns; the others; the open borrow; obs; auth; what the result owns; src's token; true; src's; _9; …; … ; room for _0; …]

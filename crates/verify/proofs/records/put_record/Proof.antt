@@ -9,6 +9,9 @@ cast-t5 c = search needs
 cast-t6 : tie.Need-cast-t6
 cast-t6 c = search needs
 
+cast-t7 : tie.Need-cast-t7
+cast-t7 c = search needs
+
 sub-put-words : tie.Need-sub-put-words
 sub-put-words c = search needs
 
@@ -36,6 +39,7 @@ put-record-spec =
     (tie.spec
     cast-t5
     cast-t6
+    cast-t7
     sub-put-words
     part-put-words-start
     part-put-words-end

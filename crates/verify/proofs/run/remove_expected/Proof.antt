@@ -31,6 +31,9 @@ enum-known-next c = search needs
 less-requires : tie.Need-less-requires
 less-requires c κs = search needs
 
+periods-requires : tie.Need-periods-requires
+periods-requires c κs = search needs
+
 returns : tie.Need-returns
 unfolding removedFrom
 returns c = rw (model-bits-case (c .before .error .given .1) (c .before .before .before .occupancy-before-removal-bits .ensures))
@@ -45,7 +48,7 @@ returns-3 c = let k = c .before .before .before .before .before in rw (model-bit
 
 returns-4 : tie.Need-returns-4
 unfolding removedFrom recordedIf
-returns-4 c = let k = c .before .before .before .before .before in rw (model-bits-case (k .before .before2 .given .1) (k .before .before .before .occupancy-before-removal-bits .ensures), removal-case (c .before .before .next .given .1) (c .before .before .before .before .remove-picture .ensures), c .less .ensures)
+returns-4 c = let k = c .before .before .before .before .before .before in rw (model-bits-case (k .before .before2 .given .1) (k .before .before .before .occupancy-before-removal-bits .ensures), removal-case (c .before .before .before .next .given .1) (c .before .before .before .before .before .remove-picture .ensures), c .before .less .ensures, c .periods .ensures)
 
 pub remove-expected-spec : {M : Type 1} → statement M
 remove-expected-spec =
@@ -60,6 +63,7 @@ remove-expected-spec =
     with-delays-requires
     enum-known-next
     less-requires
+    periods-requires
     returns
     returns-2
     returns-3
