@@ -71,6 +71,12 @@ pub data Frames : List SeenPicture → Type 0 where
   no-frame : Frames []
   one-frame : {x : SeenPicture} {xs : List SeenPicture} → x .facts .field ≡ false → Frames xs → Frames (x ∷ xs)
 
+pub first-frame : {x : SeenPicture} {xs : List SeenPicture} → Frames (x ∷ xs) → x .facts .field ≡ false
+first-frame (one-frame h t) = h
+
+pub other-frames : {x : SeenPicture} {xs : List SeenPicture} → Frames (x ∷ xs) → Frames xs
+other-frames (one-frame h t) = t
+
 frame-at : (s : List ℕ) (q : Pic) (x : SeenPicture) → seenAt Mpeg1 s q ≡ value x → x .facts .field ≡ false
 unfolding seenAt seenOf shown
 frame-at s q x h =

@@ -103,7 +103,7 @@ LeastStuffing p d previous x = Stuffs p (x .before) d (x .offer) (x .stuffing)
 
 -- ---- the check
 
--- coded equal to expected, data bits 8 × the bytes placed, periods by the offer's interval
+-- coded equal to expected, data bits 8 × the bytes placed, field periods by the offer's interval
 unfoldable pub sentRecord : VbvParams → ℕ → ℕ → Sent → VbvPictureRecord
 sentRecord p d previous x = record {
   «vbv_delay» = x .delay;

@@ -493,7 +493,7 @@ pub fn interval(field: bool) -> RemovalInterval
     RemovalInterval::Frame
 }
 
-// The field periods up to the next removal.
+// How many field periods an interval has.
 pub fn periods(interval: RemovalInterval) -> u8
     ensures { λ r. ⌜ r ≡ periodsOf interval ⌝ }
 {

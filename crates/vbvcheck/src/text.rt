@@ -127,7 +127,7 @@ fn put_refusal(out: &mut [u8], r: VbvRefusal) -> usize
     put_line(out, next, &numbers)
 }
 
-// A report and the lines of its records.
+// A report and the lines of its records: 200 bytes, a heading of 50, and 105 a record.
 fn put_accepted(out: &mut [u8], r: VbvStreamReport, records: &[u8]) -> usize
     requires { ⌜ 110000 ≤ length (now out) ⌝ }
     requires { ⌜ recordSize * r .pictures ≤ length (now records) ⌝ }

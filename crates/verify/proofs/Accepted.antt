@@ -1,6 +1,6 @@
 -- The check accepts exactly the streams that pass, and no difference in their records is cut off.
 -- Assumes nothing.
-use mathlib.Core.Path.{_≡_, refl, ap}
+use mathlib.Core.Path.{_≡_, refl}
 use mathlib.Core.Bool.{true}
 use mathlib.Core.List.{List, [], _∷_}
 use Prim.Native.Nat.{ℕ, suc, _+_, _*_, _≤_}
@@ -35,10 +35,6 @@ use Rattle.verify.proofs.Conforming.{conforms, conforming}
 
 -- ---- a run, both ways
 
-pub periods-are : {p : VbvParams} {previous d : ℕ} {c : CodedPicture} {r : VbvPictureRecord} → Conforms p previous d c r → r .periods ≡ periods (c .interval)
-unfolding recordOf
-periods-are w = ap (λ (q : VbvPictureRecord). q .periods) (w .record-is)
-
 pub run-along : (p : VbvParams) (n previous d : ℕ) (cs : List CodedPicture) (rs : List VbvPictureRecord) → run p n previous d cs ≡ value rs
     → Along p (Conforms p) previous d cs rs
 unfolding run
@@ -54,13 +50,13 @@ run-along p n previous d (c ∷ cs) rs h =
     go ih (refused n k i j) x u y h = let z : _≡_ {A = ℕ} 0 1 = cc in absurd (omega arith)
     go ih (value r) x (refused n k i j) y h = let z : _≡_ {A = ℕ} 0 1 = cc in absurd (omega arith)
     go ih (value r) x (value us) y h =
-        let e : _≡_ {A = List VbvPictureRecord} (r ∷ us) rs = cc in let w = conforms p n previous d c r x in rw (← e) (more {cs = cs} {rs = us} w (rw (periods-are w) (ih us y)))
+        let e : _≡_ {A = List VbvPictureRecord} (r ∷ us) rs = cc in rw (← e) (more (conforms p n previous d c r x) (ih us y))
 
 pub along-run : {p : VbvParams} {previous d : ℕ} {cs : List CodedPicture} {rs : List VbvPictureRecord} (n : ℕ) → Along p (Conforms p) previous d cs rs
     → run p n previous d cs ≡ value rs
 unfolding run
 along-run n none = refl
-along-run n (more h t) = rw (conforming n h, ← periods-are h, along-run (suc n) t)
+along-run n (more h t) = rw (conforming n h, along-run (suc n) t)
 
 -- ---- a stream that passes
 

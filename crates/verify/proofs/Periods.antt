@@ -1,50 +1,50 @@
--- The periods in the records go by the pictures' structure.
+-- The periods in the records are those of the gain, and go by the pictures' structure.
 -- Assumes nothing.
-use mathlib.Core.Path.{_≡_, refl, sym, ap, _∙_}
-use mathlib.Core.Bool.{Bool, true, false}
+use mathlib.Core.Path.{_≡_, ap, _∙_}
+use mathlib.Core.Bool.{false}
 use mathlib.Core.List.{List, [], _∷_}
 use Prim.Native.Nat.{ℕ}
-use Rattle.bits.specs.Refusals.{Answer, value, refused}
-use Rattle.bits.proofs.Flags.{clash}
+use Rattle.bits.specs.Refusals.{value}
 use Rattle.vbv.specs.Model.{periods, intervalOf}
 use Rattle.vbv.specs.declared.VbvParams.{VbvParams}
 use Rattle.vbv.proofs.Fitting.{field-lasts, frame-lasts}
+use Rattle.pictures.specs.Seen.{seenPictures}
 use Rattle.pictures.specs.declared.SeenPicture.{SeenPicture}
+use Rattle.pictures.specs.declared.VbvStandard.{VbvStandard}
 use Rattle.pictures.specs.declared.VbvStandard.the-variants.{Mpeg1}
-use Rattle.pictures.proofs.Order.{Frames, no-frame as no-picture, one-frame as one-picture, all-frames}
+use Rattle.pictures.proofs.Order.{Frames, first-frame, other-frames, all-frames}
 use Rattle.verify.specs.Coded.{timed}
-use Rattle.verify.specs.Check.{Accepted, verdict, records}
+use Rattle.verify.specs.Run.{recordOf}
 use Rattle.verify.specs.Accepted as ac
 use Rattle.verify.specs.Accepted.{Conforms, Along}
-use Rattle.verify.specs.Periods.{Lasting, none, a-field, a-frame, AllFrames, no-frame, one-frame, PeriodsTold}
+use Rattle.verify.specs.Periods.{UpToNext, Lasts, Paired, none, more, PeriodsTold}
+use Rattle.verify.specs.declared.CodedPicture.{CodedPicture}
 use Rattle.verify.specs.declared.VbvPictureRecord.{VbvPictureRecord}
-use Rattle.verify.proofs.Accepted.{periods-are, passed}
 
--- a record's periods, by whether its picture is a field
-lasts : {x : SeenPicture} {xs : List SeenPicture} {r : VbvPictureRecord} {rs : List VbvPictureRecord} (b : Bool) → x .facts .field ≡ b
-    → r .periods ≡ periods (intervalOf (x .facts .field)) → Lasting xs rs → Lasting (x ∷ xs) (r ∷ rs)
-lasts true e h t = a-field e (h ∙ rw e field-lasts) t
-lasts false e h t = a-frame e (h ∙ rw e frame-lasts) t
+periods-are : {p : VbvParams} {previous d : ℕ} {c : CodedPicture} {r : VbvPictureRecord} → Conforms p previous d c r → r .periods ≡ periods (c .interval)
+unfolding recordOf
+periods-are w = ap (λ (q : VbvPictureRecord). q .periods) (w .record-is)
 
-lasting : {p : VbvParams} {previous d : ℕ} (xs : List SeenPicture) {rs : List VbvPictureRecord} → Along p (Conforms p) previous d (timed xs) rs → Lasting xs rs
+along-next : {p : VbvParams} {previous d : ℕ} {cs : List CodedPicture} {rs : List VbvPictureRecord} → Along p (Conforms p) previous d cs rs
+    → Along p UpToNext previous d cs rs
+along-next ac.none = ac.none
+along-next (ac.more w t) = ac.more (periods-are w) (along-next t)
+
+lasts : {standard : VbvStandard} {x : SeenPicture} {r : VbvPictureRecord} → (standard ≡ Mpeg1 → x .facts .field ≡ false)
+    → r .periods ≡ periods (intervalOf (x .facts .field)) → Lasts standard x r
+lasts f h = record { a-field = λ e. h ∙ rw e field-lasts; a-frame = λ e. h ∙ rw e frame-lasts; in-mpeg-1 = λ e. h ∙ rw (f e) frame-lasts }
+
+paired : {p : VbvParams} {previous d : ℕ} {standard : VbvStandard} (xs : List SeenPicture) {rs : List VbvPictureRecord} → (standard ≡ Mpeg1 → Frames xs)
+    → Along p (Conforms p) previous d (timed xs) rs → Paired standard xs rs
 unfolding timed
-lasting [] ac.none = none
-lasting (x ∷ xs) (ac.more w t) = lasts (x .facts .field) refl (periods-are w) (lasting xs t)
+paired [] f ac.none = none
+paired (x ∷ xs) f (ac.more w t) = more (lasts (λ e. first-frame (f e)) (periods-are w)) (paired xs (λ e. other-frames (f e)) t)
 
--- MPEG-1
-all-two : {xs : List SeenPicture} {rs : List VbvPictureRecord} → Frames xs → Lasting xs rs → AllFrames rs
-all-two no-picture none = no-frame
-all-two (one-picture h t) (a-field e k u) = let y : true ≡ false = sym e ∙ h in absurd (clash cc)
-all-two (one-picture h t) (a-frame e k u) = one-frame k (all-two t u)
+frames-in : (standard : VbvStandard) (s : List ℕ) (xs : List SeenPicture) → seenPictures standard s ≡ value xs → standard ≡ Mpeg1 → Frames xs
+frames-in standard s xs h e = all-frames s xs (rw e at h)
 
 pub periods-told : PeriodsTold
 periods-told = record {
-  by-structure = λ standard s places p rs a. lasting (a .first ∷ a .others) (a .removals);
-  in-mpeg-1 = λ s places. go s places (verdict Mpeg1 s places) refl;
+  up-to-next = λ standard s places p rs a. along-next (a .removals);
+  by-structure = λ standard s places p rs a. paired (a .first ∷ a .others) (frames-in standard s (a .first ∷ a .others) (a .is-read .pictures-are)) (a .removals);
 }
-  where
-    go : (s : List ℕ) (places : ℕ) (v : Answer Accepted) → verdict Mpeg1 s places ≡ v → AllFrames (records v)
-    go s places (refused n k x y) h = no-frame
-    go s places (value v) h =
-        let a = passed Mpeg1 s places h in
-        all-two (all-frames s (a .first ∷ a .others) (a .is-read .pictures-are)) (lasting (a .first ∷ a .others) (a .removals))

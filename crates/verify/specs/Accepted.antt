@@ -8,7 +8,7 @@ use mathlib.Core.List.{List, [], _∷_}
 use lib.ListN.{length}
 use Rattle.bits.specs.Refusals.{value}
 use Rattle.vbv.specs.Annex.{unit, firstDelivered, gain, expectedDelay}
-use Rattle.vbv.specs.Model.{paramsFit}
+use Rattle.vbv.specs.Model.{paramsFit, periods}
 use Rattle.vbv.specs.declared.VbvParams.{VbvParams}
 use Rattle.pictures.specs.Due.{Read}
 use Rattle.pictures.specs.declared.VbvStandard.{VbvStandard}
@@ -34,11 +34,11 @@ pub record Conforms (p : VbvParams) (previous d : ℕ) (c : CodedPicture) (r : V
   pub no-underflow : c .«end_bits» * unit p ≤ d
   pub record-is : r ≡ recordOf p previous d c
 
--- one removal after another, each with its record; by the next one the record's field periods bring their gain (C.9, C.11)
+-- one removal after another, each with its record; by the next one the picture's interval brings its gain (C.9, C.11)
 pub data Along (p : VbvParams) (Each : ℕ → ℕ → CodedPicture → VbvPictureRecord → Type 0) : ℕ → ℕ → List CodedPicture → List VbvPictureRecord → Type 0 where
   none : {previous d : ℕ} → Along p Each previous d [] []
   more : {previous d : ℕ} {c : CodedPicture} {cs : List CodedPicture} {r : VbvPictureRecord} {rs : List VbvPictureRecord} → Each previous d c r
-      → Along p Each (c .«end_bits») (d + gain p (r .periods)) cs rs → Along p Each previous d (c ∷ cs) (r ∷ rs)
+      → Along p Each (c .«end_bits») (d + gain p (periods (c .interval))) cs rs → Along p Each previous d (c ∷ cs) (r ∷ rs)
 
 -- a stream that declares p, whose pictures are recorded as rs
 pub record Passes (standard : VbvStandard) (s : List ℕ) (places : ℕ) (p : VbvParams) (rs : List VbvPictureRecord) : Type 0 where

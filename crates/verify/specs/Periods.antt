@@ -1,31 +1,39 @@
--- What is owed of the periods in the records (request 04): 1 for a field picture and 2 for a frame. That these are the field periods up to the next removal says `Along` (specs/Accepted.antt).
--- Assumes nothing.
+-- What is owed of the periods in the records (request 04): the field periods up to the next removal, 1 for a field picture and 2 for a frame.
+-- repeat_first_field does not count (docs/DIFFERENCES.md). The last picture has its own too, though no removal follows. Assumes nothing.
 use Prim.Native.Nat.{ℕ}
 use mathlib.Core.Path.{_≡_}
 use mathlib.Core.Bool.{true, false}
 use mathlib.Core.List.{List, [], _∷_}
+use Rattle.vbv.specs.Annex.{firstDelivered}
+use Rattle.vbv.specs.Model.{periods}
 use Rattle.vbv.specs.declared.VbvParams.{VbvParams}
 use Rattle.pictures.specs.declared.VbvStandard.{VbvStandard}
 use Rattle.pictures.specs.declared.VbvStandard.the-variants.{Mpeg1}
 use Rattle.pictures.specs.declared.SeenPicture.{SeenPicture}
-use Rattle.verify.specs.Check.{verdict, records}
-use Rattle.verify.specs.Accepted.{Passes}
+use Rattle.verify.specs.Coded.{timed}
+use Rattle.verify.specs.Accepted.{Along, Passes}
+use Rattle.verify.specs.declared.CodedPicture.{CodedPicture}
 use Rattle.verify.specs.declared.VbvPictureRecord.{VbvPictureRecord}
 
--- the pictures as their headers show them, each with its record: the last one too
-pub data Lasting : List SeenPicture → List VbvPictureRecord → Type 0 where
-  none : Lasting [] []
-  a-field : {x : SeenPicture} {xs : List SeenPicture} {r : VbvPictureRecord} {rs : List VbvPictureRecord} → x .facts .field ≡ true → r .periods ≡ 1
-      → Lasting xs rs → Lasting (x ∷ xs) (r ∷ rs)
-  a-frame : {x : SeenPicture} {xs : List SeenPicture} {r : VbvPictureRecord} {rs : List VbvPictureRecord} → x .facts .field ≡ false → r .periods ≡ 2
-      → Lasting xs rs → Lasting (x ∷ xs) (r ∷ rs)
+-- a record tells as many field periods as bring the gain up to the next removal (`Along`)
+abbrev pub UpToNext : ℕ → ℕ → CodedPicture → VbvPictureRecord → Type 0
+UpToNext previous d c r = r .periods ≡ periods (c .interval)
 
-pub data AllFrames : List VbvPictureRecord → Type 0 where
-  no-frame : AllFrames []
-  one-frame : {r : VbvPictureRecord} {rs : List VbvPictureRecord} → r .periods ≡ 2 → AllFrames rs → AllFrames (r ∷ rs)
+-- a picture as its headers show it, and its record
+pub record Lasts (standard : VbvStandard) (x : SeenPicture) (r : VbvPictureRecord) : Type 0 where
+  pub a-field : x .facts .field ≡ true → r .periods ≡ 1
+  pub a-frame : x .facts .field ≡ false → r .periods ≡ 2
+  -- MPEG-1 pictures are all frames
+  pub in-mpeg-1 : standard ≡ Mpeg1 → r .periods ≡ 2
 
--- what is owed; MPEG-1 pictures are all frames
+-- each picture with its record
+pub data Paired (standard : VbvStandard) : List SeenPicture → List VbvPictureRecord → Type 0 where
+  none : Paired standard [] []
+  more : {x : SeenPicture} {xs : List SeenPicture} {r : VbvPictureRecord} {rs : List VbvPictureRecord} → Lasts standard x r → Paired standard xs rs → Paired standard (x ∷ xs) (r ∷ rs)
+
+-- what is owed, of every stream that the check accepts
 pub record PeriodsTold : Type 0 where
+  pub up-to-next : (standard : VbvStandard) (s : List ℕ) (places : ℕ) (p : VbvParams) (rs : List VbvPictureRecord) (a : Passes standard s places p rs)
+      → Along p UpToNext 0 (firstDelivered p (a .first .«pos_bits») (a .first .«vbv_delay»)) (timed (a .first ∷ a .others)) rs
   pub by-structure : (standard : VbvStandard) (s : List ℕ) (places : ℕ) (p : VbvParams) (rs : List VbvPictureRecord) (a : Passes standard s places p rs)
-      → Lasting (a .first ∷ a .others) rs
-  pub in-mpeg-1 : (s : List ℕ) (places : ℕ) → AllFrames (records (verdict Mpeg1 s places))
+      → Paired standard (a .first ∷ a .others) rs
