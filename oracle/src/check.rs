@@ -120,6 +120,21 @@ fn violation(standard: VbvStandard, stream: &[u8], all: &[Picture], v: VbvViolat
     (refusal, [picture as u64, coded.into(), expected.into(), 0, 0])
 }
 
+/// Whether the original's own records agree with the periods: what it delivers between two removals is that many times the
+/// bits of half a frame, but for the floors.
+fn agree(report: &VbvStreamReport, all: &[Picture], (frn, frd): (u32, u32)) -> bool {
+    let mut end = 0;
+    let mut delivered = vec![];
+    for record in &report.pictures {
+        delivered.push(end + i128::from(record.occupancy_before_bits));
+        end += i128::from(record.data_bits);
+    }
+    delivered.windows(2).zip(all).all(|(whole, picture)| {
+        let due = i128::from(picture.periods()) * i128::from(report.bit_rate) * i128::from(frd);
+        (2 * i128::from(frn) * (whole[1] - whole[0]) - due).abs() < 2 * i128::from(frn)
+    })
+}
+
 /// The report's values, with the records stored in the part.
 fn report(report: &VbvStreamReport, all: &[Picture], part: &mut [u8]) -> [u64; 5] {
     for ((record, picture), place) in report.pictures.iter().zip(all).zip(part.chunks_mut(VBV_RECORD_BYTES)) {
@@ -148,6 +163,7 @@ pub fn judged(standard: VbvStandard, stream: &[u8], part: &mut [u8]) -> (Met, [u
         _ if part.len() / VBV_RECORD_BYTES < all.len() => (PLACES, [0; 5]),
         Ok(r) => {
             assert_eq!(r.pictures.len(), all.len(), "the oracle's own pictures are not the original's");
+            assert!(agree(&r, &all, params(standard, stream).frame_rate), "the original's removals have other periods");
             (ACCEPTED, report(&r, &all, part))
         }
         Err(VbvVerifyError::Parse(e)) => (refusal(e), [0; 5]),
