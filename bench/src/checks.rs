@@ -8,6 +8,7 @@ use crate::entry::vbv_check;
 use crate::table::{Pick, Table, counted, rate};
 use crate::timing::{best, seconds, stack};
 use crate::{Streams, heap};
+use oracle::check::periods;
 use oracle::layout::{VBV_MPEG1, VBV_MPEG2, VBV_RECORD_BYTES, VBV_REFUSAL_BYTES, VBV_REPORT_BYTES};
 use oracle::spans::picture_codes;
 use original::vbv::{VbvStandard, VbvVerifyError, verify_cbr_stream};
@@ -86,7 +87,8 @@ impl Work {
         }
     }
 
-    /// The same answer from both: the report and every record, or a refusal.
+    /// The same answer from both: the report and every record, or a refusal. The original has no periods: these are held to
+    /// the oracle's own rule.
     pub fn same(&mut self) -> String {
         let answer = self.places.check(self.standard, &self.stream, self.places.pictures());
         match verify_cbr_stream(&self.stream, self.standard) {
@@ -94,9 +96,12 @@ impl Work {
                 let head = [r.bit_rate, r.buffer_size_bits, r.pictures.len() as u64];
                 let least_greatest = [r.min_occupancy_after_bits as u64, r.max_occupancy_before_bits as u64];
                 assert_eq!((answer, &self.places.report[..]), (0, &[&head[..], &least_greatest].concat()[..]));
-                for (p, bytes) in r.pictures.iter().zip(self.places.records.chunks(VBV_RECORD_BYTES)) {
-                    let words =
-                        [p.vbv_delay.into(), p.expected_delay.into(), p.data_bits, p.occupancy_before_bits as u64];
+                let records = self.places.records.chunks(VBV_RECORD_BYTES);
+                let periods = periods(self.standard, &self.stream);
+                assert_eq!(periods.len(), r.pictures.len());
+                for ((p, periods), bytes) in r.pictures.iter().zip(periods).zip(records) {
+                    let (delay, expected, before) = (p.vbv_delay, p.expected_delay, p.occupancy_before_bits as u64);
+                    let words = [delay.into(), expected.into(), p.data_bits, before, periods];
                     assert_eq!(words.map(u64::to_le_bytes).concat(), bytes);
                 }
                 format!("accepted, {} pictures", r.pictures.len())

@@ -1,5 +1,6 @@
 //! The original's answer to a case, as FORMAT.md lays it out.
 
+use crate::check::{OF_FIELDS, OF_FRAMES};
 use crate::format::{ACCEPTED, Answer, number, words};
 use crate::lists::{AGAIN, CHECKED, EMITTED, FINISHED, NOT_EMITTED, SET, WITHDRAWN};
 use crate::{check, lists, model};
@@ -17,7 +18,7 @@ use original::vbv::{VbvStandard, frame_rate_value};
 use original::{Error, Result};
 use oxideav_core::bits::BitWriter;
 
-/// The kinds of cases by their number, with the refusals that each can give.
+/// The kinds of cases by their number, with the refusals that each can give and what else has to be met.
 pub const KINDS: [(&str, &[u8]); 19] = [
     ("Mpeg2SequenceHeader::parse", &[1, 2]),
     ("Mpeg2SequenceExtension::parse", &[1, 2]),
@@ -35,8 +36,8 @@ pub const KINDS: [(&str, &[u8]); 19] = [
     ("frame_rate_value", &[6]),
     ("VbvCbrModel", &[7, 8, 9, 10, 12, 13, 14]),
     ("patch_vbv_delay", &[20]),
-    ("verify_cbr_stream, MPEG-1", &[1, 2, 3, 4, 5, 6, 7, 8, 9, 10, 11, 12, 15]),
-    ("verify_cbr_stream, MPEG-2", &[1, 2, 3, 4, 5, 6, 7, 8, 9, 10, 11, 12, 15]),
+    ("verify_cbr_stream, MPEG-1", &[1, 2, 3, 4, 5, 6, 7, 8, 9, 10, 11, 12, 15, OF_FRAMES]),
+    ("verify_cbr_stream, MPEG-2", &[1, 2, 3, 4, 5, 6, 7, 8, 9, 10, 11, 12, 15, OF_FIELDS, OF_FRAMES]),
     (
         "CbrWriter",
         &[6, 7, 9, 12, 14, 17, 18, 19, 20, 21, 22, SET, AGAIN, WITHDRAWN, EMITTED, NOT_EMITTED, CHECKED, FINISHED],

@@ -1,9 +1,11 @@
 //! Kinds 17 and 18: the check of a stream. The original has no refusal 15, and its 9 and 10 name the picture alone: these
-//! the oracle completes from pictures that it finds itself, run through the original's model.
+//! the oracle completes from pictures that it finds itself, run through the original's model. A record's first four words are
+//! the original's. It has no such field as the fifth, `periods` (request 04): that is by the oracle's own rule.
 
 use crate::format::{ACCEPTED, Answer, Met, number, pattern, words};
 use crate::layout::VBV_RECORD_BYTES;
 use crate::model::{BUFFER_UNIT, RATE_UNIT, refusal};
+use crate::place::lay;
 use crate::spans::{picture_codes, spans};
 use original::picture_header::{Mpeg2PictureHeader, PictureStructure};
 use original::sequence_extension::Mpeg2Sequence;
@@ -15,11 +17,33 @@ use original::vbv::{
 
 const PLACES: Met = (15, "fewer record places than pictures");
 
+/// What else is counted, records by their fifth word: numbers above those of lists.rs.
+pub const OF_FIELDS: u8 = 136;
+pub const OF_FRAMES: u8 = 137;
+
+fn counted(periods: u64) -> Met {
+    if periods == 1 { (OF_FIELDS, "records with periods 1") } else { (OF_FRAMES, "records with periods 2") }
+}
+
 struct Picture {
     position: u64,
     end: u64,
     delay: u16,
-    interval: RemovalInterval,
+    structure: PictureStructure,
+}
+
+impl Picture {
+    fn interval(&self) -> RemovalInterval {
+        if self.structure == PictureStructure::Frame { RemovalInterval::Frame } else { RemovalInterval::Field }
+    }
+
+    /// Field periods up to the next removal, by the oracle's own rule: of the structure that the original parses.
+    fn periods(&self) -> u64 {
+        match self.structure {
+            PictureStructure::TopField | PictureStructure::BottomField => 1,
+            PictureStructure::Frame => 2,
+        }
+    }
 }
 
 /// The pictures of a stream whose headers the original has parsed.
@@ -33,21 +57,26 @@ fn pictures(standard: VbvStandard, stream: &[u8]) -> Vec<Picture> {
             None => stream.len(),
         };
         let (offset, _) = codes[at];
-        let (delay, interval) = told(standard, &stream[offset..]);
-        found.push(Picture { position: 8 * (offset as u64 + 4), end: 8 * end as u64, delay, interval });
+        let (delay, structure) = told(standard, &stream[offset..]);
+        found.push(Picture { position: 8 * (offset as u64 + 4), end: 8 * end as u64, delay, structure });
     }
     found
 }
 
-fn told(standard: VbvStandard, picture: &[u8]) -> (u16, RemovalInterval) {
+/// A picture's delay and structure; MPEG-1 pictures are all frames.
+fn told(standard: VbvStandard, picture: &[u8]) -> (u16, PictureStructure) {
     match standard {
-        VbvStandard::Mpeg1 => (Mpeg2PictureHeader::parse(picture).unwrap().vbv_delay, RemovalInterval::Frame),
+        VbvStandard::Mpeg1 => (Mpeg2PictureHeader::parse(picture).unwrap().vbv_delay, PictureStructure::Frame),
         _ => {
             let (header, extension) = Mpeg2PictureHeader::parse_with_extension(picture).unwrap();
-            let frame = extension.picture_structure == PictureStructure::Frame;
-            (header.vbv_delay, if frame { RemovalInterval::Frame } else { RemovalInterval::Field })
+            (header.vbv_delay, extension.picture_structure)
         }
     }
+}
+
+/// The fifth words of the records of a stream that the original accepts.
+pub fn periods(standard: VbvStandard, stream: &[u8]) -> Vec<u64> {
+    pictures(standard, stream).iter().map(Picture::periods).collect()
 }
 
 /// What the first sequence header declares.
@@ -71,7 +100,7 @@ fn expected(standard: VbvStandard, stream: &[u8], all: &[Picture], picture: usiz
     let mut model = VbvCbrModel::new(&params).unwrap();
     model.start(all[0].delay, all[0].position);
     for p in &all[..picture] {
-        model.remove_picture(p.end, p.interval, params.frame_rate.1).unwrap();
+        model.remove_picture(p.end, p.interval(), params.frame_rate.1).unwrap();
     }
     model.delay_for_picture(all[picture].position).unwrap()
 }
@@ -91,18 +120,31 @@ fn violation(standard: VbvStandard, stream: &[u8], all: &[Picture], v: VbvViolat
     (refusal, [picture as u64, coded.into(), expected.into(), 0, 0])
 }
 
+/// Whether the original's own records agree with the periods: what it delivers between two removals is that many times the
+/// bits of half a frame, but for the floors.
+fn agree(report: &VbvStreamReport, all: &[Picture], (frn, frd): (u32, u32)) -> bool {
+    let mut end = 0;
+    let mut delivered = vec![];
+    for record in &report.pictures {
+        delivered.push(end + i128::from(record.occupancy_before_bits));
+        end += i128::from(record.data_bits);
+    }
+    delivered.windows(2).zip(all).all(|(whole, picture)| {
+        let due = i128::from(picture.periods()) * i128::from(report.bit_rate) * i128::from(frd);
+        (2 * i128::from(frn) * (whole[1] - whole[0]) - due).abs() < 2 * i128::from(frn)
+    })
+}
+
 /// The report's values, with the records stored in the part.
-fn report(report: &VbvStreamReport, part: &mut [u8]) -> [u64; 5] {
-    for (record, place) in report.pictures.iter().zip(part.chunks_mut(VBV_RECORD_BYTES)) {
-        let words = [
+fn report(report: &VbvStreamReport, all: &[Picture], part: &mut [u8]) -> [u64; 5] {
+    for ((record, picture), place) in report.pictures.iter().zip(all).zip(part.chunks_mut(VBV_RECORD_BYTES)) {
+        let originals = [
             record.vbv_delay.into(),
             record.expected_delay.into(),
             record.data_bits,
             record.occupancy_before_bits as u64,
         ];
-        for (word, bytes) in words.iter().zip(place.chunks_mut(8)) {
-            bytes.copy_from_slice(&word.to_le_bytes());
-        }
+        lay(place, &[&originals[..], &[picture.periods()]].concat());
     }
     let (least, greatest) = (report.min_occupancy_after_bits, report.max_occupancy_before_bits);
     assert!(0 <= least && least <= greatest);
@@ -121,7 +163,8 @@ pub fn judged(standard: VbvStandard, stream: &[u8], part: &mut [u8]) -> (Met, [u
         _ if part.len() / VBV_RECORD_BYTES < all.len() => (PLACES, [0; 5]),
         Ok(r) => {
             assert_eq!(r.pictures.len(), all.len(), "the oracle's own pictures are not the original's");
-            (ACCEPTED, report(&r, part))
+            assert!(agree(&r, &all, params(standard, stream).frame_rate), "the original's removals have other periods");
+            (ACCEPTED, report(&r, &all, part))
         }
         Err(VbvVerifyError::Parse(e)) => (refusal(e), [0; 5]),
         Err(VbvVerifyError::Violation(v)) => violation(standard, stream, &all, v),
@@ -129,11 +172,19 @@ pub fn judged(standard: VbvStandard, stream: &[u8], part: &mut [u8]) -> (Met, [u
     }
 }
 
+/// The fifth words of so many records.
+pub fn fifths(part: &[u8], pictures: u64) -> impl Iterator<Item = u64> {
+    part.chunks(VBV_RECORD_BYTES).take(pictures as usize).map(|record| number(&record[32..]))
+}
+
 /// The number, five words, and the record part.
 pub fn checked(standard: VbvStandard, input: &[u8]) -> Answer {
     let mut part = pattern(number(&input[..2]) as usize);
     let (met, five) = judged(standard, &input[2..], &mut part);
     let mut answer = Answer::of(met);
+    if met == ACCEPTED {
+        answer.met.extend(fifths(&part, five[2]).map(counted));
+    }
     words(&mut answer.bytes, &five);
     answer.bytes.extend(part);
     answer
@@ -150,6 +201,6 @@ pub fn lines(standard: VbvStandard, stream: &[u8]) -> String {
     let records = part.chunks(VBV_RECORD_BYTES).take(words[2] as usize);
     "bit_rate buffer_bits pictures min_after max_before\n".to_string()
         + &line(&words)
-        + "delay expected data_bits occupancy_before\n"
+        + "delay expected data_bits occupancy_before periods\n"
         + &records.map(|r| line(&r.chunks(8).map(number).collect::<Vec<_>>())).collect::<String>()
 }

@@ -10,9 +10,9 @@ use original::vbv::{VbvStandard, verify_cbr_stream};
 /// The record part has room for that many records, and the input fits its bytes.
 const MOST_PLACES: usize = 120;
 
-/// One input of a kind.
+/// One input of a kind. Some of kind 17 have MPEG-2's extensions, which an MPEG-1 check does not read: its fields are frames.
 pub fn drawn(kind: u8, d: &mut Draw) -> Vec<u8> {
-    let mut stream = if d.one_in(16) { noise(d) } else { a_stream(kind == 18, d) };
+    let mut stream = if d.one_in(16) { noise(d) } else { a_stream(kind == 18 || d.one_in(16), d) };
     if d.one_in(3) {
         for _ in 0..1 + d.below(3) {
             damage(&mut stream, d);

@@ -3,7 +3,7 @@
 pub const VBV_MPEG1: u8 = 1;
 pub const VBV_MPEG2: u8 = 2;
 pub const VBV_REPORT_BYTES: usize = 40;
-pub const VBV_RECORD_BYTES: usize = 32;
+pub const VBV_RECORD_BYTES: usize = 40;
 pub const VBV_REFUSAL_BYTES: usize = 32;
 
 pub const CBR_STATE_BYTES: usize = 152;

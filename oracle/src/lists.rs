@@ -1,6 +1,7 @@
 //! Kind 19: lists of calls of the constant-rate writer. The answer is the model's (writer.rs); on the way the original's `emit`
 //! runs beside it, and then the original's check over what was handed out.
 
+use crate::check::periods;
 use crate::format::{ACCEPTED, Answer, Met, number, pattern, words};
 use crate::model::{BUFFER_UNIT, RATE_UNIT, interval};
 use crate::writer::{Config, Offer, Told, Writer};
@@ -107,7 +108,8 @@ struct Beside {
     /// False after a state set by hand.
     whole: bool,
     handed_out: Vec<u8>,
-    pictures: Vec<(u16, u64)>,
+    /// Of each placed picture its delay, bits and field periods.
+    pictures: Vec<(u16, u64, u64)>,
     quantisers: Vec<u8>,
     met: Vec<Met>,
 }
@@ -151,7 +153,7 @@ impl Beside {
         match told {
             Told::Placed { q, delay, bytes, .. } => {
                 self.handed_out.extend(&part[..bytes as usize]);
-                self.pictures.push((delay, 8 * bytes));
+                self.pictures.push((delay, 8 * bytes, if o.field { 1 } else { 2 }));
                 self.quantisers.push(q);
                 self.compared &= self.alike();
                 if self.compared {
@@ -196,14 +198,16 @@ impl Beside {
         self.met.push(met(EMITTED));
     }
 
-    /// The original's check accepts what was handed out, with these records.
+    /// The original's check accepts what was handed out, with these records, and their periods are those of the offers.
     fn checked(&mut self, finished: bool) {
         if self.pictures.is_empty() || !self.whole {
             return;
         }
         let report = verify_cbr_stream(&self.handed_out, VbvStandard::Mpeg2).expect("the check refuses");
         let records = report.pictures.iter().map(|p| (p.vbv_delay, p.expected_delay, p.data_bits));
-        assert!(records.eq(self.pictures.iter().map(|&(delay, bits)| (delay, delay, bits))), "other records");
+        assert!(records.eq(self.pictures.iter().map(|&(delay, bits, _)| (delay, delay, bits))), "other records");
+        let told = periods(VbvStandard::Mpeg2, &self.handed_out);
+        assert!(told.iter().eq(self.pictures.iter().map(|(.., periods)| periods)), "other periods");
         self.met.push(met(CHECKED));
         if finished {
             self.met.push(met(FINISHED));

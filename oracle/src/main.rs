@@ -67,7 +67,7 @@ impl Cases {
         }
     }
 
-    /// Says what was made; false where a refusal that a kind can give is missing.
+    /// Says what was made; false where a refusal that a kind can give is missing, or what else it has to meet.
     fn report(&self, kinds: &[u8]) -> bool {
         let mut complete = true;
         for &kind in kinds {

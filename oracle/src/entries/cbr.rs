@@ -3,12 +3,12 @@
 //!
 //! Before some of a list's calls stands another one, on a copy of the state: damaged or cut short, with a kind, an interval or a
 //! flag out of range, or with a place for the answer that is too short. What a damaged state holds is decoded here once more
-//! (state.rs).
+//! (state.rs). After each list stands the check of what it handed out (vbv.rs).
 
 use crate::entry;
 use crate::run::{Owed, Run};
 use oracle::draw::Draw;
-use oracle::format::pattern;
+use oracle::format::{number, pattern};
 use oracle::layout::{CBR_AGAIN, CBR_ANSWER_BYTES, CBR_FIELD, CBR_FRAME, CBR_PLACED, CBR_REFUSED, CBR_STATE_BYTES};
 use oracle::lists::{Call, call, configured};
 use oracle::place::{Left, Place, lay};
@@ -64,6 +64,26 @@ struct Offering<'a> {
     layer: &'a [u8],
     out: Vec<u8>,
     answer: Vec<u8>,
+}
+
+/// What a list handed out, and of each placed picture its delay, bits and field periods.
+struct Sent {
+    /// False after a state set by hand.
+    whole: bool,
+    stream: Vec<u8>,
+    placed: Vec<[u64; 3]>,
+}
+
+impl Sent {
+    /// Adds what an offer left, if it was placed.
+    fn offered(&mut self, left: &mut Left, field: bool) {
+        let answer: Vec<u64> = left.at("answer").chunks(8).map(number).collect();
+        if answer[0] == CBR_PLACED {
+            let (delay, bytes) = (answer[6], answer[7]);
+            self.stream.extend(&left.at("out")[..bytes as usize]);
+            self.placed.push([delay, 8 * bytes, if field { 1 } else { 2 }]);
+        }
+    }
 }
 
 /// A value returned by a call that has a state and nothing else, and what it leaves there.
@@ -216,13 +236,14 @@ impl Run {
         made.ok().map(|w| (w, state))
     }
 
-    /// Compares an offer, and leaves the state that is expected.
-    fn offer(&mut self, what: &'static str, writer: Option<&mut Writer>, state: &mut Vec<u8>, c: &Offering) {
+    /// Compares an offer, and leaves the state that is expected; the other places are returned.
+    fn offer(&mut self, what: &'static str, writer: Option<&mut Writer>, state: &mut Vec<u8>, c: &Offering) -> Left {
         let (mut expected, why) = expected(writer, state, c);
         let found = offered(state, c, &mut self.d);
         let what = if STOPS.contains(&why.as_str()) { STOPPED } else { what };
         self.met(what, &why, &found, &expected);
         *state = std::mem::take(expected.at("state"));
+        expected
     }
 
     fn withdraw(&mut self, why: &'static str, writer: Option<&mut Writer>, state: &mut Vec<u8>) {
@@ -260,9 +281,10 @@ impl Run {
         self.withdraw("on a damaged state that fits", writer.as_mut(), &mut copy);
     }
 
-    /// One list: creation, and each call on what the one before left.
+    /// One list: creation, each call on what the one before left, and the check of what was handed out.
     pub fn list(&mut self, input: &[u8]) {
         let Some((mut w, mut state)) = self.create(configured(input)) else { return };
+        let mut sent = Sent { whole: true, stream: vec![], placed: vec![] };
         let mut rest = &input[11..];
         while !rest.is_empty() {
             let (call, part, after) = call(rest);
@@ -271,6 +293,7 @@ impl Run {
                 Call::State(end, whole) => {
                     w.set(end, whole);
                     lay(&mut state, &words(&w));
+                    sent.whole = false;
                 }
                 Call::Withdrawal => {
                     self.odd_withdrawal(&state);
@@ -291,9 +314,13 @@ impl Run {
                     if self.d.one_in(2) {
                         self.odd_offer(&state, &c);
                     }
-                    self.offer(OFFERS, Some(&mut w), &mut state, &c);
+                    let mut left = self.offer(OFFERS, Some(&mut w), &mut state, &c);
+                    sent.offered(&mut left, o.field);
                 }
             }
+        }
+        if sent.whole && !sent.placed.is_empty() {
+            self.sent(&sent.stream, &sent.placed);
         }
     }
 }

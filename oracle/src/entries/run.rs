@@ -7,7 +7,7 @@ use std::collections::BTreeMap;
 /// Differences that are told one by one.
 const TOLD: u64 = 10;
 
-/// Calls of one sort, with the answers that have to be met.
+/// Calls of one sort, or their records, with what has to be met.
 pub type Owed = (&'static str, &'static [&'static str]);
 
 pub struct Run {
@@ -24,9 +24,13 @@ impl Run {
         Self { d: Draw(seed), case: 0, seen: BTreeMap::new(), calls: 0, differ: 0 }
     }
 
+    pub fn count(&mut self, what: &'static str, why: &str) {
+        *self.seen.entry((what, why.into())).or_default() += 1;
+    }
+
     /// Counts a call, and compares what it left.
     pub fn met(&mut self, what: &'static str, why: &str, found: &Left, expected: &Left) {
-        *self.seen.entry((what, why.into())).or_default() += 1;
+        self.count(what, why);
         self.calls += 1;
         if found != expected {
             self.differ += 1;

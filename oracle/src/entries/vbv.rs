@@ -1,15 +1,16 @@
 //! The check and the delay patch: streams and headers drawn like those of kinds 16 to 18, and the original's answers to them.
 //! Before some of the checks stands another one, of the same stream: with a place that is too short for a report or a refusal,
 //! or for a standard that there is none of. After each check stands the report alone, of the same stream in the same places.
+//! What a list of the writer's calls handed out is checked too.
 
 use crate::entry;
 use crate::run::{Owed, Run};
-use oracle::check::judged;
+use oracle::check::{fifths, judged};
 use oracle::draw::Draw;
 use oracle::format::number;
 use oracle::layout::{VBV_MPEG1, VBV_MPEG2, VBV_RECORD_BYTES, VBV_REFUSAL_BYTES, VBV_REPORT_BYTES};
 use oracle::model::patched;
-use oracle::place::{Left, Place};
+use oracle::place::{Left, Place, lay};
 use oracle::spans::picture_codes;
 use original::vbv::VbvStandard;
 
@@ -18,6 +19,11 @@ const STOPPED: &str = "checks stopped before the stream";
 const REPORTS: [&str; 2] = ["reports alone of MPEG-1 streams", "reports alone of MPEG-2 streams"];
 const STOPPED_REPORTS: &str = "reports alone stopped before the stream";
 const PATCHES: &str = "patches";
+const SENT: &str = "checks of what a list handed out";
+/// Records of accepted streams, by their fifth word.
+const RECORDS: [&str; 2] = ["records of MPEG-1 streams", "records of MPEG-2 streams"];
+const SENT_RECORDS: &str = "records of what a list handed out";
+const PERIODS: [&str; 2] = ["periods 1", "periods 2"];
 
 const MORE: &str = "accepted, with bytes after the records";
 /// The last two are the check's; the report alone has the others.
@@ -51,7 +57,7 @@ const STOPS: [&str; 7] = [
 ];
 
 /// What has to be met.
-pub const OWED: [Owed; 7] = [
+pub const OWED: [Owed; 11] = [
     (CHECKS[0], &ANSWERS),
     (CHECKS[1], &ANSWERS),
     (STOPPED, &STOPS),
@@ -59,6 +65,10 @@ pub const OWED: [Owed; 7] = [
     (REPORTS[1], REPORT_ANSWERS),
     (STOPPED_REPORTS, &STOPS),
     (PATCHES, &["patched", "20: fewer than 8 bytes", "20: no picture start code"]),
+    (SENT, &["accepted"]),
+    (RECORDS[0], &["periods 2"]),
+    (RECORDS[1], &PERIODS),
+    (SENT_RECORDS, &PERIODS),
 ];
 
 /// A check as C asks for it.
@@ -134,15 +144,7 @@ fn reported(c: &Check, d: &mut Draw) -> Left {
     let mut stream = Place::new(c.stream, d);
     let [mut report, mut refusal] = [&c.report, &c.refusal].map(|bytes| Place::new(bytes, d));
     let number = unsafe {
-        entry::vbv_report(
-            stream.at(),
-            stream.len,
-            c.standard,
-            report.at(),
-            report.len,
-            refusal.at(),
-            refusal.len,
-        )
+        entry::vbv_report(stream.at(), stream.len, c.standard, report.at(), report.len, refusal.at(), refusal.len)
     };
     Left::after(number, &[("report", &report), ("refusal", &refusal)], &[(&stream, c.stream)])
 }
@@ -171,12 +173,40 @@ fn patched_in_place(picture: &[u8], delay: u16, d: &mut Draw) -> Left {
 
 impl Run {
     fn check(&mut self, c: &Check) {
-        let (expected, what, why) = expected(c);
+        let (mut left, what, why) = expected(c);
         let found = checked(c, &mut self.d);
-        self.met(what, &why, &found, &expected);
+        self.met(what, &why, &found, &left);
+        if left.number == 0 {
+            self.records(RECORDS[usize::from(c.standard) - 1], &mut left);
+        }
         let (expected, what, why) = expected_alone(c);
         let found = reported(c, &mut self.d);
         self.met(what, &why, &found, &expected);
+    }
+
+    /// Counts the records of an accepted stream by their fifth word.
+    fn records(&mut self, what: &'static str, left: &mut Left) {
+        let pictures = number(&left.at("report")[16..24]);
+        for periods in fifths(left.at("records"), pictures) {
+            self.count(what, &format!("periods {periods}"));
+        }
+    }
+
+    /// What a list handed out, with delay, bits and periods of each placed picture. The check accepts it, and has these
+    /// in its records, the delay twice; all else is as the original finds it.
+    pub fn sent(&mut self, stream: &[u8], placed: &[[u64; 3]]) {
+        let lengths = [VBV_REPORT_BYTES, VBV_RECORD_BYTES * placed.len(), VBV_REFUSAL_BYTES];
+        let [report, records, refusal] = lengths.map(|n| self.d.bytes(n));
+        let c = Check { stream, standard: VBV_MPEG2, report, records, refusal };
+        let (mut left, _, why) = expected(&c);
+        assert_eq!(left.number, 0, "the original's check refuses what a list handed out");
+        for (record, &[delay, bits, periods]) in left.at("records").chunks_mut(VBV_RECORD_BYTES).zip(placed) {
+            let occupancy = number(&record[24..32]);
+            lay(record, &[delay, delay, bits, occupancy, periods]);
+        }
+        let found = checked(&c, &mut self.d);
+        self.met(SENT, &why, &found, &left);
+        self.records(SENT_RECORDS, &mut left);
     }
 
     /// One stream: the input has the length of its records place in front.
