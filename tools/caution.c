@@ -94,7 +94,7 @@ static uint32_t rows(const struct input *in, uint8_t standard, const struct look
     if (standard != VBV_MPEG2 || in->standard != VBV_MPEG2 || l->in_force == in->stream.length)
         return 0;
     uint32_t height = declared_at(&in->stream, l->in_force, standard).height;
-    uint32_t lines = l->last.halves == 1 ? (height + 1) / 2 : height, count = (lines + ROW - 1) / ROW;
+    uint32_t lines = l->last.periods == 1 ? (height + 1) / 2 : height, count = (lines + ROW - 1) / ROW;
     return count <= MOST_ROWS ? count : 0;
 }
 

@@ -60,7 +60,7 @@ static struct shown shown_at(const struct walk *w, size_t at)
     struct stream extension = coding_extension(&picture);
     if (w->standard == VBV_MPEG2 && extension.length > 0) {
         uint32_t structure = field_value(&extension, PICTURE_STRUCTURE);
-        p.halves = structure == TOP_FIELD || structure == BOTTOM_FIELD ? 1 : 2;
+        p.periods = structure == TOP_FIELD || structure == BOTTOM_FIELD ? 1 : 2;
         p.repeats = (uint8_t)field_value(&extension, REPEAT_FIRST_FIELD);
     }
     return p;

@@ -9,7 +9,7 @@
 struct shown {
     size_t at, end;
     uint8_t type;    /* I_PICTURE .. D_PICTURE; any other value as it stands */
-    uint8_t halves;  /* field periods to the next removal: 2, or 1 for a field */
+    uint8_t periods; /* field periods to the next removal, by its structure: 2, or 1 for a field */
     uint8_t repeats; /* repeat_first_field */
 };
 

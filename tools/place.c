@@ -186,13 +186,13 @@ static struct bits missing(struct bits a, uint64_t whole)
     return (struct bits){ whole - a.whole - borrow, borrow ? a.parts - a.part : 0, a.parts };
 }
 
-/* Bits delivered at a picture's removal, with `halves` field periods since the first one's: exact. */
-static struct bits delivered_after(const struct answer *a, uint64_t delay, uint64_t halves)
+/* Bits delivered at a picture's removal, with so many field periods since the first one's: exact. */
+static struct bits delivered_after(const struct answer *a, uint64_t delay, uint64_t periods)
 {
     uint64_t over = rate_over(a->declared.rate_code), under = rate_under(a->declared.rate_code), rate = a->declared.bit_rate;
     uint64_t first = delay * rate, field = rate * under, parts = HALF_TICKS * over;
-    uint64_t rest = halves * (field % (2 * over));
-    struct bits b = { BYTE * (a->shown[0].at + CODE_BYTES) + first / TICKS + halves * (field / (2 * over)), 0, parts };
+    uint64_t rest = periods * (field % (2 * over));
+    struct bits b = { BYTE * (a->shown[0].at + CODE_BYTES) + first / TICKS + periods * (field / (2 * over)), 0, parts };
     b.whole += rest / (2 * over);
     b.part = first % TICKS * 2 * over + rest % (2 * over) * TICKS;
     b.whole += b.part / parts;
@@ -227,10 +227,10 @@ static void find_time(const struct question *q, struct place *p)
 {
     const struct answer *a = q->a;
     struct stream first = part(q->s, a->shown[0].at, q->s->length);
-    uint64_t halves = 0, before = p->picture > 0 ? BYTE * a->shown[p->picture - 1].end : 0;
+    uint64_t periods = 0, before = p->picture > 0 ? BYTE * a->shown[p->picture - 1].end : 0;
     for (size_t n = 0; n < p->picture; n++)
-        halves += a->shown[n].halves;
-    p->delivered = delivered_after(a, field_value(&first, DELAY), halves);
+        periods += a->shown[n].periods;
+    p->delivered = delivered_after(a, field_value(&first, DELAY), periods);
     p->timed = p->delivered.whole >= before;
     p->held = less(p->delivered, p->timed ? before : 0);
 }
@@ -332,8 +332,8 @@ int ask(const struct stream *s, uint8_t standard, int records, struct answer *a)
 
 struct bits next_time(struct times *t)
 {
-    struct bits at = delivered_after(t->a, t->a->records[0].delay, t->halves);
-    t->halves += t->a->shown[t->picture++].halves;
+    struct bits at = delivered_after(t->a, t->a->records[0].delay, t->periods);
+    t->periods += t->a->records[t->picture++].periods;
     return at;
 }
 

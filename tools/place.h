@@ -44,11 +44,11 @@ void forget(struct answer *a);
 uint64_t rate_over(uint32_t code);
 uint64_t rate_under(uint32_t code);
 
-/* The times of an answer's pictures, one after the other; begins with { a, 0, 0 }. */
+/* The times of an answer's pictures, by its records, one after the other; begins with { a, 0, 0 }. */
 struct times {
     const struct answer *a;
     size_t picture;
-    uint64_t halves;
+    uint64_t periods;
 };
 struct bits next_time(struct times *t);
 

@@ -53,7 +53,8 @@ static void json_pictures(const struct answer *a)
         printf("%s{\"picture\":%zu,\"byte\":%zu,\"time\":\"%s\",\"seconds\":%.6f,\"type\":%s", n > 0 ? "," : "", n, a->shown[n].at,
                clock_time(at, a->declared.bit_rate, time), in_seconds(at, a->declared.bit_rate), json_type(a->shown[n].type));
         printf(",\"delay\":%" PRIu64 ",\"expected\":%" PRIu64 ",\"data_bits\":%" PRIu64 ",\"before\":%" PRIu64 ",\"after\":%" PRIu64
-               "}", r->delay, r->expected, r->data_bits, r->occupancy_before, r->occupancy_before - r->data_bits);
+               ",\"periods\":%" PRIu64 "}", r->delay, r->expected, r->data_bits, r->occupancy_before,
+               r->occupancy_before - r->data_bits, r->periods);
     }
     printf("]");
 }
@@ -174,15 +175,15 @@ void print_csv_trouble(const char *name, const char *why)
     csv_name(name);
     printf(",,,,,,,,,,");
     csv_name(text);
-    printf("\n");
+    printf(",\n");
 }
 
 void print_csv_names(void)
 {
-    printf("file,picture,byte,time,type,delay,expected,data_bits,before,after,refusal\n");
+    printf("file,picture,byte,time,type,delay,expected,data_bits,before,after,refusal,periods\n");
 }
 
-/* The refused picture, with what is told of it. */
+/* The refused picture, with what is told of it; periods are not. */
 static void csv_refusal(const struct told *t)
 {
     const struct answer *a = t->answer;
@@ -212,7 +213,7 @@ static void csv_refusal(const struct told *t)
     } else {
         printf(",,,");
     }
-    printf(",%" PRIu64 " %s\n", a->number, vbv_refusal_name(a->number));
+    printf(",%" PRIu64 " %s,\n", a->number, vbv_refusal_name(a->number));
 }
 
 void print_csv(const struct told *t)
@@ -224,9 +225,9 @@ void print_csv(const struct told *t)
         const struct vbv_record *r = a->records + n;
         struct bits at = next_time(&times);
         csv_name(t->name);
-        printf(",%zu,%zu,%s,%c,%" PRIu64 ",%" PRIu64 ",%" PRIu64 ",%" PRIu64 ",%" PRIu64 ",\n", n, a->shown[n].at,
+        printf(",%zu,%zu,%s,%c,%" PRIu64 ",%" PRIu64 ",%" PRIu64 ",%" PRIu64 ",%" PRIu64 ",,%" PRIu64 "\n", n, a->shown[n].at,
                clock_time(at, a->declared.bit_rate, time), type_letter(a->shown[n].type), r->delay, r->expected, r->data_bits,
-               r->occupancy_before, r->occupancy_before - r->data_bits);
+               r->occupancy_before, r->occupancy_before - r->data_bits, r->periods);
     }
     if (a->number != 0)
         csv_refusal(t);

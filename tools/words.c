@@ -32,10 +32,10 @@ const char *refusal_line(const struct answer *a, char *text, size_t room)
 
 static void print_records(const struct answer *a)
 {
-    printf("picture delay expected data_bits occupancy_before\n");
+    printf("picture delay expected data_bits occupancy_before periods\n");
     for (size_t n = 0; n < a->recorded; n++)
-        printf("%zu %" PRIu64 " %" PRIu64 " %" PRIu64 " %" PRIu64 "\n", n, a->records[n].delay, a->records[n].expected,
-               a->records[n].data_bits, a->records[n].occupancy_before);
+        printf("%zu %" PRIu64 " %" PRIu64 " %" PRIu64 " %" PRIu64 " %" PRIu64 "\n", n, a->records[n].delay,
+               a->records[n].expected, a->records[n].data_bits, a->records[n].occupancy_before, a->records[n].periods);
 }
 
 /* The place's byte, in the stream or in what was taken out of a container. */

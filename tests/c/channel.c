@@ -122,10 +122,11 @@ static void expect_placed(struct place *out, const struct offer *o, const uint64
 }
 
 /* What was handed out, after what was before. */
-static void keep(struct channel *c, const uint64_t *answer, const uint8_t *out)
+static void keep(struct channel *c, const struct offer *o, const uint64_t *answer, const uint8_t *out)
 {
     if (answer[BYTES] > MOST_SENT - c->length || c->pictures == MOST_PICTURES)
         exit(2);
+    c->intervals[c->pictures] = o->interval;
     memcpy(c->placed[c->pictures++], answer, 8 * ANSWER_WORDS);
     memcpy(c->sent + c->length, out, answer[BYTES]);
     c->length += answer[BYTES];
@@ -150,7 +151,7 @@ struct told offer(const char *name, struct channel *c, const struct offer *o)
     if (o->state_length >= CBR_STATE_BYTES)
         words_of(state.bytes, c->state, STATE_WORDS);
     if (placed)
-        keep(c, t.answer, out.bytes);
+        keep(c, o, t.answer, out.bytes);
     if (t.number == 19 && o->answer_length >= CBR_ANSWER_BYTES)
         is("a part of a buffer's bytes is enough", o->out_length < c->state[BUFFER] / 8, 1);
     take_back(&headers, name, "the headers have changed");
@@ -207,6 +208,7 @@ void check_sent(const char *name, const struct channel *c)
         is(name, record[0], c->placed[i][DELAY]);
         is(name, record[1], c->placed[i][DELAY]);
         is(name, record[2], 8 * c->placed[i][BYTES]);
+        is(name, record[4], c->intervals[i]);
     }
     free(records);
 }

@@ -21,6 +21,7 @@ struct channel {
     uint8_t interval, headers[MOST_BYTES], sent[MOST_SENT];
     size_t length, pictures;
     uint64_t placed[MOST_PICTURES][ANSWER_WORDS];
+    uint8_t intervals[MOST_PICTURES];
 };
 
 /* Layers by kind and interval, and headers for later pictures: the first bytes of these. */
@@ -47,7 +48,7 @@ void refused(const char *name, struct channel *c, struct offer o, uint64_t numbe
 void again(const char *name, struct channel *c, struct offer o, uint64_t quantiser);
 void placed(const char *name, struct channel *c, struct offer o, uint64_t quantiser, uint64_t stuffing);
 
-/* What a channel has sent passes the check, with the delays and the bytes that the writer told. */
+/* What a channel has sent passes the check, with the delays and the bytes that the writer told, and the intervals offered. */
 void check_sent(const char *name, const struct channel *c);
 
 /* Without one of its stuffing bytes a picture makes the next one overflow: the stuffing is the least. How many had any. */

@@ -10,7 +10,7 @@
 #include <string.h>
 #include <sys/mman.h>
 
-enum { MOST_PICTURES = 2, RECORDS = VBV_RECORD_BYTES * MOST_PICTURES };
+enum { MOST_PICTURES = 3, RECORDS = VBV_RECORD_BYTES * MOST_PICTURES };
 
 /* 182,400 bits a second and a buffer of 131,072 bits, 64,673 ticks; 22,800 bits a second and 16,384 bits. */
 #define SLOW "000001B30100101300722040"
@@ -21,8 +21,11 @@ enum { MOST_PICTURES = 2, RECORDS = VBV_RECORD_BYTES * MOST_PICTURES };
 #define I_23901 "00000100000AEAE8"
 #define I_25701 "00000100000B2328"
 #define I_25708 "00000100000B2360"
+#define I_27485 "00000100000B5AE8"
 #define I_30000 "00000100000BA980"
 #define I_64000 "00000100000FD000"
+/* A frame with repeat_first_field 1. */
+#define REPEATED "000001B58FFFF34380" SLICE
 #define TEN "40404040404040404040"
 #define FIFTY TEN TEN TEN TEN TEN
 #define USER_DATA "000001B2" FIFTY FIFTY FIFTY FIFTY
@@ -34,16 +37,23 @@ struct known {
     uint64_t refusal[REFUSAL_WORDS], report[REPORT_WORDS], records[RECORD_WORDS * MOST_PICTURES];
 };
 
-/* The answers are the original Rust's. */
+/* The answers are the original Rust's; the periods, each record's fifth word, are not in it. */
 static const struct known accepted[] = {
     { "the paper's stream", SEQUENCE EXTENSION GROUP I_22118 FRAME "000001B7", 2, { 0 },
-      { 1000000, 327680, 1, 245571, 246027 }, { 22118, 22118, 456, 246027 } },
+      { 1000000, 327680, 1, 245571, 246027 }, { 22118, 22118, 456, 246027, 2 } },
     { "two frames", SEQUENCE EXTENSION I_22118 FRAME I_25701 FRAME, 2, { 0 },
-      { 1000000, 327680, 2, 245603, 285603 }, { 22118, 22118, 360, 245963, 25701, 25701, 184, 285603 } },
+      { 1000000, 327680, 2, 245603, 285603 }, { 22118, 22118, 360, 245963, 2, 25701, 25701, 184, 285603, 2 } },
+    { "two frames, the first with a repeated field", SEQUENCE EXTENSION I_22118 REPEATED I_25701 FRAME, 2, { 0 },
+      { 1000000, 327680, 2, 245603, 285603 }, { 22118, 22118, 360, 245963, 2, 25701, 25701, 184, 285603, 2 } },
     { "two fields", SEQUENCE EXTENSION I_22118 TOP I_23901 BOTTOM, 2, { 0 },
-      { 1000000, 327680, 2, 245603, 265603 }, { 22118, 22118, 360, 245963, 23901, 23901, 184, 265603 } },
+      { 1000000, 327680, 2, 245603, 265603 }, { 22118, 22118, 360, 245963, 1, 23901, 23901, 184, 265603, 1 } },
+    { "a field, a frame, a field", SEQUENCE EXTENSION I_22118 TOP I_23901 FRAME I_27485 BOTTOM, 2, { 0 },
+      { 1000000, 327680, 3, 245603, 305419 },
+      { 22118, 22118, 360, 245963, 1, 23901, 23901, 184, 265603, 2, 27485, 27485, 184, 305419, 1 } },
     { "MPEG-1", SEQUENCE I_22118 SLICE I_25708 SLICE, 1, { 0 },
-      { 1000000, 327680, 2, 245675, 285675 }, { 22118, 22118, 208, 245883, 25708, 25708, 112, 285675 } },
+      { 1000000, 327680, 2, 245675, 285675 }, { 22118, 22118, 208, 245883, 2, 25708, 25708, 112, 285675, 2 } },
+    { "MPEG-2's fields as MPEG-1", SEQUENCE EXTENSION I_22118 TOP I_25701 BOTTOM, 1, { 0 },
+      { 1000000, 327680, 2, 245603, 285603 }, { 22118, 22118, 360, 245963, 2, 25701, 25701, 184, 285603, 2 } },
 };
 
 static const struct known refused[] = {
@@ -130,6 +140,16 @@ static void check_accepted(const struct known *k)
     }
     for (size_t records = 0; records < needed; records += records < needed - VBV_RECORD_BYTES ? VBV_RECORD_BYTES - 1 : 1)
         check_refused(k, 15, VBV_REPORT_BYTES, records, VBV_REFUSAL_BYTES);
+}
+
+/* A record has 40 bytes: there is no place in 39, one in 40 and in 79, two in 80. */
+static void check_record_places(const struct known *one, const struct known *two)
+{
+    check_refused(one, 15, 40, 39, 32);
+    check(one, 40, 40, 32);
+    check(one, 40, 79, 32);
+    check_refused(two, 15, 40, 79, 32);
+    check(two, 40, 80, 32);
 }
 
 /* Refused: with no record places, with enough, and with longer places. */
@@ -234,6 +254,7 @@ int main(void)
     static const uint8_t needed[] = { 0, 1, 2, 3, 4, 5, 6, 7, 8, 9, 10, 11, 12, 15, 19, 20 };
     for (size_t i = 0; i < COUNT(accepted); i++)
         check_accepted(accepted + i);
+    check_record_places(accepted, accepted + 1);
     for (size_t i = 0; i < COUNT(refused); i++)
         check_refusal(refused + i);
     check_places(accepted);

@@ -24,6 +24,6 @@ int main()
     bad |= vbv_check(out, 0, VBV_MPEG2, &report, sizeof report, &record, sizeof record, &refusal, sizeof refusal) != VBV_NO_SEQUENCE;
     bool words = std::strcmp(vbv_refusal_name(refusal.number), "no sequence header") == 0 && vbv_refusal_text(0) == nullptr;
     bool sent = answer.outcome == CBR_PLACED && state.removed == 1 && state.finished == 1 && state.q[CBR_I] == 1;
-    bool same = answer.delay == record.delay && report.pictures == 1 && report.buffer_bits == 327680;
+    bool same = answer.delay == record.delay && record.periods == 2 && report.pictures == 1 && report.buffer_bits == 327680;
     return bad == 0 && words && sent && same ? 0 : 1;
 }

@@ -324,6 +324,20 @@ static void check_layers(void)
     free(c);
 }
 
+/* Fields and frames in one channel. */
+static void check_intervals(void)
+{
+    static const uint8_t intervals[] = { CBR_FIELD, CBR_FRAME, CBR_FIELD, CBR_FIELD, CBR_FRAME, CBR_FRAME, CBR_FIELD };
+    struct channel *c = open_channel(&usual);
+    for (size_t i = 0; i < COUNT(intervals); i++) {
+        struct offer o = picture(c, (uint8_t)(i % 3), intervals[i], 500);
+        is("a field or a frame", offer("a field or a frame", c, &o).number, 0);
+    }
+    is("all placed", c->pictures, COUNT(intervals));
+    check_sent("fields and frames", c);
+    free(c);
+}
+
 /* Long headers: before the first picture they overflow the buffer (9), later they end beyond what is delivered (7). */
 static void check_long_headers(void)
 {
@@ -657,6 +671,7 @@ int main(void)
     check_steerings();
     check_parts();
     check_layers();
+    check_intervals();
     check_long_headers();
     check_narrow();
     check_short_part();

@@ -19,6 +19,7 @@ static const struct member members[] = {
     OF(vbv_report, bit_rate), OF(vbv_report, buffer_bits), OF(vbv_report, pictures), OF(vbv_report, min_after),
     OF(vbv_report, max_before),
     OF(vbv_record, delay), OF(vbv_record, expected), OF(vbv_record, data_bits), OF(vbv_record, occupancy_before),
+    OF(vbv_record, periods),
     OF(vbv_refusal, number), OF(vbv_refusal, picture), OF(vbv_refusal, coded), OF(vbv_refusal, expected),
     OF(cbr_state, bit_rate), OF(cbr_state, buffer_size_bits), OF(cbr_state, frn), OF(cbr_state, frd), OF(cbr_state, whole),
     OF(cbr_state, rest), OF(cbr_state, prev_end_bits), OF(cbr_state, removed), OF(cbr_state, started),
