@@ -1,4 +1,4 @@
--- The steps of the walk give the pictures of a stream, which lie one after another within it.
+-- The steps of the walk give the pictures of a stream, which lie one after another within it; those of MPEG-1 are all frames.
 -- Assumes nothing.
 use mathlib.Core.Path.{_≡_, refl, sym, ap, _∙_}
 use Prim.Native.Nat.{ℕ, zero, suc, _+_, _*_, _≤_, _<_}
