@@ -18,7 +18,7 @@
 extern "C" {
 #endif
 
-#define HIPOKUTA_VERSION "1.1"
+#define HIPOKUTA_VERSION "2.0"
 
 #define VBV_MPEG1 1
 #define VBV_MPEG2 2
@@ -56,7 +56,7 @@ const char *vbv_refusal_text(uint64_t number);
 
 /* Bytes of a report, of each record, and of a refusal, and the structs that lie over them. */
 #define VBV_REPORT_BYTES 40
-#define VBV_RECORD_BYTES 40
+#define VBV_RECORD_BYTES 40 /* 32 before 2.0: header and archive have to be of one version */
 #define VBV_REFUSAL_BYTES 32
 
 struct vbv_report {
@@ -72,7 +72,8 @@ struct vbv_record {
     uint64_t expected;         /* the delay that the model expects */
     uint64_t data_bits;        /* from the last picture's end to this one's */
     uint64_t occupancy_before; /* bits held just before the removal */
-    uint64_t periods;          /* field periods up to the next removal: 1 for a field picture, 2 for a frame */
+    uint64_t periods;          /* field periods up to the next removal, each half a frame's time: 1 for a field picture, 2 for a
+                                * frame; repeat_first_field is not read */
 };
 
 struct vbv_refusal {

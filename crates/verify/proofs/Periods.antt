@@ -17,7 +17,7 @@ use Rattle.verify.specs.Coded.{timed}
 use Rattle.verify.specs.Run.{recordOf}
 use Rattle.verify.specs.Accepted as ac
 use Rattle.verify.specs.Accepted.{Conforms, Along}
-use Rattle.verify.specs.Periods.{UpToNext, Lasts, Paired, none, more, PeriodsTold}
+use Rattle.verify.specs.Periods.{Counted, no-more, one-more, Lasts, Paired, none, more, PeriodsTold}
 use Rattle.verify.specs.declared.CodedPicture.{CodedPicture}
 use Rattle.verify.specs.declared.VbvPictureRecord.{VbvPictureRecord}
 
@@ -25,10 +25,9 @@ periods-are : {p : VbvParams} {previous d : ℕ} {c : CodedPicture} {r : VbvPict
 unfolding recordOf
 periods-are w = ap (λ (q : VbvPictureRecord). q .periods) (w .record-is)
 
-along-next : {p : VbvParams} {previous d : ℕ} {cs : List CodedPicture} {rs : List VbvPictureRecord} → Along p (Conforms p) previous d cs rs
-    → Along p UpToNext previous d cs rs
-along-next ac.none = ac.none
-along-next (ac.more w t) = ac.more (periods-are w) (along-next t)
+counted : {p : VbvParams} {previous d : ℕ} {cs : List CodedPicture} {rs : List VbvPictureRecord} → Along p (Conforms p) previous d cs rs → Counted p previous d cs rs
+counted ac.none = no-more
+counted (ac.more {cs = cs} {rs = rs} w t) = one-more {cs = cs} {rs = rs} w (rw (periods-are w) (counted t))
 
 lasts : {standard : VbvStandard} {x : SeenPicture} {r : VbvPictureRecord} → (standard ≡ Mpeg1 → x .facts .field ≡ false)
     → r .periods ≡ periods (intervalOf (x .facts .field)) → Lasts standard x r
@@ -45,6 +44,6 @@ frames-in standard s xs h e = all-frames s xs (rw e at h)
 
 pub periods-told : PeriodsTold
 periods-told = record {
-  up-to-next = λ standard s places p rs a. along-next (a .removals);
+  up-to-next = λ standard s places p rs a. counted (a .removals);
   by-structure = λ standard s places p rs a. paired (a .first ∷ a .others) (frames-in standard s (a .first ∷ a .others) (a .is-read .pictures-are)) (a .removals);
 }

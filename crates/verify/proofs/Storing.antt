@@ -37,7 +37,7 @@ length-record : (r : VbvPictureRecord) → length (recordBytes r) ≡ recordSize
 unfolding recordBytes
 length-record r = length-words _
 
--- four words laid over the part from a place on
+-- five words laid over the part from a place on
 pub record-laid : (out new : List ℕ) (at : ℕ) (r : VbvPictureRecord) → at + recordSize ≤ length out
     → new ≡ laid (wordsBytes (r .«vbv_delay» ∷ r .«expected_delay» ∷ r .«data_bits» ∷ r .«occupancy_before_bits» ∷ r .periods ∷ [])) (take (length out - at) (drop at out))
     → take at out ++ (new ++ drop (length out - at) (drop at out)) ≡ sets out at (recordBytes r)

@@ -1,23 +1,24 @@
 -- What is owed of the periods in the records (request 04): the field periods up to the next removal, 1 for a field picture and 2 for a frame.
 -- repeat_first_field does not count (docs/DIFFERENCES.md). The last picture has its own too, though no removal follows. Assumes nothing.
-use Prim.Native.Nat.{ℕ}
+use Prim.Native.Nat.{ℕ, _+_}
 use mathlib.Core.Path.{_≡_}
 use mathlib.Core.Bool.{true, false}
 use mathlib.Core.List.{List, [], _∷_}
-use Rattle.vbv.specs.Annex.{firstDelivered}
-use Rattle.vbv.specs.Model.{periods}
+use Rattle.vbv.specs.Annex.{firstDelivered, gain}
 use Rattle.vbv.specs.declared.VbvParams.{VbvParams}
 use Rattle.pictures.specs.declared.VbvStandard.{VbvStandard}
 use Rattle.pictures.specs.declared.VbvStandard.the-variants.{Mpeg1}
 use Rattle.pictures.specs.declared.SeenPicture.{SeenPicture}
 use Rattle.verify.specs.Coded.{timed}
-use Rattle.verify.specs.Accepted.{Along, Passes}
+use Rattle.verify.specs.Accepted.{Conforms, Passes}
 use Rattle.verify.specs.declared.CodedPicture.{CodedPicture}
 use Rattle.verify.specs.declared.VbvPictureRecord.{VbvPictureRecord}
 
--- a record tells as many field periods as bring the gain up to the next removal (`Along`)
-abbrev pub UpToNext : ℕ → ℕ → CodedPicture → VbvPictureRecord → Type 0
-UpToNext previous d c r = r .periods ≡ periods (c .interval)
+-- one removal after another, each with its record, as in `Along`; but by the next one the field periods that the record tells bring the gain (C.9, C.11)
+pub data Counted (p : VbvParams) : ℕ → ℕ → List CodedPicture → List VbvPictureRecord → Type 0 where
+  no-more : {previous d : ℕ} → Counted p previous d [] []
+  one-more : {previous d : ℕ} {c : CodedPicture} {cs : List CodedPicture} {r : VbvPictureRecord} {rs : List VbvPictureRecord} → Conforms p previous d c r
+      → Counted p (c .«end_bits») (d + gain p (r .periods)) cs rs → Counted p previous d (c ∷ cs) (r ∷ rs)
 
 -- a picture as its headers show it, and its record
 pub record Lasts (standard : VbvStandard) (x : SeenPicture) (r : VbvPictureRecord) : Type 0 where
@@ -31,9 +32,9 @@ pub data Paired (standard : VbvStandard) : List SeenPicture → List VbvPictureR
   none : Paired standard [] []
   more : {x : SeenPicture} {xs : List SeenPicture} {r : VbvPictureRecord} {rs : List VbvPictureRecord} → Lasts standard x r → Paired standard xs rs → Paired standard (x ∷ xs) (r ∷ rs)
 
--- what is owed, of every stream that the check accepts
+-- what is owed, of every stream that the check accepts (`Passes`: these and no others, specs/Accepted.antt)
 pub record PeriodsTold : Type 0 where
   pub up-to-next : (standard : VbvStandard) (s : List ℕ) (places : ℕ) (p : VbvParams) (rs : List VbvPictureRecord) (a : Passes standard s places p rs)
-      → Along p UpToNext 0 (firstDelivered p (a .first .«pos_bits») (a .first .«vbv_delay»)) (timed (a .first ∷ a .others)) rs
+      → Counted p 0 (firstDelivered p (a .first .«pos_bits») (a .first .«vbv_delay»)) (timed (a .first ∷ a .others)) rs
   pub by-structure : (standard : VbvStandard) (s : List ℕ) (places : ℕ) (p : VbvParams) (rs : List VbvPictureRecord) (a : Passes standard s places p rs)
       → Paired standard (a .first ∷ a .others) rs

@@ -7,7 +7,7 @@ use Rattle.pictures.specs.declared.VbvStandard.{VbvStandard}
 use Rattle.verify.specs.Check.{verdict, records}
 use Rattle.verify.specs.declared.VbvPictureRecord.{VbvPictureRecord}
 
--- 16 bits for a delay, 2^48 bits of data, no buffer is larger than 4,294,950,912 bits, and in Annex C no picture lasts longer than six field periods (C.9 to C.12)
+-- 16 bits for a delay, 2^48 bits of data, no buffer is larger than 4,294,950,912 bits, and by C.9 to C.12 no picture lasts longer than six field periods
 pub record Small (r : VbvPictureRecord) : Type 0 where
   pub coded-small : r .«vbv_delay» < 65536
   pub expected-small : r .«expected_delay» < 65536
