@@ -1,4 +1,4 @@
--- Lists of calls from C on the state that `cbr_create` left (paper 01, 'Rust forms to replace'): demand 3 covers them, since those that reach the writer are answered as the same
+-- Lists of calls from C on the state that `cbr_create` or `cbr_create_config` left (paper 01, 'Rust forms to replace'): demand 3 covers them, since those that reach the writer are answered as the same
 -- calls on the writer itself; a refusal leaves the state's bytes alone, but for 21; and what output part is large enough.
 -- Assumes nothing.
 use Prim.Native.Nat.{ℕ, _*_, _≤_}
@@ -10,19 +10,19 @@ use lib.ListN.{length}
 use Rattle.bits.specs.Bits.{pick}
 use Rattle.bits.specs.Refusals.{Answer, value, refused, number}
 use Rattle.headers.specs.RoundTrips.{Bytes}
-use Rattle.vbv.specs.Answers.{frameRate}
 use Rattle.rate_control.specs.Answers.{Given}
-use Rattle.rate_control.specs.Create.{create}
+use Rattle.rate_control.specs.Create.{configRate, create}
 use Rattle.rate_control.specs.Offer.{Offer}
 use Rattle.rate_control.specs.Calls.{Call, offering, withdrawing, Step, offered, withdrawn, stepOf, stepsOf, final}
 use Rattle.rate_control.specs.Demand.{AllBytes, DemandOf}
 use Rattle.rate_control.specs.declared.CbrConfig.{CbrConfig}
 use Rattle.rate_control.specs.declared.CbrWriter.{CbrWriter}
 use Rattle.rate_control.specs.declared.Pending.the-variants.{Nothing}
+use Rattle.layout.specs.Config.{configIn}
 use Rattle.layout.specs.State.{stateBytes, stateFits, writerAt}
 use Rattle.layout.specs.Answers.{answerSize, answerWords}
 use Rattle.words.specs.Words.{wordsBytes, laid}
-use Rattle.hipokuta.specs.Send.{stateAfter, createIn, COffer, choicesFit, offerOf, reach, offerIn, offerState, offerOut, offerPlace, withdrawIn}
+use Rattle.hipokuta.specs.Send.{stateAfter, createIn, createWith, COffer, choicesFit, offerOf, reach, offerIn, offerState, offerOut, offerPlace, withdrawIn}
 
 pub data CCall : Type 0 where
   offers : COffer → CCall
@@ -96,7 +96,7 @@ unfoldable pub writerShowsAll : CbrWriter → List CCall → List SeenByC
 writerShowsAll w [] = []
 writerShowsAll w (c ∷ cs) = writerShows w c ∷ writerShowsAll (final w (forWriter c)) cs
 
--- of calls on the state of the writer w, created with c in a place, the frame rate of its code being f
+-- of calls on the state of the writer w, created with c in a place, its frame rate being f
 pub record FromC (c : CbrConfig) (f : ℕ × ℕ) (w : CbrWriter) (place : List ℕ) (cs : List CCall) : Type 0 where
   -- the writer is asked these calls, in order, each on what the one before left, and these are its answers
   pub same : stepsFromC (stateAfter (createIn c place) place) cs ≡ stepsOf w (allForWriter cs)
@@ -110,12 +110,20 @@ pub record FromC (c : CbrConfig) (f : ℕ × ℕ) (w : CbrWriter) (place : List 
 pub record FromCreation (c : CbrConfig) (place : List ℕ) : Type 0 where
   pub rate : ℕ × ℕ
   pub writer : CbrWriter
-  pub rate-is : frameRate (c .«frame_rate_code») ≡ value rate
+  pub rate-is : configRate c ≡ value rate
   pub writer-is : create c ≡ value writer
   pub from-c : (cs : List CCall) → AllBytes (allForWriter cs) → FromC c rate writer place cs
 
 abbrev pub OwedFromC : Type 0
 OwedFromC = (c : CbrConfig) (place : List ℕ) → number (createIn c place) ≡ 0 → FromCreation c place
+
+-- an accepted creation by a configuration's bytes leaves the place as the creation with what they hold does, and so it is with every list of calls
+pub record FromConfig (config place : List ℕ) : Type 0 where
+  pub same : createWith config place ≡ createIn (configIn config) place
+  pub from-creation : FromCreation (configIn config) place
+
+abbrev pub OwedFromConfig : Type 0
+OwedFromConfig = (config place : List ℕ) → number (createWith config place) ≡ 0 → FromConfig config place
 
 -- ---- one call
 
@@ -134,6 +142,7 @@ pub record Keeps (s : List ℕ) (o : COffer) : Type 0 where
   -- a refused withdrawal, and a refused creation in the same place
   pub not-withdrawn : 1 ≤ number (withdrawIn s) → stateAfter (withdrawIn s) s ≡ s
   pub not-created : (c : CbrConfig) → 1 ≤ number (createIn c s) → stateAfter (createIn c s) s ≡ s
+  pub not-configured : (config : List ℕ) → 1 ≤ number (createWith config s) → stateAfter (createWith config s) s ≡ s
 
 abbrev pub OwedOfRefusals : Type 0
 OwedOfRefusals = (s : List ℕ) (o : COffer) → Bytes s → Keeps s o

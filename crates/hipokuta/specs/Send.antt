@@ -1,4 +1,4 @@
--- `cbr_create`, `cbr_offer` and `cbr_withdraw` (paper 01, 'A placed picture' and 'Rust forms to replace'; docs/LAYOUT.md): the writer's own answers, its state as bytes.
+-- `cbr_create`, `cbr_create_config`, `cbr_offer` and `cbr_withdraw` (paper 01, 'A placed picture' and 'Rust forms to replace'; request 02; docs/LAYOUT.md): the writer's own answers, its state as bytes.
 -- Assumes nothing.
 use Prim.Native.Nat.{ℕ}
 use mathlib.Core.List.{List}
@@ -18,6 +18,7 @@ use Rattle.rate_control.specs.Offer.{Offer, offer, left, outAfter, withdraw}
 use Rattle.rate_control.specs.declared.CbrConfig.{CbrConfig}
 use Rattle.rate_control.specs.declared.CbrWriter.{CbrWriter}
 use Rattle.words.specs.Words.{wordsBytes, laid}
+use Rattle.layout.specs.Config.{configSize, modeFits, configIn}
 use Rattle.layout.specs.State.{stateSize, stateBytes, stateFits, writerAt}
 use Rattle.layout.specs.Answers.{answerSize, answerWords}
 use Rattle.hipokuta.specs.Lent.{Slice}
@@ -29,11 +30,14 @@ stateAfter (refused n k c e) place = place
 
 -- ---- creation
 
+-- what `cbr_create` brings: n and d are 0
 abbrev pub configOf : ℕ → ℕ → ℕ → ℕ → ℕ → ℕ → CbrConfig
 configOf rate buffer code quantiser between anchors = record {
   «bit_rate_value» = rate;
   «vbv_buffer_size_value» = buffer;
   «frame_rate_code» = code;
+  «frame_rate_extension_n» = 0;
+  «frame_rate_extension_d» = 0;
   «initial_quantiser_scale_code» = quantiser;
   «b_between» = between;
   «anchors_per_gop» = anchors;
@@ -42,6 +46,14 @@ configOf rate buffer code quantiser between anchors = record {
 -- 19 for a place too short for a state, then the creation's own answer
 unfoldable pub createIn : CbrConfig → List ℕ → Answer CbrWriter
 createIn c place = refuse 19 (ltb (length place) stateSize) (create c)
+
+-- of a configuration's bytes: 12 where they are too few, 19 for a place too short for a state, 12 for a mode that is none, then the creation's own answer
+unfoldable pub createWith : List ℕ → List ℕ → Answer CbrWriter
+createWith config place =
+    refuse 12 (ltb (length config) configSize)
+    (refuse 19 (ltb (length place) stateSize)
+    (refuse 12 (not (modeFits config))
+    (create (configIn config))))
 
 -- ---- an offer
 

@@ -1,24 +1,44 @@
 // The constant-rate writer, its state as bytes.
 ghost use mathlib.Core.Path.{_≡_};
 ghost use Rattle.bits.specs.Refusals.{number};
-ghost use Rattle.rate_control.specs.Answers.{offerAnswer};
-ghost use Rattle.hipokuta.specs.Send.{stateAfter, configOf, createIn, brought, kindFor, intervalFor, offerIn, offerState, offerOut, offerPlace, withdrawIn};
+ghost use Rattle.rate_control.specs.Answers.{createdAnswer, offerAnswer};
+ghost use Rattle.hipokuta.specs.Send.{stateAfter, configOf, createIn, createWith, brought, kindFor, intervalFor, offerIn, offerState, offerOut, offerPlace, withdrawIn};
 use bits::plain;
 use layers::PictureKind;
 use layout::ANSWER_BYTES;
+use layout::CONFIG_BYTES;
+use layout::MPEG2;
 use layout::STATE_BYTES;
+use layout::create_from;
 use layout::put_answer;
 use layout::put_refused;
 use layout::put_state;
 use layout::read_state;
 use rate_control::CbrAnswer;
 use rate_control::CbrConfig;
+use rate_control::CbrCreated;
 use rate_control::CbrCreation;
 use rate_control::CbrWithdrawal;
 use rate_control::CbrWriter;
 use vbv::RemovalInterval;
+use words::word_at;
 
-// A new writer in the place for its state: 0, or the refusal's number.
+// A created writer's state in a place: 0, or the refusal's number.
+fn put_created(state: &mut [u8], made: CbrCreated) -> u64
+    ensures { λ r. ⌜ r ≡ number (createdAnswer made) ⌝ }
+    ensures { λ r. ⌜ now (state .exit) ≡ stateAfter (createdAnswer made) (now (state .entry)) ⌝ }
+{
+    let answer = made.answer;
+    match answer {
+        CbrCreation::Created => {
+            put_state(state, made.writer);
+            0
+        }
+        CbrCreation::Refused(error) => error.number() as u64,
+    }
+}
+
+// A new writer in the place for its state, its frame rate that of the code: 0, or the refusal's number.
 #[no_mangle]
 pub extern "C" fn cbr_create(
     bit_rate_value: u32,
@@ -39,19 +59,32 @@ pub extern "C" fn cbr_create(
         bit_rate_value,
         vbv_buffer_size_value,
         frame_rate_code,
+        frame_rate_extension_n: 0,
+        frame_rate_extension_d: 0,
         initial_quantiser_scale_code: quantiser,
         b_between,
         anchors_per_gop,
     };
-    let made = CbrWriter::create(config);
-    let answer = made.answer;
-    match answer {
-        CbrCreation::Created => {
-            put_state(state, made.writer);
-            0
-        }
-        CbrCreation::Refused(error) => error.number() as u64,
+    put_created(state, CbrWriter::create(config))
+}
+
+// A new writer by a configuration's words: mode, bit_rate_value, vbv_buffer_size_value, frame_rate_code, n, d, quantiser,
+// b_between, anchors_per_gop.
+#[no_mangle]
+pub extern "C" fn cbr_create_config(config: &[u8], state: &mut [u8]) -> u64
+    ensures { λ r. ⌜ r ≡ number (createWith (now (config .entry)) (now (state .entry))) ⌝ }
+    ensures { λ r. ⌜ now (state .exit) ≡ stateAfter (createWith (now (config .entry)) (now (state .entry))) (now (state .entry)) ⌝ }
+{
+    if config.len() < CONFIG_BYTES {
+        return 12;
     }
+    if state.len() < STATE_BYTES {
+        return 19;
+    }
+    if word_at(config, 0) == MPEG2 {
+        return put_created(state, create_from(config));
+    }
+    12
 }
 
 // Kinds 0 I, 1 P, 2 B.

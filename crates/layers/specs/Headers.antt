@@ -1,19 +1,18 @@
 -- Headers that fit before a picture (paper 01, 'A placed picture').
 -- Assumes nothing.
-use Prim.Native.Nat.{ℕ, _*_}
+use Prim.Native.Nat.{ℕ}
 use mathlib.Core.List.{List, [], _∷_}
 use mathlib.Core.Bool.{Bool, true, false, not, _&&_, _||_}
 use lib.Dec.{eqb}
-use Rattle.vbv.specs.Params.{rateUnit, bufferUnit}
 use Rattle.bits.specs.StartCodes.{userDataStartCode, sequenceHeaderCode, extensionStartCode, groupStartCode}
 use Rattle.headers.specs.StartCode.{prefixAt}
-use Rattle.headers.specs.Sequence.{sequence}
-use Rattle.headers.specs.declared.sequence_extension.Mpeg2Sequence.{Mpeg2Sequence}
 use Rattle.bits.specs.Refusals.{value, andThen, orElse}
-use Rattle.vbv.specs.Answers.{frameRate}
+use Rattle.vbv.specs.Params.{sameParams}
 use Rattle.vbv.specs.declared.VbvParams.{VbvParams}
 use Rattle.scan.specs.Codes.{Code, codes, every, endsPrefix}
 use Rattle.scan.specs.Pictures.{notSequence}
+use Rattle.pictures.specs.Sequence.{declaredBy}
+use Rattle.pictures.specs.declared.VbvStandard.the-variants.{Mpeg2}
 
 -- empty or starting 00 00 01
 unfoldable pub opensHeaders : List ℕ → Bool
@@ -24,22 +23,9 @@ opensHeaders (b ∷ s) = prefixAt (b ∷ s) 0
 unfoldable pub headerCode : ℕ → Bool
 headerCode c = eqb c userDataStartCode || (eqb c sequenceHeaderCode || (eqb c extensionStartCode || eqb c groupStartCode))
 
--- this frame rate
-unfoldable pub sameRate : VbvParams → ℕ → Bool
-sameRate p code = orElse false (andThen (frameRate code) (λ f. value (eqb (f .0) (p .frn) && eqb (f .1) (p .frd))))
-
--- this R, B and rate, frame rate extensions 0
-unfoldable pub sameParams : VbvParams → Mpeg2Sequence → Bool
-sameParams p q =
-    eqb (rateUnit * q .«bit_rate») (p .«bit_rate»)
-    && (eqb (bufferUnit * q .«vbv_buffer_size») (p .«buffer_size_bits»)
-    && (sameRate p (q .header .«frame_rate_code»)
-    && (eqb (q .extension .«frame_rate_extension_n») 0
-    && eqb (q .extension .«frame_rate_extension_d») 0)))
-
--- parsing to these
+-- parsing to this R, this B and this value of the frame rate, whatever code, n and d (request 02)
 unfoldable pub declares : VbvParams → List ℕ → Bool
-declares p h = orElse false (andThen (sequence h) (λ q. value (sameParams p q)))
+declares p h = orElse false (andThen (declaredBy Mpeg2 h) (λ q. value (sameParams p q)))
 
 -- B3 exactly once, at byte 0
 unfoldable pub sequenceFirst : List Code → Bool

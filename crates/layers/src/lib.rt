@@ -8,7 +8,7 @@ ghost use Rattle.headers.specs.StartCode.{leadingZeros};
 ghost use Rattle.picture_header.specs.PictureHeader.{pictureHeader, pictureHeaderBytes};
 ghost use Rattle.scan.specs.Codes.{codes, codesAt, every, endsPrefix, found};
 ghost use Rattle.scan.specs.Pictures.{skip};
-ghost use Rattle.layers.specs.Headers.{opensHeaders, sameRate, sameParams, declares as declaresThem, sequenceFirst, sequenceFits, headersFit};
+ghost use Rattle.layers.specs.Headers.{opensHeaders, declares as declaresThem, sequenceFirst, sequenceFits, headersFit};
 ghost use Rattle.layers.specs.Layer.{sameKind, sameInterval, flagClear, codeSeven, padding, headerFits, slices, isExtension, layerCodes, layerFits};
 ghost use Rattle.layers.specs.Steps.{inSet};
 use bits::Bits;
@@ -18,17 +18,15 @@ use bits::start_codes::GROUP_START_CODE;
 use bits::start_codes::LAST_SLICE_CODE;
 use bits::start_codes::SEQUENCE_HEADER_CODE;
 use bits::start_codes::USER_DATA_START_CODE;
-use headers::sequence_extension::Mpeg2Sequence;
-use headers::sequence_header::Answer;
 use picture_header::Mpeg2PictureHeader;
 use picture_header::OptionCode;
 use picture_header::OptionFlag;
 use picture_header::PictureCodingType;
 use picture_header::PictureRead;
+use pictures::Declared;
+use pictures::VbvStandard;
+use pictures::declared_by;
 use scan::Found;
-use vbv::BUFFER_UNIT;
-use vbv::FrameRate;
-use vbv::RATE_UNIT;
 use vbv::RemovalInterval;
 use vbv::VbvParams;
 
@@ -130,43 +128,13 @@ fn sequence_first(headers: &[u8]) -> bool
     }
 }
 
-// Whether a frame rate code is that of the parameters.
-fn same_rate(params: VbvParams, code: u8) -> bool
-    ensures { λ r. ⌜ r ≡ sameRate params code ⌝ }
-{
-    match vbv::frame_rate_value(code) {
-        FrameRate::Rate(frn, frd) => (frn == params.frn) & (frd == params.frd),
-        FrameRate::Refused(_) => false,
-    }
-}
-
-// Whether a sequence declares the parameters, and its frame rate extensions are 0.
-fn same_params(params: VbvParams, sequence: Mpeg2Sequence) -> bool
-    ensures { λ r. ⌜ r ≡ sameParams params sequence ⌝ }
-{
-    let header = sequence.header;
-    let extension = sequence.extension;
-    let rate = sequence.bit_rate as u64;
-    let buffer = sequence.vbv_buffer_size as u64;
-    (RATE_UNIT * rate == params.bit_rate)
-        & ((BUFFER_UNIT * buffer == params.buffer_size_bits)
-            & (same_rate(params, header.frame_rate_code)
-                & ((extension.frame_rate_extension_n == 0)
-                    & (extension.frame_rate_extension_d == 0))))
-}
-
 // Whether the sequence that headers begin with declares the parameters.
 fn declares(headers: &[u8], params: VbvParams) -> bool
     ensures { λ r. ⌜ r ≡ declaresThem params (now (headers .entry)) ⌝ }
 {
-    let read = Mpeg2Sequence::from_buf(headers);
-    let answer = read.answer;
-    match answer {
-        Answer::Parsed => {
-            let sequence = read.sequence;
-            same_params(params, sequence)
-        }
-        Answer::Refused(_) => false,
+    match declared_by(headers, VbvStandard::Mpeg2) {
+        Declared::Params(declared) => params.same(declared),
+        Declared::Refused(_) => false,
     }
 }
 

@@ -1,9 +1,11 @@
--- The reading of a state as the code goes: promises and demands of private functions.
+-- The reading of a state and of a configuration as the code goes: promises and demands of private functions.
 -- Assumes nothing.
 use Prim.Native.Nat.{ℕ, _≤_}
 use mathlib.Core.List.{List}
 use mathlib.Core.Bool.{Bool, _&&_}
 use lib.Dec.{leb}
+use Rattle.bits.specs.Bits.{pick}
+use Rattle.rate_control.specs.declared.CbrConfig.{CbrConfig}
 use Rattle.words.specs.Words.{wordAt}
 use Rattle.layout.specs.State.{codesFit}
 
@@ -19,3 +21,20 @@ pub record Narrow (s : List ℕ) : Type 0 where
   pub p : wordAt s 13 ≤ 31
   pub b : wordAt s 14 ≤ 31
   pub waits : wordAt s 16 ≤ 31
+
+-- a value as it is, or another where it is above the most
+unfoldable pub cut : ℕ → ℕ → ℕ → ℕ
+cut most other v = pick (leb v most) v other
+
+-- a configuration whose fields have few bits: for a value above its range one that is out of it too, and for a rate code above 8 the code 0, which is none either
+unfoldable pub narrowed : CbrConfig → CbrConfig
+narrowed c = record {
+  «bit_rate_value» = cut 262143 0 (c .«bit_rate_value»);
+  «vbv_buffer_size_value» = cut 1023 0 (c .«vbv_buffer_size_value»);
+  «frame_rate_code» = cut 8 0 (c .«frame_rate_code»);
+  «frame_rate_extension_n» = cut 3 4 (c .«frame_rate_extension_n»);
+  «frame_rate_extension_d» = cut 31 32 (c .«frame_rate_extension_d»);
+  «initial_quantiser_scale_code» = cut 31 0 (c .«initial_quantiser_scale_code»);
+  «b_between» = cut 15 16 (c .«b_between»);
+  «anchors_per_gop» = cut 255 0 (c .«anchors_per_gop»);
+}

@@ -1,4 +1,5 @@
-// Report, refusal, answer and a writer's state as bytes, laid out as docs/LAYOUT.md says.
+// Report, refusal, answer, a configuration and a writer's state as bytes, laid out as docs/LAYOUT.md says.
+mod config; // a configuration
 mod state; // a writer's state
 mod answers; // report, refusal and answer
 
@@ -6,6 +7,7 @@ pub use crate::answers::put_answer;
 pub use crate::answers::put_refusal;
 pub use crate::answers::put_refused;
 pub use crate::answers::put_report;
+pub use crate::config::create_from;
 pub use crate::state::put_state;
 pub use crate::state::read_state;
 use rate_control::CbrWriter;
@@ -17,7 +19,12 @@ pub const REFUSAL_BYTES: usize = 32;
 
 pub const ANSWER_BYTES: usize = 72;
 
+pub const CONFIG_BYTES: usize = 72;
+
 pub const STATE_BYTES: usize = 152;
+
+// The mode MPEG-2 in a configuration.
+pub const MPEG2: u64 = 2;
 
 // Whether a place holds a writer, and the writer.
 pub struct CbrState {

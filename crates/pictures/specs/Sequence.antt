@@ -16,15 +16,17 @@ use Rattle.scan.specs.declared.Found.the-variants.{At, Nothing}
 use Rattle.pictures.specs.declared.VbvStandard.{VbvStandard}
 use Rattle.pictures.specs.declared.VbvStandard.the-variants.{Mpeg1, Mpeg2}
 
--- R, B and the frame rate of a code (6)
-unfoldable pub rated : ℕ → ℕ → ℕ → Answer VbvParams
-rated rate buffer code =
-    andThen (frameRate code) (λ f. value (paramsOf rate buffer f))
+-- R, B and the frame rate of a code (6) and its extensions n and d
+unfoldable pub rated : ℕ → ℕ → ℕ → ℕ → ℕ → Answer VbvParams
+rated rate buffer code n d =
+    andThen (frameRate code n d) (λ f. value (paramsOf rate buffer f))
 
--- MPEG-1 reads the sequence header alone, MPEG-2 the extension after it too (1, 2)
+-- MPEG-1 reads the sequence header alone, MPEG-2 the extension after it too (1, 2); 11172-2 has no n and d (request 02: 'MPEG-1 passes zeros')
 unfoldable pub declaredBy : VbvStandard → List ℕ → Answer VbvParams
-declaredBy Mpeg1 s = andThen (sequenceHeader s) (λ h. rated (h .«bit_rate») (h .«vbv_buffer_size») (h .«frame_rate_code»))
-declaredBy Mpeg2 s = andThen (sequence s) (λ q. rated (q .«bit_rate») (q .«vbv_buffer_size») (q .header .«frame_rate_code»))
+declaredBy Mpeg1 s = andThen (sequenceHeader s) (λ h. rated (h .«bit_rate») (h .«vbv_buffer_size») (h .«frame_rate_code») 0 0)
+declaredBy Mpeg2 s =
+    andThen (sequence s) (λ q.
+    rated (q .«bit_rate») (q .«vbv_buffer_size») (q .header .«frame_rate_code») (q .extension .«frame_rate_extension_n») (q .extension .«frame_rate_extension_d»))
 
 unfoldable pub declaredAt : VbvStandard → List ℕ → Found → Answer VbvParams
 declaredAt standard s (At o c) = declaredBy standard (drop o s)

@@ -3,6 +3,7 @@ mod seen; // the pictures, one after another
 mod sequence; // what the first sequence header declares
 
 pub use crate::seen::next_seen;
+pub use crate::sequence::declared_by;
 pub use crate::sequence::opening;
 use headers::Error;
 use picture_header::PictureFacts;

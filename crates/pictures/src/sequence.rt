@@ -17,18 +17,18 @@ use vbv::VbvError;
 use vbv::frame_rate_value;
 use vbv::params_of;
 
-// By the two fields, and the frame rate of a code.
-fn rated_by(rate: u32, buffer: u32, code: u8) -> Declared
-    ensures { λ r. ⌜ declaredAnswer r ≡ rated rate buffer code ⌝ }
+// By the two fields, and the frame rate of a code and its extensions.
+fn rated_by(rate: u32, buffer: u32, code: u8, n: u8, d: u8) -> Declared
+    ensures { λ r. ⌜ declaredAnswer r ≡ rated rate buffer code n d ⌝ }
 {
-    match frame_rate_value(code) {
+    match frame_rate_value(code, n, d) {
         FrameRate::Rate(frn, frd) => Declared::Params(params_of(rate, buffer, frn, frd)),
         FrameRate::Refused(error) => Declared::Refused(Unread::Model(error)),
     }
 }
 
-// What the sequence header that begins a part of the stream declares.
-fn declared_at(part: &[u8], standard: VbvStandard) -> Declared
+// What the sequence header that a part begins with declares.
+pub fn declared_by(part: &[u8], standard: VbvStandard) -> Declared
     ensures { λ r. ⌜ declaredAnswer r ≡ declaredBy standard (now (part .entry)) ⌝ }
 {
     match standard {
@@ -42,6 +42,8 @@ fn declared_at(part: &[u8], standard: VbvStandard) -> Declared
                         header.bit_rate,
                         header.vbv_buffer_size as u32,
                         header.frame_rate_code,
+                        0,
+                        0,
                     )
                 }
                 Answer::Refused(error) => Declared::Refused(Unread::Parse(error)),
@@ -54,10 +56,13 @@ fn declared_at(part: &[u8], standard: VbvStandard) -> Declared
                 Answer::Parsed => {
                     let sequence = read.sequence;
                     let header = sequence.header;
+                    let extension = sequence.extension;
                     rated_by(
                         sequence.bit_rate,
                         sequence.vbv_buffer_size,
                         header.frame_rate_code,
+                        extension.frame_rate_extension_n,
+                        extension.frame_rate_extension_d,
                     )
                 }
                 Answer::Refused(error) => Declared::Refused(Unread::Parse(error)),
@@ -71,7 +76,7 @@ fn declared_params(stream: &[u8], standard: VbvStandard) -> Declared
     ensures { λ r. ⌜ declaredAnswer r ≡ declared standard (now (stream .entry)) ⌝ }
 {
     match first_sequence(stream) {
-        Found::At { offset, code: _ } => declared_at(&stream[offset..], standard),
+        Found::At { offset, code: _ } => declared_by(&stream[offset..], standard),
         Found::Nothing => Declared::Refused(Unread::NoSequenceHeader),
     }
 }

@@ -1,4 +1,4 @@
--- Creation of a writer (paper 01, 'A placed picture'): 12 for a range, 6 for the rate code, 12 for the ratio.
+-- Creation of a writer (paper 01, 'A placed picture'; request 02): 12 for a range, 6 for the rate code, 12 for the ratio.
 -- Assumes nothing.
 use Prim.Native.Nat.{ℕ}
 use mathlib.Core.List.{[], _∷_}
@@ -23,8 +23,14 @@ unfoldable pub configFits : CbrConfig → Bool
 configFits c =
     within 1 262143 (c .«bit_rate_value»)
     && (within 1 1023 (c .«vbv_buffer_size_value»)
+    && (within 0 3 (c .«frame_rate_extension_n»)
+    && (within 0 31 (c .«frame_rate_extension_d»)
     && (within 1 31 (c .«initial_quantiser_scale_code»)
-    && (within 0 15 (c .«b_between») && within 1 255 (c .«anchors_per_gop»))))
+    && (within 0 15 (c .«b_between») && within 1 255 (c .«anchors_per_gop»))))))
+
+-- the frame rate of the code and its extensions
+abbrev pub configRate : CbrConfig → Answer (ℕ × ℕ)
+configRate c = frameRate (c .«frame_rate_code») (c .«frame_rate_extension_n») (c .«frame_rate_extension_d»)
 
 -- R and B by the fields, with the frame rate f
 abbrev pub writerParams : CbrConfig → ℕ × ℕ → VbvParams
@@ -44,7 +50,7 @@ freshWriter c m = record {
 unfoldable pub create : CbrConfig → Answer CbrWriter
 create c =
     refuse 12 (not (configFits c))
-    (andThen (frameRate (c .«frame_rate_code»)) (λ f.
+    (andThen (configRate c) (λ f.
     andThen (newModel (writerParams c f)) (λ m.
     value (freshWriter c m))))
 

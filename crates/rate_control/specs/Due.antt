@@ -1,5 +1,5 @@
 -- Which answer is due to creation and to each offer (paper 01, 'A placed picture'), by conditions in ≤ and <, from creation, the calls and their answers: not from the writer's state,
--- nor from the tests, positions, stuffing or bytes of `offer`. The fit tests, `firstDelay`, `endCode`, `patched`, `coarser`, `steered`, `pendingOr`, `of`, `index`, `frameRate`, `writerParams`, `targets`, `periods` and
+-- nor from the tests, positions, stuffing or bytes of `offer`. The fit tests, `firstDelay`, `endCode`, `patched`, `coarser`, `steered`, `pendingOr`, `of`, `index`, `configRate`, `writerParams`, `targets`, `periods` and
 -- Annex C are the ones that `create` and `offer` compute with: they are to be read against the papers themselves. Assumes nothing.
 use Prim.Native.Nat.{ℕ, suc, _+_, _*_, _/_, _%_, _≤_, _<_}
 use mathlib.Core.Path.{_≡_}
@@ -9,9 +9,8 @@ use lib.Dec.{eqb, ltb}
 use lib.ListN.{length, take, drop, replicate, set}
 use Rattle.bits.specs.Bits.{pick}
 use Rattle.bits.specs.Refusals.{Answer, value, refused}
-use Rattle.rate_control.specs.Create.{writerParams}
+use Rattle.rate_control.specs.Create.{configRate, writerParams}
 use Rattle.vbv.specs.Annex.{unit, firstDelivered, gain, expectedDelay}
-use Rattle.vbv.specs.Answers.{frameRate}
 use Rattle.vbv.specs.Model.{farthest, periods}
 use Rattle.vbv.specs.Patch.{patched}
 use Rattle.vbv.specs.declared.VbvParams.{VbvParams}
@@ -193,19 +192,21 @@ PartHolds o (refused n picture coded expected) out = out ≡ o .out
 
 -- ---- creation's answer
 
--- each field in paper 01's range, the rate code apart
+-- each field in the range of paper 01 or request 02, the rate code apart
 pub record Ranges (c : CbrConfig) : Type 0 where
   pub rate-low : 1 ≤ c .«bit_rate_value»
   pub rate-high : c .«bit_rate_value» ≤ 262143
   pub buffer-low : 1 ≤ c .«vbv_buffer_size_value»
   pub buffer-high : c .«vbv_buffer_size_value» ≤ 1023
+  pub n-high : c .«frame_rate_extension_n» ≤ 3
+  pub d-high : c .«frame_rate_extension_d» ≤ 31
   pub quantiser-low : 1 ≤ c .«initial_quantiser_scale_code»
   pub quantiser-high : c .«initial_quantiser_scale_code» ≤ 31
   pub between-high : c .«b_between» ≤ 15
   pub anchors-low : 1 ≤ c .«anchors_per_gop»
   pub anchors-high : c .«anchors_per_gop» ≤ 255
 
--- the targets of a group, the frame rate of its code being f
+-- the targets of a group, the frame rate being f
 abbrev pub targetsOf : CbrConfig → ℕ × ℕ → List ℕ
 targetsOf c f = targets (writerParams c f) (c .«b_between») (c .«anchors_per_gop»)
 
@@ -213,9 +214,9 @@ targetsOf c f = targets (writerParams c f) (c .«b_between») (c .«anchors_per_
 pub data CreationDue (c : CbrConfig) : Answer CbrWriter → Type 0 where
   bad-range : (Ranges c → ⊥) → CreationDue c (refused 12 0 0 0)
   bad-code : Ranges c → (1 ≤ c .«frame_rate_code» → c .«frame_rate_code» ≤ 8 → ⊥) → CreationDue c (refused 6 0 0 0)
-  bad-ratio : {f : ℕ × ℕ} → Ranges c → 1 ≤ c .«frame_rate_code» → c .«frame_rate_code» ≤ 8 → frameRate (c .«frame_rate_code») ≡ value f
+  bad-ratio : {f : ℕ × ℕ} → Ranges c → 1 ≤ c .«frame_rate_code» → c .«frame_rate_code» ≤ 8 → configRate c ≡ value f
       → 65534 * writerParams c f .«bit_rate» < 90000 * writerParams c f .«buffer_size_bits» → CreationDue c (refused 12 0 0 0)
-  created : {f : ℕ × ℕ} → Ranges c → 1 ≤ c .«frame_rate_code» → c .«frame_rate_code» ≤ 8 → frameRate (c .«frame_rate_code») ≡ value f
+  created : {f : ℕ × ℕ} → Ranges c → 1 ≤ c .«frame_rate_code» → c .«frame_rate_code» ≤ 8 → configRate c ≡ value f
       → 90000 * writerParams c f .«buffer_size_bits» ≤ 65534 * writerParams c f .«bit_rate»
       → CreationDue c (value (holding (writerParams c f) (targetsOf c f) (atFirst c)))
 

@@ -9,9 +9,10 @@ use lib.ListN.{length, take, replicate}
 use Rattle.bits.specs.Refusals.{Answer, value, refused}
 use Rattle.vbv.specs.Annex.{unit, firstDelivered, gain, expectedDelay, occupancy}
 use Rattle.vbv.specs.Model.{periods}
+use Rattle.vbv.specs.Params.{sameParams}
 use Rattle.vbv.specs.Patch.{patched}
 use Rattle.vbv.specs.declared.VbvParams.{VbvParams}
-use Rattle.verify.specs.Check.{accepted, verdict}
+use Rattle.verify.specs.Check.{Accepted, accepted, verdict, reported, records}
 use Rattle.pictures.specs.declared.VbvStandard.the-variants.{Mpeg2}
 use Rattle.verify.specs.declared.VbvPictureRecord.{VbvPictureRecord}
 use Rattle.rate_control.specs.Answers.{Given, placed, again}
@@ -118,9 +119,16 @@ unfoldable pub sentRecords : VbvParams → ℕ → ℕ → List Sent → List Vb
 sentRecords p d previous [] = []
 sentRecords p d previous (x ∷ xs) = sentRecord p d previous x ∷ sentRecords p (d + gain p (periods (x .offer .interval))) (sentEnd x) xs
 
+-- a verdict that reports R and B of p and these records. The first header may show the frame rate by another code, n and d than p has it by, and then the check counts in other units:
+-- what it declares has the same value (request 02)
+pub record AcceptedFor (p : VbvParams) (rs : List VbvPictureRecord) (v : Answer Accepted) : Type 0 where
+  pub report-is : reported v ≡ reported (accepted p rs)
+  pub records-are : records v ≡ rs
+  pub declares-same : (a : Accepted) → v ≡ value a → sameParams p (a .params) ≡ true
+
 -- once a picture is placed the MPEG-2 check accepts the bytes with these records, given a place for each
 abbrev pub PassesCheck : VbvParams → List Sent → Type 0
 PassesCheck p [] = Unit {0}
 PassesCheck p (x ∷ xs) =
     (places : ℕ) → length (x ∷ xs) ≤ places
-    → verdict Mpeg2 (endToEnd (x ∷ xs)) places ≡ accepted p (sentRecords p (firstDelivered p (sentPosition x) (x .delay)) 0 (x ∷ xs))
+    → AcceptedFor p (sentRecords p (firstDelivered p (sentPosition x) (x .delay)) 0 (x ∷ xs)) (verdict Mpeg2 (endToEnd (x ∷ xs)) places)

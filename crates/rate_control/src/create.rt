@@ -80,12 +80,17 @@ impl CbrConfig {
     {
         let rate = self.bit_rate_value as u64;
         let size = self.vbv_buffer_size_value as u64;
+        let n = self.frame_rate_extension_n as u64;
+        let d = self.frame_rate_extension_d as u64;
         let q = self.initial_quantiser_scale_code as u64;
         let between = self.b_between as u64;
         let anchors = self.anchors_per_gop as u64;
         within(1, 262143, rate)
             & (within(1, 1023, size)
-                & (within(1, 31, q) & (within(0, 15, between) & within(1, 255, anchors))))
+                & (within(0, 3, n)
+                    & (within(0, 31, d)
+                        & (within(1, 31, q)
+                            & (within(0, 15, between) & within(1, 255, anchors))))))
     }
 
     // Nothing placed, nothing pending, every kind at the given quantiser.
@@ -131,7 +136,11 @@ impl CbrWriter {
         ensures { λ r. ⌜ r .writer ≡ orElse noWriter (create config) ⌝ }
     {
         if config.fits() {
-            match vbv::frame_rate_value(config.frame_rate_code) {
+            match vbv::frame_rate_value(
+                config.frame_rate_code,
+                config.frame_rate_extension_n,
+                config.frame_rate_extension_d,
+            ) {
                 FrameRate::Rate(frn, frd) => config.with_rate(frn, frd),
                 FrameRate::Refused(error) => not_created(error),
             }

@@ -24,6 +24,8 @@ pub struct CbrConfig {
     pub bit_rate_value: u32,
     pub vbv_buffer_size_value: u16,
     pub frame_rate_code: u8,
+    pub frame_rate_extension_n: u8,
+    pub frame_rate_extension_d: u8,
     pub initial_quantiser_scale_code: u8,
     pub b_between: u8,
     pub anchors_per_gop: u8,

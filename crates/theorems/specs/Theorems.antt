@@ -7,6 +7,7 @@ use Rattle.picture_header.specs.Numbers.{PictureNumbers}
 use Rattle.writers.specs.RoundTrips.{GroupWrittenReads, TimeCodeWrites}
 use Rattle.vbv.specs.Fractions.{FractionsOwed as InFractions}
 use Rattle.vbv.specs.Numbers.{ModelNumbers, ModelStays}
+use Rattle.vbv.specs.Rates.{RatesOwed}
 use Rattle.scan.specs.Scanned.{OwedOfScans}
 use Rattle.scan.specs.Order.{WalkGivesPictures, PicturesInOrder}
 use Rattle.verify.specs.Accepted.{AcceptedExactly, NothingCut}
@@ -19,8 +20,8 @@ use Rattle.verify.specs.Periods.{PeriodsTold}
 use Rattle.verify.specs.Sizes.{RecordsSmall}
 use Rattle.rate_control.specs.Demand.{Demand3}
 use Rattle.rate_control.specs.Numbers.{WriterNumbers}
-use Rattle.rate_control.specs.Figures.{WriterFigures, TargetFigures, Rules, Steering}
-use Rattle.hipokuta.specs.Calls.{OwedFromC, OwedOfRefusals}
+use Rattle.rate_control.specs.Figures.{WriterFigures, TargetFigures, ValueTargets, Rules, Steering}
+use Rattle.hipokuta.specs.Calls.{OwedFromC, OwedFromConfig, OwedOfRefusals}
 use Rattle.hipokuta.specs.Check.{OwedOfReports}
 use Rattle.hipokuta.specs.Numbers.{EntryNumbers}
 
@@ -58,8 +59,10 @@ pub record Theorems : Type 0 where
   -- What is counted in parts of a bit is what Annex C has in fractions: bits delivered, what a period brings, overflow and underflow; the occupancy is rounded down, the
   -- expected delay to the nearest tick, halves up; the least end is the least that does not overflow, the greatest the last that is already delivered.
   pub in-fractions : InFractions
-  -- The model refuses with 12, 13, 14, 7 and 8 by number alone, and with 9 and 10 by number and picture; a rate code with 6, the patch with 20.
+  -- The model refuses with 12, 13, 14, 7 and 8 by number alone, and with 9 and 10 by number and picture; a frame rate with 12 and 6, the patch with 20.
   pub model-numbers : ModelNumbers
+  -- The frame rate of a code, n and d in figures; and only its value counts: with the same R, B and value all that Annex C tells is the same, whatever units it is counted in.
+  pub rates : RatesOwed
   -- A model that `new` and calls left is in its ranges.
   pub model-stays : ModelStays
   -- ---- the start codes of a stream
@@ -98,6 +101,8 @@ pub record Theorems : Type 0 where
   pub writer-numbers : WriterNumbers
   -- Demand 3 of lists of calls from C on the bytes of a state.
   pub from-c : OwedFromC
+  -- And on the bytes that a creation by a configuration's bytes left.
+  pub from-config : OwedFromConfig
   -- From C a refusal leaves state and output part as they were, but that 21 closes the pending picture.
   pub refusals : OwedOfRefusals
   -- The report alone is that of the check with a record place for each picture, and its count says how many that are.
@@ -109,6 +114,8 @@ pub record Theorems : Type 0 where
   pub writer-figures : WriterFigures
   -- The target of each kind, and targets where a picture's bits are no whole number.
   pub target-figures : TargetFigures
+  -- Of a frame rate only the value counts: the same targets and first delay.
+  pub value-targets : ValueTargets
   -- The first delay for every rate and buffer; further steps of a retry.
   pub rules : Rules
   -- The edges of the rule by which a quantiser goes up, stays or goes down.

@@ -1,9 +1,10 @@
 -- The refusals of the model with their numbers in paper 01's table, and the frame rates.
 -- Assumes nothing.
-use Prim.Native.Nat.{ℕ}
-use lib.Dec.{eqb}
+use Prim.Native.Nat.{ℕ, _+_, _*_}
+use mathlib.Core.Bool.{not, _&&_}
+use lib.Dec.{leb, eqb}
 use Rattle.bits.specs.Bits.{pick}
-use Rattle.bits.specs.Refusals.{Answer, value, refused}
+use Rattle.bits.specs.Refusals.{Answer, value, refused, refuse, andThen}
 use Rattle.bits.specs.declared.VbvRefusal.{VbvRefusal}
 use Rattle.vbv.specs.declared.VbvError.{VbvError}
 use Rattle.vbv.specs.declared.VbvError.the-variants.{FrameRateCode, Early, DelayTooLong, Params, Order, Range}
@@ -89,9 +90,9 @@ abbrev pub rateAnswer : FrameRate → Answer (ℕ × ℕ)
 rateAnswer (Rate n d) = value (n, d)
 rateAnswer (Refused e) = modelRefusal e
 
--- Table 6-4; 11172-2 2.4.3.2
-unfoldable pub frameRate : ℕ → Answer (ℕ × ℕ)
-frameRate c =
+-- frame_rate_value of a code (Table 6-4; 11172-2 2.4.3.2), numerator and denominator
+unfoldable pub codeRate : ℕ → Answer (ℕ × ℕ)
+codeRate c =
     pick (eqb c 1) (value (24000, 1001))
     (pick (eqb c 2) (value (24, 1))
     (pick (eqb c 3) (value (25, 1))
@@ -101,3 +102,9 @@ frameRate c =
     (pick (eqb c 7) (value (60000, 1001))
     (pick (eqb c 8) (value (60, 1))
     (refused 6 0 0 0))))))))
+
+-- 6.3.5: frame_rate_value × (n + 1) / (d + 1), not reduced. n has 2 bits and d 5: a wider one is 12, before the code's 6 (request 02)
+unfoldable pub frameRate : ℕ → ℕ → ℕ → Answer (ℕ × ℕ)
+frameRate c n d =
+    refuse 12 (not (leb n 3 && leb d 31))
+    (andThen (codeRate c) (λ f. value (f .0 * (n + 1), f .1 * (d + 1))))

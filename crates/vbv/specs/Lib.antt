@@ -1,6 +1,7 @@
 pub mod Annex
 pub mod Answers
 pub mod Params
+pub mod Rates
 pub mod Model
 pub mod Steps
 pub mod Patch

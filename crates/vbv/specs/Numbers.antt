@@ -21,7 +21,7 @@ pub record ModelStays : Type 0 where
 
 -- what is owed
 pub record ModelNumbers : Type 0 where
-  pub rate : (code : ℕ) → Numbered (6 ∷ []) [] [] (frameRate code)
+  pub rate : (code n d : ℕ) → Numbered (12 ∷ 6 ∷ []) [] [] (frameRate code n d)
   pub new : (p : VbvParams) → Numbered (12 ∷ []) [] [] (newModel p)
   pub start : (m : VbvCbrModel) (delay position : ℕ) → Numbered (12 ∷ 13 ∷ 14 ∷ []) [] [] (startModel m delay position)
   pub delay : (m : VbvCbrModel) (position : ℕ) → Numbered (12 ∷ 13 ∷ 14 ∷ 7 ∷ 8 ∷ []) [] [] (delayForPicture m position)

@@ -3,9 +3,9 @@ ghost use mathlib.Core.Path.{_≡_};
 ghost use mathlib.Core.Bool.{true};
 ghost use Prim.Native.Nat.{_+_, _-_, _/_, _^_, _≤_, _<_};
 ghost use Rattle.vbv.specs.Annex.{unit, firstDelivered};
-ghost use Rattle.vbv.specs.Answers.{modelNumber, modelAnswer, removalAnswer, delayAnswer, modelBitsAnswer, patchAnswer, rateAnswer, frameRate, violationRefusal};
+ghost use Rattle.vbv.specs.Answers.{modelNumber, modelAnswer, removalAnswer, delayAnswer, modelBitsAnswer, patchAnswer, rateAnswer, codeRate, frameRate, violationRefusal};
 ghost use Rattle.vbv.specs.Steps.{ModelFits, EndFits};
-ghost use Rattle.vbv.specs.Params.{paramsOf};
+ghost use Rattle.vbv.specs.Params.{paramsOf, sameParams};
 ghost use Rattle.vbv.specs.Model.{farthest, paramsInRange, paramsFit, delivered, modelFits, atDelivered, periods as periodsOf, nextDelivered, newModel, startModel, delayForPicture, removePicture, maxEndBits, minEndBits, occupancyBeforeRemoval, intervalOf};
 ghost use Rattle.vbv.specs.Patch.{startsPicture, patchPicture, patched};
 
@@ -163,8 +163,8 @@ impl VbvViolation {
 }
 
 // Table 6-4.
-pub fn frame_rate_value(frame_rate_code: u8) -> FrameRate
-    ensures { λ r. ⌜ rateAnswer r ≡ frameRate «frame_rate_code» ⌝ }
+fn code_rate(frame_rate_code: u8) -> FrameRate
+    ensures { λ r. ⌜ rateAnswer r ≡ codeRate «frame_rate_code» ⌝ }
 {
     match frame_rate_code {
         1 => FrameRate::Rate(24000, 1001),
@@ -176,6 +176,22 @@ pub fn frame_rate_value(frame_rate_code: u8) -> FrameRate
         7 => FrameRate::Rate(60000, 1001),
         8 => FrameRate::Rate(60, 1),
         _ => FrameRate::Refused(VbvError::FrameRateCode),
+    }
+}
+
+// The code's rate times (n + 1) / (d + 1), not reduced (6.3.5).
+pub fn frame_rate_value(frame_rate_code: u8, n: u8, d: u8) -> FrameRate
+    ensures { λ r. ⌜ rateAnswer r ≡ frameRate «frame_rate_code» n d ⌝ }
+{
+    if (n <= 3) & (d <= 31) {
+        match code_rate(frame_rate_code) {
+            FrameRate::Rate(frn, frd) => {
+                FrameRate::Rate(frn * (n as u64 + 1), frd * (d as u64 + 1))
+            }
+            FrameRate::Refused(error) => FrameRate::Refused(error),
+        }
+    } else {
+        FrameRate::Refused(VbvError::Params)
     }
 }
 
@@ -217,6 +233,19 @@ impl VbvParams {
             & (self.frn <= 240000)
             & (1 <= self.frd)
             & (self.frd <= 32032)
+    }
+
+    // Whether R, B and the value of the frame rate are the same, whatever its numerator and denominator.
+    pub fn same(self, other: VbvParams) -> bool
+        ensures { λ r. ⌜ r ≡ sameParams self other ⌝ }
+    {
+        if self.in_range() & other.in_range() {
+            (other.bit_rate == self.bit_rate)
+                & (other.buffer_size_bits == self.buffer_size_bits)
+                & (other.frn * self.frd == self.frn * other.frd)
+        } else {
+            false
+        }
     }
 
     // And a full buffer's delay below 0xFFFF.

@@ -1,0 +1,48 @@
+-- Frame rates with extensions (ISO/IEC 13818-2 6.3.5; request 02): figures; and that of a frame rate only the value counts, not the numerator and denominator that it is written with.
+-- Assumes nothing.
+use Prim.Native.Nat.{ℕ, _+_, _*_}
+use mathlib.Core.Path.{_≡_}
+use mathlib.Core.Bool.{true}
+use Rattle.bits.specs.Refusals.{value, refused}
+use Rattle.vbv.specs.Annex.{firstDelivered, gain, overflows, beyond, expectedDelay, occupancy, greatestEnd, leastEnd}
+use Rattle.vbv.specs.Answers.{frameRate}
+use Rattle.vbv.specs.Model.{paramsFit}
+use Rattle.vbv.specs.Params.{sameParams}
+use Rattle.vbv.specs.declared.VbvParams.{VbvParams}
+
+pub record RateFigures : Type 0 where
+  -- paper 01's greatest values; nothing is reduced
+  pub greatest : frameRate 7 3 31 ≡ value (240000, 32032)
+  pub half-of-50 : frameRate 6 0 1 ≡ value (50, 2)
+  pub doubled-and-halved : frameRate 3 1 1 ≡ value (50, 2)
+  -- n times up, d times down
+  pub up : frameRate 3 1 0 ≡ value (50, 1)
+  pub down : frameRate 3 0 1 ≡ value (25, 2)
+  -- 12 before 6
+  pub wide-n : frameRate 9 4 0 ≡ refused 12 0 0 0
+  pub wide-d : frameRate 9 0 32 ≡ refused 12 0 0 0
+  pub wide-n-alone : frameRate 3 4 0 ≡ refused 12 0 0 0
+  pub wide-d-alone : frameRate 3 0 32 ≡ refused 12 0 0 0
+  pub no-code : frameRate 9 0 0 ≡ refused 6 0 0 0
+  pub no-code-0 : frameRate 0 3 31 ≡ refused 6 0 0 0
+
+-- d units of p are as many bits as e units of q
+abbrev pub SameBits : VbvParams → VbvParams → ℕ → ℕ → Type 0
+SameBits p q d e = d * q .frn ≡ e * p .frn
+
+-- Annex C of p and of q: the first removal and what a period brings are as many bits, and where as many bits are delivered everything that is told is the same
+pub record SameTold (p q : VbvParams) : Type 0 where
+  pub fits : paramsFit p ≡ paramsFit q
+  pub first : (position delay : ℕ) → SameBits p q (firstDelivered p position delay) (firstDelivered q position delay)
+  pub later : (d e n : ℕ) → SameBits p q d e → SameBits p q (d + gain p n) (e + gain q n)
+  pub overflow : (previous d e : ℕ) → SameBits p q d e → overflows p previous d ≡ overflows q previous e
+  pub underflow : (end d e : ℕ) → SameBits p q d e → beyond p end d ≡ beyond q end e
+  pub expected : (position d e : ℕ) → SameBits p q d e → expectedDelay p position d ≡ expectedDelay q position e
+  pub held : (previous d e : ℕ) → SameBits p q d e → occupancy p previous d ≡ occupancy q previous e
+  pub greatest-end : (d e : ℕ) → SameBits p q d e → greatestEnd p d ≡ greatestEnd q e
+  pub least-end : (d e : ℕ) → SameBits p q d e → leastEnd p d ≡ leastEnd q e
+
+-- what is owed
+pub record RatesOwed : Type 0 where
+  pub figures : RateFigures
+  pub value-decides : (p q : VbvParams) → sameParams p q ≡ true → SameTold p q
