@@ -35,7 +35,7 @@ static const struct {
         "Write the right delays: cbrsend does, or vbv_patch_delay." },
     [VBV_PARAMETER] = { "parameter out of range",
         "The rate or the buffer is zero or too large, or the buffer takes more than 65,534 ticks to fill. Choose others. "
-        "From C also: a bad standard, kind, interval, flag or state." },
+        "From C also: a bad standard, kind, interval, flag, configuration or state." },
     [VBV_TOO_FAR] = { "stream too long",
         "The stream has more than 2^48 bits. Check it in parts; send the rest by a new writer." },
     [VBV_RECORD_PLACES] = { "too few record places",
@@ -64,6 +64,7 @@ static const struct {
 OF_BYTES(vbv_report, VBV_REPORT_BYTES);
 OF_BYTES(vbv_record, VBV_RECORD_BYTES);
 OF_BYTES(vbv_refusal, VBV_REFUSAL_BYTES);
+OF_BYTES(cbr_config, CBR_CONFIG_BYTES);
 OF_BYTES(cbr_state, CBR_STATE_BYTES);
 OF_BYTES(cbr_answer, CBR_ANSWER_BYTES);
 
