@@ -40,10 +40,6 @@ struct answer {
 int ask(const struct stream *s, uint8_t standard, int records, struct answer *a);
 void forget(struct answer *a);
 
-/* Frames a second as numerator and denominator; 0 for a code that is none. */
-uint64_t rate_over(uint32_t code);
-uint64_t rate_under(uint32_t code);
-
 /* The times of an answer's pictures, by its records, one after the other; begins with { a, 0, 0 }. */
 struct times {
     const struct answer *a;

@@ -152,10 +152,10 @@ static int draw_to(FILE *file, const struct told *t, const struct options *o)
                          .from = o->from, .to = o->to >= 0 ? o->to : o->from > 0 ? LAST_SECOND : 0 };
     if (of == NULL)
         return trouble(o->picture, "no memory for the drawing");
-    if (rate_under(a->declared.rate_code) > 1)
-        snprintf(rate, sizeof rate, "%" PRIu64 "/%" PRIu64, rate_over(a->declared.rate_code), rate_under(a->declared.rate_code));
+    if (a->declared.rate_under > 1)
+        snprintf(rate, sizeof rate, "%" PRIu64 "/%" PRIu64, a->declared.rate_over, a->declared.rate_under);
     else
-        snprintf(rate, sizeof rate, "%" PRIu64, rate_over(a->declared.rate_code));
+        snprintf(rate, sizeof rate, "%" PRIu64, a->declared.rate_over);
     fill_removals(a, of);
     if (a->number != 0 && bad_removal(a, &d.bad))
         d.mark = mark_words(a, &d.bad, mark, sizeof mark);
