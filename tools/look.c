@@ -160,26 +160,26 @@ size_t sequence_length(const struct stream *s, size_t sequence, uint8_t standard
 }
 
 /* The frame rate: the code's times (n + 1) / (d + 1), in lowest terms. */
-static void set_rate(struct declared *to, uint32_t n, uint32_t d)
+static void set_rate(struct declared *d)
 {
-    if (to->rate_code == 0 || to->rate_code >= sizeof rates / sizeof *rates)
+    if (d->rate_code == 0 || d->rate_code >= sizeof rates / sizeof *rates)
         return;
-    uint64_t over = rates[to->rate_code].over * (n + 1), under = rates[to->rate_code].under * (d + 1), divisor = over;
+    uint64_t over = rates[d->rate_code].over * (d->rate_n + 1), under = rates[d->rate_code].under * (d->rate_d + 1);
+    uint64_t divisor = over;
     for (uint64_t rest = under; rest != 0;) {
         uint64_t next = divisor % rest;
         divisor = rest;
         rest = next;
     }
-    to->rate_over = over / divisor;
-    to->rate_under = under / divisor;
+    d->rate_over = over / divisor;
+    d->rate_under = under / divisor;
 }
 
 struct declared declared_at(const struct stream *s, size_t sequence, uint8_t standard)
 {
     struct stream h = part(s, sequence, s->length);
-    struct declared d = { field_value(&h, WIDTH), field_value(&h, HEIGHT), field_value(&h, FRAME_RATE_CODE), 0, 0,
+    struct declared d = { field_value(&h, WIDTH), field_value(&h, HEIGHT), field_value(&h, FRAME_RATE_CODE), 0, 0, 0, 0,
                           field_value(&h, BIT_RATE), field_value(&h, VBV_BUFFER_SIZE) };
-    uint32_t times = 0, divided = 0;
     size_t length = sequence_length(s, sequence, VBV_MPEG1), at = prefix_after(&h, length);
     struct stream x = part(&h, at, h.length);
     if (standard == VBV_MPEG2 && code_at(&x, 0) == EXTENSION && field_value(&x, EXTENSION_ID) == SEQUENCE_EXTENSION) {
@@ -187,10 +187,10 @@ struct declared declared_at(const struct stream *s, size_t sequence, uint8_t sta
         d.height |= field_value(&x, HEIGHT_EXTENSION) << 12;
         d.bit_rate |= (uint64_t)field_value(&x, BIT_RATE_EXTENSION) << 18;
         d.buffer_bits |= (uint64_t)field_value(&x, VBV_BUFFER_SIZE_EXTENSION) << 10;
-        times = field_value(&x, FRAME_RATE_N);
-        divided = field_value(&x, FRAME_RATE_D);
+        d.rate_n = field_value(&x, FRAME_RATE_N);
+        d.rate_d = field_value(&x, FRAME_RATE_D);
     }
-    set_rate(&d, times, divided);
+    set_rate(&d);
     d.bit_rate *= RATE_UNIT;
     d.buffer_bits *= BUFFER_UNIT;
     return d;

@@ -30,9 +30,9 @@ struct look {
 void look(const struct stream *s, uint8_t standard, struct look *l, struct shown *of);
 
 /* What a sequence header and its extension declare. Frames a second are rate_over / rate_under in lowest terms, by the code and
- * in MPEG-2 the frame rate extensions; both are 0 for a code that is none. */
+ * its extensions n and d, which are 0 in MPEG-1; both are 0 for a code that is none. */
 struct declared {
-    uint32_t width, height, rate_code;
+    uint32_t width, height, rate_code, rate_n, rate_d;
     uint64_t rate_over, rate_under, bit_rate, buffer_bits;
 };
 struct declared declared_at(const struct stream *s, size_t sequence, uint8_t standard);

@@ -341,6 +341,14 @@ void forget(struct answer *a)
     a->records = NULL;
 }
 
+const char *frame_rate(const struct declared *d, char *text)
+{
+    int length = snprintf(text, TEXT, "%" PRIu64, d->rate_over);
+    if (d->rate_under > 1)
+        snprintf(text + length, TEXT - (size_t)length, "/%" PRIu64, d->rate_under);
+    return text;
+}
+
 const char *tenths(struct bits b, char *text)
 {
     uint64_t tenth = (b.part * 10 + b.parts / 2) / b.parts;

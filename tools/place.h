@@ -54,8 +54,11 @@ int tells_delays(const struct answer *a);
 /* From the last picture's end to this one's, in bits. */
 uint64_t data_bits(const struct answer *a, size_t picture);
 
-/* Bits as a number with tenths, and a time in bits at a rate as mm:ss.mmm; both into `text`, which is returned. */
+/* Frames a second: "25", "30000/1001"; into `text`, which is returned. */
 enum { TEXT = 48 };
+const char *frame_rate(const struct declared *d, char *text);
+
+/* Bits as a number with tenths, and a time in bits at a rate as mm:ss.mmm; both into `text`, which is returned. */
 const char *tenths(struct bits b, char *text);
 const char *clock_time(struct bits at, uint64_t bit_rate, char *text);
 double in_seconds(struct bits at, uint64_t bit_rate);

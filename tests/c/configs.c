@@ -347,14 +347,14 @@ static uint64_t draw(struct channel *c, uint64_t below)
     return (c->seed >> 33) % below;
 }
 
-/* Frames and fields of all sizes up to what a period brings and some more; some are withdrawn. */
+/* Frames and fields of all sizes up to what a frame's time brings, some far above it; some are withdrawn. */
 static void run_course(struct channel *c, size_t steps)
 {
     uint64_t most = c->state[RATE] * c->state[FRD] / c->state[FRN] / 8;
     for (size_t i = 0; i < steps; i++) {
         uint8_t kind = (uint8_t)(c->state[PENDING] != 0 ? c->state[PENDING] - 1 : draw(c, 3));
         uint8_t interval = (uint8_t)(1 + draw(c, 2));
-        uint64_t length = 23 + draw(c, 2 * most);
+        uint64_t length = 23 + draw(c, draw(c, 8) == 0 ? 40 * most : most);
         struct offer o = picture(c, kind, interval, (size_t)(length < MOST_BYTES ? length : MOST_BYTES));
         o.out_length = c->state[BUFFER] / 8;
         offer("a course", c, &o);
@@ -367,23 +367,25 @@ static void run_course(struct channel *c, size_t steps)
     is("the end", offer("the end", c, &o).number, 0);
 }
 
+/* At 1,000,000 bits a second, where a byte less is under a tick. */
 static void check_courses(void)
 {
     static const struct {
         uint64_t words[CONFIG_WORDS];
         unsigned header[3];
-    } of[] = { { { 2, 2500, 20, 1, 1, 4, 10, 2, 4 }, { 7, 3, 24 } }, /* 9600 / 1001 */
-               { { 2, 2500, 20, 8, 3, 0, 10, 2, 4 }, { 8, 3, 0 } },  /* 240 */
-               { { 2, 2500, 40, 2, 0, 11, 1, 0, 1 }, { 8, 0, 29 } }, /* 2 */
-               { { 2, 1001, 8, 4, 2, 6, 31, 1, 9 }, { 4, 2, 6 } } }; /* 90000 / 7007 */
+        size_t steps, stuffed;
+    } of[] = { { { 2, 2500, 20, 1, 1, 4, 10, 2, 4 }, { 7, 3, 24 }, 60, 5 },   /* 9600 / 1001 frames a second */
+               { { 2, 2500, 2, 8, 3, 0, 10, 2, 4 }, { 8, 3, 0 }, 100, 5 },    /* 240 */
+               { { 2, 2500, 40, 2, 0, 11, 1, 0, 1 }, { 8, 0, 29 }, 12, 3 },   /* 2 */
+               { { 2, 2500, 20, 4, 2, 6, 31, 1, 9 }, { 4, 2, 6 }, 100, 5 } }; /* 90000 / 7007 */
     for (size_t i = 0; i < COUNT(of); i++) {
         struct channel *c = open_configured(of[i].words);
         say_frame_rate(c, of[i].header[0], of[i].header[1], of[i].header[2]);
         is("its own rate", c->declared[FRN] * c->state[FRD] == c->declared[FRD] * c->state[FRN], 1);
         c->seed = i;
-        run_course(c, 100);
+        run_course(c, of[i].steps);
         check_sent("a course", c);
-        is("pictures and stuffing", c->pictures > 20 && check_least("a course", c) > 3, 1);
+        is("pictures and stuffing", c->pictures > of[i].steps / 3 && check_least("a course", c) >= of[i].stuffed, 1);
         free(c);
     }
 }
