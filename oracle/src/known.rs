@@ -2,7 +2,7 @@
 //! extensions, in which it does not (docs/DIFFERENCES.md).
 
 /// Name, kind, and the bytes of the header or stream.
-const KNOWN: [(&str, u8, &str); 34] = [
+const KNOWN: [(&str, u8, &str); 40] = [
     ("low 18 rate bits of zero are refused", 1, "000001B301001013000020A0"),
     ("constrained_parameters_flag 1", 1, "000001B301001013027120A4"),
     ("reserved aspect and rate codes", 1, "000001B3010010F9027120A0"),
@@ -15,6 +15,12 @@ const KNOWN: [(&str, u8, &str); 34] = [
     ("zeros of a start code lie in the header before it", 6, "000001000008000001B58FFFF34180"),
     ("padding that is not zero, of a picture header", 6, "0000010000080001000001B58FFFF34180"),
     ("padding that is not zero, of a coding extension", 5, "000001B58FFFF341BF"),
+    ("the greatest rate, 240000/32032", 14, "07031F"),
+    ("25/1 as 50/2, by d", 14, "060001"),
+    ("25/1 as 50/2, by n and d", 14, "030101"),
+    ("no such code", 14, "090000"),
+    ("no such code, and n 4", 14, "090400"),
+    ("no such code, and d 32", 14, "000020"),
     (
         "paper 01's own stream",
         18,
