@@ -17,7 +17,7 @@ use Rattle.headers.specs.Sequence.{sequenceOf, noSequence, sequence}
 use Rattle.headers.specs.RoundTrips.{SequenceStays}
 use Rattle.headers.proofs.StartCode.{next-found, next-append}
 use Rattle.headers.proofs.SequenceHeader.{HeaderBounds, sequence-header-bounds, sequence-header-append}
-use Rattle.headers.proofs.SequenceExtension.{extension-append}
+use Rattle.headers.proofs.SequenceExtension.{extension-bounds, extension-append}
 use Rattle.headers.specs.declared.Error.{Error}
 use Rattle.headers.specs.declared.sequence_header.Answer.{Answer as Flag}
 use Rattle.headers.specs.declared.sequence_header.Mpeg2SequenceHeader.{Mpeg2SequenceHeader}
@@ -82,6 +82,15 @@ sequence-parts s q e =
       extension-parsed = c .1;
       sequence-is = cc;
     }
+
+-- the extensions of the frame rate have 2 and 5 bits
+pub sequence-frames : (s : List ℕ) (q : Mpeg2Sequence) → sequence s ≡ value q
+    → (q .extension .«frame_rate_extension_n» ≤ 3) × (q .extension .«frame_rate_extension_d» ≤ 31)
+unfolding sequenceOf
+sequence-frames s q e =
+    let p = sequence-parts s q e in
+    let b = extension-bounds (drop (p .place) s) (p .extension) (p .extension-parsed) in
+    rw (p .sequence-is) (b .frame-n, b .frame-d)
 
 -- what stands after a parsed sequence does not matter
 pub sequence-append : SequenceStays

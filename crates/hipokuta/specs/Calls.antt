@@ -10,8 +10,9 @@ use lib.ListN.{length}
 use Rattle.bits.specs.Bits.{pick}
 use Rattle.bits.specs.Refusals.{Answer, value, refused, number}
 use Rattle.headers.specs.RoundTrips.{Bytes}
+use Rattle.vbv.specs.Answers.{frameRate}
 use Rattle.rate_control.specs.Answers.{Given}
-use Rattle.rate_control.specs.Create.{configRate, create}
+use Rattle.rate_control.specs.Create.{create}
 use Rattle.rate_control.specs.Offer.{Offer}
 use Rattle.rate_control.specs.Calls.{Call, offering, withdrawing, Step, offered, withdrawn, stepOf, stepsOf, final}
 use Rattle.rate_control.specs.Demand.{AllBytes, DemandOf}
@@ -110,7 +111,7 @@ pub record FromC (c : CbrConfig) (f : ℕ × ℕ) (w : CbrWriter) (place : List 
 pub record FromCreation (c : CbrConfig) (place : List ℕ) : Type 0 where
   pub rate : ℕ × ℕ
   pub writer : CbrWriter
-  pub rate-is : configRate c ≡ value rate
+  pub rate-is : frameRate (c .«frame_rate_code») (c .«frame_rate_extension_n») (c .«frame_rate_extension_d») ≡ value rate
   pub writer-is : create c ≡ value writer
   pub from-c : (cs : List CCall) → AllBytes (allForWriter cs) → FromC c rate writer place cs
 

@@ -4,7 +4,7 @@
 use mathlib.Core.Path.{_≡_, refl, sym, ap, _∙_}
 use Prim.Native.Nat.{ℕ, _+_, _*_, _≤_, _<_}
 use mathlib.Core.List.{List, [], _∷_, _++_}
-use mathlib.Core.Bool.{Bool, true, false, not, _&&_, _||_}
+use mathlib.Core.Bool.{Bool, true, false, not, _&&_, _||_, true≢false}
 use mathlib.Core.Logic.{⊎-elim, inl, inr}
 use native.Mathlib.Omega.{arith}
 use native.Mathlib.Nat.{zero-add}
@@ -12,7 +12,7 @@ use lib.Dec.{eqb, lit≤, lit<}
 use lib.ListN.{length, take, drop, take-append-drop}
 use lib.Seq.{take-take}
 use borrow.Author.Tests.{not-true, eqb-true, ne-eqb}
-use Rattle.vbv.specs.Params.{rateUnit, bufferUnit}
+use Rattle.vbv.specs.Params.{sameParams}
 use Rattle.bits.specs.StartCodes.{userDataStartCode, extensionStartCode, sequenceEndCode, lastSliceCode, sequenceHeaderCode, groupStartCode}
 use Rattle.bits.specs.Bits.{bitsAt}
 use Rattle.bits.proofs.Flags.{and-left, both-true}
@@ -20,16 +20,11 @@ use Rattle.bits.proofs.Reading.{same-self}
 use Rattle.bits.proofs.Appending.{Below}
 use Rattle.headers.specs.StartCode.{leadingZeros}
 use Rattle.picture_header.specs.Picture.{picture}
-use Rattle.headers.specs.Sequence.{sequence}
-use Rattle.headers.specs.declared.sequence_extension.Mpeg2Sequence.{Mpeg2Sequence}
 use Rattle.picture_header.proofs.Picture.{picture-append}
 use Rattle.headers.proofs.StartCode.{prefix-true}
-use Rattle.headers.proofs.Sequence.{sequence-append}
 use Rattle.picture_header.proofs.OtherDelay.{OtherDelay, withDelay, delayed-delay, picture-delayed}
 use Rattle.vbv.specs.Patch.{startsPicture, patched}
 use Rattle.bits.specs.Refusals.{Answer, value, refused, andThen, orElse}
-use Rattle.vbv.specs.Answers.{frameRate}
-use Rattle.vbv.proofs.Params.{params-are as fields-are}
 use Rattle.vbv.specs.declared.VbvParams.{VbvParams}
 use Rattle.vbv.specs.declared.RemovalInterval.{RemovalInterval}
 use Rattle.vbv.proofs.Patching.{starts-picture-is, patched-length, patched-front, patched-rest, patched-below, patched-delay, patched-before, patched-after}
@@ -42,12 +37,12 @@ use Rattle.scan.proofs.Prefix.{ends-drop, ends-prefix}
 use Rattle.scan.proofs.Search.{every-more}
 use Rattle.scan.proofs.Sorts.{slice-zero, slice-above, not-slice-above, not-picture, every-by, skip-split, every-empty}
 use Rattle.pictures.specs.Seen.{shown}
-use Rattle.pictures.specs.Sequence.{declared}
+use Rattle.pictures.specs.Sequence.{declaredBy, declared}
 use Rattle.pictures.specs.declared.VbvStandard.the-variants.{Mpeg2}
-use Rattle.pictures.proofs.Showing.{shown-parsed, declared-parsed}
+use Rattle.pictures.proofs.Showing.{shown-parsed, declared-first, declared-append}
 use Rattle.layers.specs.declared.PictureKind.{PictureKind}
 use Rattle.layers.specs.Layer.{slices, isExtension, layerCodes, layerFits}
-use Rattle.layers.specs.Headers.{opensHeaders, headerCode, sameRate, sameParams, declares, sequenceFirst, sequenceFits, headersFit}
+use Rattle.layers.specs.Headers.{opensHeaders, headerCode, declares, sequenceFirst, sequenceFits, headersFit}
 use Rattle.layers.proofs.Layers.{LayerFits, layer-fits, factsIn, facts-delayed, LowBits, picture-head, layer-header, layer-twelve, layer-low}
 
 -- the bytes that a list begins with, and those after them
@@ -250,38 +245,23 @@ module _ (p : VbvParams) (placed : Bool) where
       let f = fit-of b s e in
       piece-after (b ∷ s) x at (headers-open f) (every-by headerCode notPicture header-no-picture (codes (b ∷ s)) (f .all-codes)) q
 
--- the first headers declare the parameters
-rate-is : (p : VbvParams) (code : ℕ) → sameRate p code ≡ true → frameRate code ≡ value (p .frn, p .frd)
-unfolding sameRate
-rate-is p code e = case (frameRate code) e
-  where
-    case : (r : Answer (ℕ × ℕ)) → orElse false (andThen r (λ f. value (eqb (f .0) (p .frn) && eqb (f .1) (p .frd)))) ≡ true → r ≡ value (p .frn, p .frd)
-    case (value f) q =
-        let b = both-true (eqb (f .0) (p .frn)) (eqb (f .1) (p .frd)) q in
-        rw (← eqb-true (f .0) (p .frn) (b .0), ← eqb-true (f .1) (p .frd) (b .1))
-    case (refused n k c x) q = cc
+-- the first headers declare the parameters, but for numerator and denominator of the frame rate
+pub record DeclaresSame (p : VbvParams) (h : List ℕ) : Type 0 where
+  pub params : VbvParams
+  pub by-headers : declaredBy Mpeg2 h ≡ value params
+  pub same : sameParams p params ≡ true
 
-declares-is : (p : VbvParams) (h : List ℕ) → declares p h ≡ true → (q : Mpeg2Sequence) × (sequence h ≡ value q) × (sameParams p q ≡ true)
+pub declares-same : (p : VbvParams) (h : List ℕ) → declares p h ≡ true → DeclaresSame p h
 unfolding declares
-declares-is p h e = case (sequence h) refl e
+declares-same p h e = case (declaredBy Mpeg2 h) refl e
   where
-    case : (r : Answer Mpeg2Sequence) → sequence h ≡ r → orElse false (andThen r (λ q. value (sameParams p q))) ≡ true
-        → (q : Mpeg2Sequence) × (sequence h ≡ value q) × (sameParams p q ≡ true)
-    case (value q) s z = (q, s, z)
-    case (refused n k c x) s z = absurd (let y : _≡_ {A = ℕ} 0 1 = cc in omega arith)
+    case : (r : Answer VbvParams) → declaredBy Mpeg2 h ≡ r → orElse false (andThen r (λ q. value (sameParams p q))) ≡ true → DeclaresSame p h
+    case (value q) s z = record { params = q; by-headers = s; same = z }
+    case (refused n k c x) s z = absurd (true≢false (sym z))
 
-record SameParams (p : VbvParams) (q : Mpeg2Sequence) : Type 0 where
-  rate : rateUnit * q .«bit_rate» ≡ p .«bit_rate»
-  buffer : bufferUnit * q .«vbv_buffer_size» ≡ p .«buffer_size_bits»
-  frames : frameRate (q .header .«frame_rate_code») ≡ value (p .frn, p .frd)
-
-params-are : (p : VbvParams) (q : Mpeg2Sequence) → sameParams p q ≡ true → SameParams p q
-unfolding sameParams
-params-are p q e =
-    let a = both-true (eqb (rateUnit * q .«bit_rate») (p .«bit_rate»)) _ e in
-    let b = both-true (eqb (bufferUnit * q .«vbv_buffer_size») (p .«buffer_size_bits»)) _ (a .1) in
-    let c = both-true (sameRate p (q .header .«frame_rate_code»)) _ (b .1) in
-    record { rate = eqb-true _ _ (a .0); buffer = eqb-true _ _ (b .0); frames = rate-is p _ (c .0) }
+pub first-declares : (p : VbvParams) (h : List ℕ) → headersFit p false h ≡ true → DeclaresSame p h
+unfolding sequenceFits
+first-declares p h e = declares-same p h (both-true (sequenceFirst (codes h)) _ (conditions p false h e .3) .1)
 
 sequence-first : (c : Code) (cs : List Code) → sequenceFirst (c ∷ cs) ≡ true → c .code ≡ sequenceHeaderCode
 unfolding sequenceFirst
@@ -290,7 +270,7 @@ sequence-first c cs e =
     let b = both-true (eqb (c .code) sequenceHeaderCode) _ (a .1) in
     eqb-true (c .code) sequenceHeaderCode (b .0)
 
-pub headers-declared : (p : VbvParams) (h : List ℕ) → headersFit p false h ≡ true → (x : List ℕ) → declared Mpeg2 (h ++ x) ≡ value p
+pub headers-declared : (p : VbvParams) (h : List ℕ) (e : headersFit p false h ≡ true) (x : List ℕ) → declared Mpeg2 (h ++ x) ≡ value (first-declares p h e .params)
 unfolding sequenceFits sequenceFirst
 headers-declared p [] e x =
     let c = conditions p false [] e .3 in
@@ -300,10 +280,9 @@ headers-declared p (b ∷ s) e x =
     let f = fit-of p false b s e in
     let c = conditions p false (b ∷ s) e .3 in
     let d1 = both-true (sequenceFirst (codes (b ∷ s))) _ c in
-    let q = declares-is p (b ∷ s) (d1 .1) in
     let o = ap codes (f .opens) ∙ codes-opened (f .first) (f .rest) in
     let y : f .first ≡ sequenceHeaderCode = sequence-first (record { offset = 0; code = f .first }) (codesFrom 4 0 (f .rest)) (rw o at (d1 .0)) in
-    let m = params-are p (q .0) (q .2) in
     let z : codes (b ∷ s ++ x) ≡ record { offset = 0; code = sequenceHeaderCode } ∷ codesFrom 4 0 (f .rest ++ x) =
     ap (λ (l : List ℕ). codes (l ++ x)) (f .opens) ∙ codes-opened (f .first) (f .rest ++ x) ∙ rw y in
-    declared-parsed (b ∷ s ++ x) _ z (q .0) (sequence-append (b ∷ s) x (q .0) (q .1)) (p .frn) (p .frd) (m .frames) ∙ rw (fields-are (q .0 .«bit_rate») (q .0 .«vbv_buffer_size») (p .frn) (p .frd), m .rate, m .buffer)
+    let q = first-declares p (b ∷ s) e in
+    declared-first (b ∷ s ++ x) _ z ∙ declared-append (b ∷ s) x (q .params) (q .by-headers)

@@ -25,7 +25,7 @@ use Rattle.pictures.proofs.Seeing.{seen-none, seen-more, seen-all}
 use Rattle.layers.specs.declared.PictureKind.{PictureKind}
 use Rattle.layers.specs.Headers.{headersFit}
 use Rattle.layers.specs.Layer.{layerFits}
-use Rattle.layers.proofs.Laws.{layer-piece, headers-piece, layer-shown, headers-declared}
+use Rattle.layers.proofs.Laws.{layer-piece, headers-piece, layer-shown, first-declares, headers-declared}
 use Rattle.layers.proofs.Layers.{factsIn, facts-field}
 
 -- ---- parts
@@ -159,7 +159,7 @@ pub stream-seen : {p : VbvParams} {placed : Bool} {xs : List Part} {t : List ℕ
 stream-seen {p} {placed} {xs} {t} f w =
     seen-all Mpeg2 (stream xs t) (ap pictures (stream-laid f t) ∙ laid-pictures (pieces f) t w) (parts-seen f [] t)
 
-pub stream-declared : {p : VbvParams} {x : Part} → PartFits p false x → (xs : List Part) (t : List ℕ)
-    → declared Mpeg2 (stream (x ∷ xs) t) ≡ value p
+pub stream-declared : {p : VbvParams} {x : Part} (f : PartFits p false x) (xs : List Part) (t : List ℕ)
+    → declared Mpeg2 (stream (x ∷ xs) t) ≡ value (first-declares p (x .headers) (f .headers-fit) .params)
 stream-declared {p} {x} f xs t =
     rw (stream-more x xs t, ← part-then x (stream xs t)) (headers-declared p (x .headers) (f .headers-fit) _)

@@ -22,19 +22,19 @@ pub record Narrow (s : List ℕ) : Type 0 where
   pub b : wordAt s 14 ≤ 31
   pub waits : wordAt s 16 ≤ 31
 
--- a value as it is, or another where it is above the most
-unfoldable pub cut : ℕ → ℕ → ℕ → ℕ
-cut most other v = pick (leb v most) v other
+-- a value as it is, or one out of its range where it is above the most
+unfoldable pub orOutside : ℕ → ℕ → ℕ → ℕ
+orOutside most outside v = pick (leb v most) v outside
 
 -- a configuration whose fields have few bits: for a value above its range one that is out of it too, and for a rate code above 8 the code 0, which is none either
 unfoldable pub narrowed : CbrConfig → CbrConfig
 narrowed c = record {
-  «bit_rate_value» = cut 262143 0 (c .«bit_rate_value»);
-  «vbv_buffer_size_value» = cut 1023 0 (c .«vbv_buffer_size_value»);
-  «frame_rate_code» = cut 8 0 (c .«frame_rate_code»);
-  «frame_rate_extension_n» = cut 3 4 (c .«frame_rate_extension_n»);
-  «frame_rate_extension_d» = cut 31 32 (c .«frame_rate_extension_d»);
-  «initial_quantiser_scale_code» = cut 31 0 (c .«initial_quantiser_scale_code»);
-  «b_between» = cut 15 16 (c .«b_between»);
-  «anchors_per_gop» = cut 255 0 (c .«anchors_per_gop»);
+  «bit_rate_value» = orOutside 262143 0 (c .«bit_rate_value»);
+  «vbv_buffer_size_value» = orOutside 1023 0 (c .«vbv_buffer_size_value»);
+  «frame_rate_code» = orOutside 8 0 (c .«frame_rate_code»);
+  «frame_rate_extension_n» = orOutside 3 4 (c .«frame_rate_extension_n»);
+  «frame_rate_extension_d» = orOutside 31 32 (c .«frame_rate_extension_d»);
+  «initial_quantiser_scale_code» = orOutside 31 0 (c .«initial_quantiser_scale_code»);
+  «b_between» = orOutside 15 16 (c .«b_between»);
+  «anchors_per_gop» = orOutside 255 0 (c .«anchors_per_gop»);
 }

@@ -1,17 +1,21 @@
 -- The numbers of the front's refusals, down its chain of tests.
 -- Assumes nothing.
-use mathlib.Core.Path.{refl}
+use mathlib.Core.Path.{_≡_, refl}
 use mathlib.Core.List.{List, [], _∷_}
-use Prim.Native.Nat.{ℕ}
+use Prim.Native.Nat.{ℕ, _≤_}
+use native.Mathlib.Omega.{arith}
 use lib.ListN.{drop}
-use Rattle.bits.specs.Refusals.{Answer}
-use Rattle.bits.specs.Numbers.{Numbered, a-value, by-number}
+use Rattle.bits.specs.Refusals.{Answer, andThen}
+use Rattle.bits.specs.Numbers.{Numbered, a-value, by-number, by-picture, by-all}
 use Rattle.bits.proofs.Flags.{pick-elim}
 use Rattle.bits.proofs.Numbering.{and-then, wider}
+use Rattle.headers.specs.Sequence.{sequence}
+use Rattle.headers.specs.declared.sequence_extension.Mpeg2Sequence.{Mpeg2Sequence}
 use Rattle.headers.proofs.Numbering.{header-numbers}
+use Rattle.headers.proofs.Sequence.{sequence-frames}
 use Rattle.picture_header.proofs.Numbering.{header-told-numbered, picture-told-numbered}
 use Rattle.vbv.specs.declared.VbvParams.{VbvParams}
-use Rattle.vbv.proofs.Numbering.{model-numbers}
+use Rattle.vbv.proofs.Numbering.{rate-only-6}
 use Rattle.scan.specs.Pictures.{Pic, pictures}
 use Rattle.scan.specs.declared.Next.{Next}
 use Rattle.scan.specs.declared.Next.the-variants.{Picture, Done}
@@ -36,14 +40,22 @@ OfFront a = Numbered (14 ∷ 3 ∷ 1 ∷ 2 ∷ 6 ∷ 4 ∷ []) [] [] a
 
 -- ---- what is declared
 
-rated-numbered : (rate buffer code : ℕ) → OfOpening (rated rate buffer code)
+-- n and d as they are read are never too wide
+rated-numbered : (rate buffer code n d : ℕ) → n ≤ 3 → d ≤ 31 → OfOpening (rated rate buffer code n d)
 unfolding rated
-rated-numbered rate buffer code = and-then _ (wider refl refl refl (model-numbers .rate code)) (λ f. a-value)
+rated-numbered rate buffer code n d l h = and-then _ (wider refl refl refl (rate-only-6 code n d l h)) (λ f. a-value)
+
+mpeg2-numbered : (s : List ℕ) (a : Answer Mpeg2Sequence) → sequence s ≡ a → OfOpening a
+    → OfOpening (andThen a (λ q. rated (q .«bit_rate») (q .«vbv_buffer_size») (q .header .«frame_rate_code») (q .extension .«frame_rate_extension_n») (q .extension .«frame_rate_extension_d»)))
+mpeg2-numbered s a e (a-value {x = q}) = let b = sequence-frames s q e in rated-numbered _ _ _ _ _ (b .0) (b .1)
+mpeg2-numbered s a e (by-number h) = by-number h
+mpeg2-numbered s a e (by-picture h) = by-picture h
+mpeg2-numbered s a e (by-all h) = by-all h
 
 declared-numbered : (standard : VbvStandard) (s : List ℕ) (f : Found) → OfOpening (declaredAt standard s f)
 unfolding declaredAt declaredBy
-declared-numbered Mpeg1 s (At o c) = and-then _ (wider refl refl refl (header-numbers .sequence-header (drop o s))) (λ h. rated-numbered _ _ _)
-declared-numbered Mpeg2 s (At o c) = and-then _ (wider refl refl refl (header-numbers .both (drop o s))) (λ q. rated-numbered _ _ _)
+declared-numbered Mpeg1 s (At o c) = and-then _ (wider refl refl refl (header-numbers .sequence-header (drop o s))) (λ h. rated-numbered _ _ _ _ _ (omega arith) (omega arith))
+declared-numbered Mpeg2 s (At o c) = mpeg2-numbered (drop o s) _ refl (wider refl refl refl (header-numbers .both (drop o s)))
 declared-numbered standard s Nothing = by-number refl
 
 opening-numbered : (standard : VbvStandard) (s : List ℕ) → OfOpening (opening standard s)

@@ -1,4 +1,4 @@
--- Which answer the front is due, by conditions: what is shown, or refused by the first test that fails, in the paper's order.
+-- What a sequence header declares; and which answer the front is due, by conditions: what is shown, or refused by the first test that fails, in the paper's order.
 -- Assumes nothing.
 use Prim.Native.Nat.{ℕ, _*_, _≤_, _<_}
 use mathlib.Core.Path.{_≡_}
@@ -6,12 +6,29 @@ use mathlib.Core.List.{List, [], _∷_}
 use lib.ListN.{length}
 use Rattle.vbv.specs.Model.{farthest}
 use Rattle.bits.specs.Refusals.{Answer, value, refused}
+use Rattle.headers.specs.SequenceHeader.{sequenceHeader}
+use Rattle.headers.specs.Sequence.{sequence}
+use Rattle.headers.specs.declared.sequence_header.Mpeg2SequenceHeader.{Mpeg2SequenceHeader}
+use Rattle.headers.specs.declared.sequence_extension.Mpeg2Sequence.{Mpeg2Sequence}
+use Rattle.vbv.specs.Answers.{frameRate}
 use Rattle.vbv.specs.declared.VbvParams.{VbvParams}
-use Rattle.pictures.specs.Sequence.{declared}
+use Rattle.pictures.specs.Sequence.{declaredBy, declared}
 use Rattle.pictures.specs.Seen.{seenPictures}
 use Rattle.pictures.specs.Front.{Front, front}
 use Rattle.pictures.specs.declared.VbvStandard.{VbvStandard}
+use Rattle.pictures.specs.declared.VbvStandard.the-variants.{Mpeg1, Mpeg2}
 use Rattle.pictures.specs.declared.SeenPicture.{SeenPicture}
+
+-- R, B and the frame rate are those of the fields that were read. MPEG-2's frame rate is that of code, n and d; 11172-2 has no n and d (request 02: 'MPEG-1 passes zeros')
+pub record SequenceDeclares : Type 0 where
+  pub of-mpeg2 : (s : List ℕ) (q : Mpeg2Sequence) (f : ℕ × ℕ) → sequence s ≡ value q
+      → frameRate (q .header .«frame_rate_code») (q .extension .«frame_rate_extension_n») (q .extension .«frame_rate_extension_d») ≡ value f
+      → declaredBy Mpeg2 s
+      ≡ value (record { «bit_rate» = 400 * q .«bit_rate»; «buffer_size_bits» = 16384 * q .«vbv_buffer_size»; frn = f .0; frd = f .1 })
+  pub of-mpeg1 : (s : List ℕ) (h : Mpeg2SequenceHeader) (f : ℕ × ℕ) → sequenceHeader s ≡ value h
+      → frameRate (h .«frame_rate_code») 0 0 ≡ value f
+      → declaredBy Mpeg1 s
+      ≡ value (record { «bit_rate» = 400 * h .«bit_rate»; «buffer_size_bits» = 16384 * h .«vbv_buffer_size»; frn = f .0; frd = f .1 })
 
 -- a stream of 2^48 bits at most that declares p, with pictures x and xs: 14, 3, sequence header, extension, 6, every picture header and 4 are passed
 pub record Read (standard : VbvStandard) (s : List ℕ) (p : VbvParams) (x : SeenPicture) (xs : List SeenPicture) : Type 0 where

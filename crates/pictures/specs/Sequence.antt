@@ -16,7 +16,7 @@ use Rattle.scan.specs.declared.Found.the-variants.{At, Nothing}
 use Rattle.pictures.specs.declared.VbvStandard.{VbvStandard}
 use Rattle.pictures.specs.declared.VbvStandard.the-variants.{Mpeg1, Mpeg2}
 
--- R, B and the frame rate of a code (6) and its extensions n and d
+-- R, B and the frame rate of a code (6) and its extensions n and d (their 12 does not occur: they are read from 2 and 5 bits)
 unfoldable pub rated : ℕ → ℕ → ℕ → ℕ → ℕ → Answer VbvParams
 rated rate buffer code n d =
     andThen (frameRate code n d) (λ f. value (paramsOf rate buffer f))

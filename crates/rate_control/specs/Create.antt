@@ -28,10 +28,6 @@ configFits c =
     && (within 1 31 (c .«initial_quantiser_scale_code»)
     && (within 0 15 (c .«b_between») && within 1 255 (c .«anchors_per_gop»))))))
 
--- the frame rate of the code and its extensions
-abbrev pub configRate : CbrConfig → Answer (ℕ × ℕ)
-configRate c = frameRate (c .«frame_rate_code») (c .«frame_rate_extension_n») (c .«frame_rate_extension_d»)
-
 -- R and B by the fields, with the frame rate f
 abbrev pub writerParams : CbrConfig → ℕ × ℕ → VbvParams
 writerParams c f = paramsOf (c .«bit_rate_value») (c .«vbv_buffer_size_value») f
@@ -50,7 +46,7 @@ freshWriter c m = record {
 unfoldable pub create : CbrConfig → Answer CbrWriter
 create c =
     refuse 12 (not (configFits c))
-    (andThen (configRate c) (λ f.
+    (andThen (frameRate (c .«frame_rate_code») (c .«frame_rate_extension_n») (c .«frame_rate_extension_d»)) (λ f.
     andThen (newModel (writerParams c f)) (λ m.
     value (freshWriter c m))))
 

@@ -8,9 +8,10 @@ use lib.Dec.{eqb}
 use Rattle.bits.specs.Bits.{pick}
 use Rattle.bits.specs.Refusals.{Answer, value, refused, number}
 use Rattle.headers.specs.RoundTrips.{Bytes}
+use Rattle.vbv.specs.Answers.{frameRate}
 use Rattle.vbv.specs.declared.VbvParams.{VbvParams}
 use Rattle.rate_control.specs.Answers.{Given, placed, again}
-use Rattle.rate_control.specs.Create.{configRate, writerParams, create}
+use Rattle.rate_control.specs.Create.{writerParams, create}
 use Rattle.rate_control.specs.Calls.{Call, offering, withdrawing, Step, offered, withdrawn, stepsOf, final}
 use Rattle.rate_control.specs.Sent.{sent, stuffingOf, EachRemoval, InBuffer, WellPlaced, LeastStuffing, PassesCheck}
 use Rattle.rate_control.specs.Due.{Known, atFirst, askedFor, knownAfterStep, knownAfter, holding, Answered, targetsOf, CreationDue}
@@ -74,7 +75,7 @@ AllBytes (withdrawing ∷ calls) = AllBytes calls
 -- what is owed
 abbrev pub OwedOfCalls : Type 0
 OwedOfCalls =
-    (c : CbrConfig) (f : ℕ × ℕ) (w : CbrWriter) (calls : List Call) → configRate c ≡ value f → create c ≡ value w → AllBytes calls
+    (c : CbrConfig) (f : ℕ × ℕ) (w : CbrWriter) (calls : List Call) → frameRate (c .«frame_rate_code») (c .«frame_rate_extension_n») (c .«frame_rate_extension_d») ≡ value f → create c ≡ value w → AllBytes calls
     → DemandOf c f w calls
 
 pub record Demand3 : Type 0 where

@@ -1,5 +1,5 @@
 -- Which answer is due to creation and to each offer (paper 01, 'A placed picture'), by conditions in ≤ and <, from creation, the calls and their answers: not from the writer's state,
--- nor from the tests, positions, stuffing or bytes of `offer`. The fit tests, `firstDelay`, `endCode`, `patched`, `coarser`, `steered`, `pendingOr`, `of`, `index`, `configRate`, `writerParams`, `targets`, `periods` and
+-- nor from the tests, positions, stuffing or bytes of `offer`. The fit tests, `firstDelay`, `endCode`, `patched`, `coarser`, `steered`, `pendingOr`, `of`, `index`, `frameRate`, `writerParams`, `targets`, `periods` and
 -- Annex C are the ones that `create` and `offer` compute with: they are to be read against the papers themselves. Assumes nothing.
 use Prim.Native.Nat.{ℕ, suc, _+_, _*_, _/_, _%_, _≤_, _<_}
 use mathlib.Core.Path.{_≡_}
@@ -9,10 +9,11 @@ use lib.Dec.{eqb, ltb}
 use lib.ListN.{length, take, drop, replicate, set}
 use Rattle.bits.specs.Bits.{pick}
 use Rattle.bits.specs.Refusals.{Answer, value, refused}
-use Rattle.rate_control.specs.Create.{configRate, writerParams}
+use Rattle.rate_control.specs.Create.{writerParams}
 use Rattle.vbv.specs.Annex.{unit, firstDelivered, gain, expectedDelay}
 use Rattle.vbv.specs.Model.{farthest, periods}
 use Rattle.vbv.specs.Patch.{patched}
+use Rattle.vbv.specs.Answers.{frameRate}
 use Rattle.vbv.specs.declared.VbvParams.{VbvParams}
 use Rattle.layers.specs.Headers.{headersFit}
 use Rattle.layers.specs.Layer.{layerFits}
@@ -214,9 +215,9 @@ targetsOf c f = targets (writerParams c f) (c .«b_between») (c .«anchors_per_
 pub data CreationDue (c : CbrConfig) : Answer CbrWriter → Type 0 where
   bad-range : (Ranges c → ⊥) → CreationDue c (refused 12 0 0 0)
   bad-code : Ranges c → (1 ≤ c .«frame_rate_code» → c .«frame_rate_code» ≤ 8 → ⊥) → CreationDue c (refused 6 0 0 0)
-  bad-ratio : {f : ℕ × ℕ} → Ranges c → 1 ≤ c .«frame_rate_code» → c .«frame_rate_code» ≤ 8 → configRate c ≡ value f
+  bad-ratio : {f : ℕ × ℕ} → Ranges c → 1 ≤ c .«frame_rate_code» → c .«frame_rate_code» ≤ 8 → frameRate (c .«frame_rate_code») (c .«frame_rate_extension_n») (c .«frame_rate_extension_d») ≡ value f
       → 65534 * writerParams c f .«bit_rate» < 90000 * writerParams c f .«buffer_size_bits» → CreationDue c (refused 12 0 0 0)
-  created : {f : ℕ × ℕ} → Ranges c → 1 ≤ c .«frame_rate_code» → c .«frame_rate_code» ≤ 8 → configRate c ≡ value f
+  created : {f : ℕ × ℕ} → Ranges c → 1 ≤ c .«frame_rate_code» → c .«frame_rate_code» ≤ 8 → frameRate (c .«frame_rate_code») (c .«frame_rate_extension_n») (c .«frame_rate_extension_d») ≡ value f
       → 90000 * writerParams c f .«buffer_size_bits» ≤ 65534 * writerParams c f .«bit_rate»
       → CreationDue c (value (holding (writerParams c f) (targetsOf c f) (atFirst c)))
 

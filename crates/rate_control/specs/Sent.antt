@@ -13,6 +13,7 @@ use Rattle.vbv.specs.Params.{sameParams}
 use Rattle.vbv.specs.Patch.{patched}
 use Rattle.vbv.specs.declared.VbvParams.{VbvParams}
 use Rattle.verify.specs.Check.{Accepted, accepted, verdict, reported, records}
+use Rattle.pictures.specs.Sequence.{declaredBy}
 use Rattle.pictures.specs.declared.VbvStandard.the-variants.{Mpeg2}
 use Rattle.verify.specs.declared.VbvPictureRecord.{VbvPictureRecord}
 use Rattle.rate_control.specs.Answers.{Given, placed, again}
@@ -119,16 +120,17 @@ unfoldable pub sentRecords : VbvParams → ℕ → ℕ → List Sent → List Vb
 sentRecords p d previous [] = []
 sentRecords p d previous (x ∷ xs) = sentRecord p d previous x ∷ sentRecords p (d + gain p (periods (x .offer .interval))) (sentEnd x) xs
 
--- a verdict that reports R and B of p and these records. The first header may show the frame rate by another code, n and d than p has it by, and then the check counts in other units:
--- what it declares has the same value (request 02)
-pub record AcceptedFor (p : VbvParams) (rs : List VbvPictureRecord) (v : Answer Accepted) : Type 0 where
+-- a verdict that reports R and B of p, with these records. The first headers may show the frame rate by another code, n and d than p has it by, and then the check counts in their units:
+-- its parameters are what they declare, which is the same as p but for numerator and denominator (request 02)
+pub record AcceptedFor (p : VbvParams) (headers : List ℕ) (rs : List VbvPictureRecord) (v : Answer Accepted) : Type 0 where
   pub report-is : reported v ≡ reported (accepted p rs)
   pub records-are : records v ≡ rs
-  pub declares-same : (a : Accepted) → v ≡ value a → sameParams p (a .params) ≡ true
+  pub by-headers : (a : Accepted) → v ≡ value a → declaredBy Mpeg2 headers ≡ value (a .params)
+  pub same-value : (a : Accepted) → v ≡ value a → sameParams p (a .params) ≡ true
 
 -- once a picture is placed the MPEG-2 check accepts the bytes with these records, given a place for each
 abbrev pub PassesCheck : VbvParams → List Sent → Type 0
 PassesCheck p [] = Unit {0}
 PassesCheck p (x ∷ xs) =
     (places : ℕ) → length (x ∷ xs) ≤ places
-    → AcceptedFor p (sentRecords p (firstDelivered p (sentPosition x) (x .delay)) 0 (x ∷ xs)) (verdict Mpeg2 (endToEnd (x ∷ xs)) places)
+    → AcceptedFor p (x .offer .headers) (sentRecords p (firstDelivered p (sentPosition x) (x .delay)) 0 (x ∷ xs)) (verdict Mpeg2 (endToEnd (x ∷ xs)) places)

@@ -14,10 +14,12 @@ use Rattle.verify.specs.Accepted.{AcceptedExactly, NothingCut}
 use Rattle.verify.specs.Due.{CheckDue}
 use Rattle.verify.specs.Numbers.{CheckNumbers}
 use Rattle.pictures.specs.Order.{StepsGivePictures, SeenRising}
-use Rattle.pictures.specs.Due.{FrontIsDue}
+use Rattle.pictures.specs.Due.{SequenceDeclares, FrontIsDue}
 use Rattle.pictures.specs.Numbers.{FrontNumbers}
 use Rattle.verify.specs.Periods.{PeriodsTold}
+use Rattle.verify.specs.Rates.{ValueReports}
 use Rattle.verify.specs.Sizes.{RecordsSmall}
+use Rattle.layers.specs.Headers.{HeadersDeclare}
 use Rattle.rate_control.specs.Demand.{Demand3}
 use Rattle.rate_control.specs.Numbers.{WriterNumbers}
 use Rattle.rate_control.specs.Figures.{WriterFigures, TargetFigures, ValueTargets, Rules, Steering}
@@ -77,6 +79,8 @@ pub record Theorems : Type 0 where
   pub steps-give-pictures : StepsGivePictures
   -- As the headers show them they lie one after another within 2^48 bits, each with a delay of 16 bits.
   pub seen-rising : SeenRising
+  -- A sequence header declares R, B and the frame rate of its fields, of MPEG-2 with the extensions n and d.
+  pub sequence-declares : SequenceDeclares
   -- What every report asks first is answered as it is due: 14, 3, 1 or 2, 6, every picture header, 4, or what the headers show.
   pub front-is-due : FrontIsDue
   pub front-numbers : FrontNumbers
@@ -94,7 +98,11 @@ pub record Theorems : Type 0 where
   pub periods-told : PeriodsTold
   -- In a record the delays have 16 bits, the data bits are at most 2^48, the occupancy is at most the largest buffer and the periods are at most 6.
   pub records-small : RecordsSmall
+  -- Of a frame rate only the value counts (request 02): with the same R, B and value the report, the records and every refusal of the pictures are the same.
+  pub value-reports : ValueReports
   -- ---- the writer
+  -- The first headers declare a writer's parameters exactly when they show its R, its B and a frame rate of its value, by whatever code, n and d.
+  pub headers-declare : HeadersDeclare
   -- Demand 3: of every creation, and of every list of offers and withdrawals on a writer that was created.
   pub demand-3 : Demand3
   -- A writer's calls are refused with paper 01's numbers, whatever its state; an offer's 9 names its picture.
@@ -112,9 +120,9 @@ pub record Theorems : Type 0 where
   -- ---- figures
   -- The figures of paper 01 that are marked P.
   pub writer-figures : WriterFigures
-  -- The target of each kind, and targets where a picture's bits are no whole number.
+  -- The target of each kind, and targets at 50/2 and where a picture's bits are no whole number.
   pub target-figures : TargetFigures
-  -- Of a frame rate only the value counts: the same targets and first delay.
+  -- Of a frame rate only the value counts (request 02): the same targets and first delay.
   pub value-targets : ValueTargets
   -- The first delay for every rate and buffer; further steps of a retry.
   pub rules : Rules

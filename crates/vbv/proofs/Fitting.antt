@@ -16,10 +16,19 @@ use Rattle.vbv.specs.Annex.{unit}
 use Rattle.vbv.specs.Steps.{ParamsFit, ModelFits, EndFits}
 use Rattle.vbv.specs.Model.{farthest, mostDelivered, paramsInRange, ratioFits, paramsFit, delivered, modelFits, intervalOf, periods, endFits}
 
--- the ranges keep the test of the ratio in 64 bits
+-- the ranges keep the test of the ratio, and the products of two frame rates, in 64 bits
 pub in-range : (p : VbvParams) → paramsInRange p ≡ true → (p .«bit_rate» ≤ 429496729200) × (p .«buffer_size_bits» ≤ 4294950912)
 unfolding paramsInRange
 in-range p h = (leb-true _ _ (search (and-left, and-right) depth 14), leb-true _ _ (search (and-left, and-right) depth 14))
+
+pub frames-in-range : (p : VbvParams) → paramsInRange p ≡ true → (p .frn ≤ 240000) × (p .frd ≤ 32032)
+unfolding paramsInRange
+frames-in-range p h = (leb-true _ _ (search (and-left, and-right) depth 14), leb-true _ _ (search (and-left, and-right) depth 14))
+
+-- and the rate and the frame rate's numerator are not 0
+pub not-zero : (p : VbvParams) → paramsInRange p ≡ true → (1 ≤ p .«bit_rate») × (1 ≤ p .frn)
+unfolding paramsInRange
+not-zero p h = (leb-true _ _ (search (and-left, and-right) depth 14), leb-true _ _ (search (and-left, and-right) depth 14))
 
 pub params-fit : {p : VbvParams} → paramsFit p ≡ true → ParamsFit p
 unfolding paramsInRange ratioFits paramsFit

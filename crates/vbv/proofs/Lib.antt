@@ -12,3 +12,5 @@ pub mod Told
 pub mod Named
 pub mod After
 pub mod Cases
+pub mod Scale
+pub mod Rates

@@ -2,30 +2,45 @@
 -- Assumes nothing.
 use mathlib.Core.Path.{refl}
 use mathlib.Core.List.{List, [], _∷_}
-use Prim.Native.Nat.{ℕ}
+use Prim.Native.Nat.{ℕ, _≤_}
+use Rattle.bits.specs.Refusals.{Answer}
 use Rattle.bits.proofs.Flags.{pick-elim}
+use Rattle.bits.proofs.Numbering.{and-then}
 use Rattle.vbv.specs.declared.RemovalInterval.{RemovalInterval}
 use Rattle.vbv.specs.declared.VbvParams.{VbvParams}
 use Rattle.vbv.specs.declared.VbvCbrModel.{VbvCbrModel}
-use Rattle.vbv.specs.Answers.{frameRate}
+use Rattle.vbv.specs.Answers.{codeRate, frameRate}
 use Rattle.vbv.specs.Model.{newModel, startModel, delayForPicture, removePicture, ofStarted, maxEndBits, minEndBits, occupancyBeforeRemoval}
 use Rattle.bits.specs.Numbers.{Numbered, a-value, by-number, by-picture}
 use Rattle.vbv.specs.Patch.{patchPicture}
 use Rattle.vbv.specs.Numbers.{ModelNumbers, ModelStays}
+use Rattle.vbv.proofs.Cases.{RateCode, known, unknown, rate-code}
 use Rattle.vbv.proofs.Laws.{model-made, started, picture-removed}
 
-rate-numbered : (c : ℕ) → Numbered (6 ∷ []) [] [] (frameRate c)
-unfolding frameRate
-rate-numbered c =
-    pick-elim (Numbered (6 ∷ []) [] []) _ (λ e. a-value) λ e.
-    pick-elim (Numbered (6 ∷ []) [] []) _ (λ e. a-value) λ e.
-    pick-elim (Numbered (6 ∷ []) [] []) _ (λ e. a-value) λ e.
-    pick-elim (Numbered (6 ∷ []) [] []) _ (λ e. a-value) λ e.
-    pick-elim (Numbered (6 ∷ []) [] []) _ (λ e. a-value) λ e.
-    pick-elim (Numbered (6 ∷ []) [] []) _ (λ e. a-value) λ e.
-    pick-elim (Numbered (6 ∷ []) [] []) _ (λ e. a-value) λ e.
-    pick-elim (Numbered (6 ∷ []) [] []) _ (λ e. a-value) λ e.
+code-numbered : (c : ℕ) → Numbered (12 ∷ 6 ∷ []) [] [] (codeRate c)
+unfolding codeRate
+code-numbered c =
+    pick-elim (Numbered (12 ∷ 6 ∷ []) [] []) _ (λ e. a-value) λ e.
+    pick-elim (Numbered (12 ∷ 6 ∷ []) [] []) _ (λ e. a-value) λ e.
+    pick-elim (Numbered (12 ∷ 6 ∷ []) [] []) _ (λ e. a-value) λ e.
+    pick-elim (Numbered (12 ∷ 6 ∷ []) [] []) _ (λ e. a-value) λ e.
+    pick-elim (Numbered (12 ∷ 6 ∷ []) [] []) _ (λ e. a-value) λ e.
+    pick-elim (Numbered (12 ∷ 6 ∷ []) [] []) _ (λ e. a-value) λ e.
+    pick-elim (Numbered (12 ∷ 6 ∷ []) [] []) _ (λ e. a-value) λ e.
+    pick-elim (Numbered (12 ∷ 6 ∷ []) [] []) _ (λ e. a-value) λ e.
     by-number refl
+
+rate-numbered : (c n d : ℕ) → Numbered (12 ∷ 6 ∷ []) [] [] (frameRate c n d)
+unfolding frameRate
+rate-numbered c n d = pick-elim (Numbered (12 ∷ 6 ∷ []) [] []) _ (λ e. by-number refl) λ e. and-then _ (code-numbered c) (λ f. a-value)
+
+-- n and d that are not too wide meet no 12
+pub rate-only-6 : (c n d : ℕ) → n ≤ 3 → d ≤ 31 → Numbered (6 ∷ []) [] [] (frameRate c n d)
+rate-only-6 c n d l h = go (rate-code c n d l h)
+  where
+    go : {x : Answer (ℕ × ℕ)} → RateCode c 4 32 x → Numbered (6 ∷ []) [] [] x
+    go (known i j k m o q) = a-value
+    go (unknown z) = by-number refl
 
 new-numbered : (p : VbvParams) → Numbered (12 ∷ []) [] [] (newModel p)
 unfolding newModel

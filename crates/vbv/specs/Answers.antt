@@ -90,7 +90,7 @@ abbrev pub rateAnswer : FrameRate → Answer (ℕ × ℕ)
 rateAnswer (Rate n d) = value (n, d)
 rateAnswer (Refused e) = modelRefusal e
 
--- frame_rate_value of a code (Table 6-4; 11172-2 2.4.3.2), numerator and denominator
+-- Table 6-4's frame_rate_value of a code, and 11172-2 2.4.3.2's picture_rate: numerator and denominator
 unfoldable pub codeRate : ℕ → Answer (ℕ × ℕ)
 codeRate c =
     pick (eqb c 1) (value (24000, 1001))

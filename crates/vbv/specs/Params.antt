@@ -17,7 +17,8 @@ bufferUnit = 16384
 unfoldable pub paramsOf : ℕ → ℕ → ℕ × ℕ → VbvParams
 paramsOf rate buffer f = record { «bit_rate» = rateUnit * rate; «buffer_size_bits» = bufferUnit * buffer; frn = f .0; frd = f .1 }
 
--- the same R, the same B and a frame rate of the same value, whatever its numerator and denominator (request 02). Both are in paper 01's ranges, so that no denominator is 0
+-- the same R, the same B and a frame rate of the same value, whatever its numerator and denominator (request 02). Parameters out of paper 01's ranges are the same as none: 0 / 0 has no
+-- value, and within the ranges the products fit in 64 bits
 unfoldable pub sameParams : VbvParams → VbvParams → Bool
 sameParams p q =
     paramsInRange p

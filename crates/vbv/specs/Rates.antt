@@ -11,6 +11,15 @@ use Rattle.vbv.specs.Params.{sameParams}
 use Rattle.vbv.specs.declared.VbvParams.{VbvParams}
 
 pub record RateFigures : Type 0 where
+  -- the codes alone
+  pub code-1 : frameRate 1 0 0 ≡ value (24000, 1001)
+  pub code-2 : frameRate 2 0 0 ≡ value (24, 1)
+  pub code-3 : frameRate 3 0 0 ≡ value (25, 1)
+  pub code-4 : frameRate 4 0 0 ≡ value (30000, 1001)
+  pub code-5 : frameRate 5 0 0 ≡ value (30, 1)
+  pub code-6 : frameRate 6 0 0 ≡ value (50, 1)
+  pub code-7 : frameRate 7 0 0 ≡ value (60000, 1001)
+  pub code-8 : frameRate 8 0 0 ≡ value (60, 1)
   -- paper 01's greatest values; nothing is reduced
   pub greatest : frameRate 7 3 31 ≡ value (240000, 32032)
   pub half-of-50 : frameRate 6 0 1 ≡ value (50, 2)

@@ -22,7 +22,7 @@ pub enum VbvError {
     Early,
     // The delay is above 0xFFFE.
     DelayTooLong,
-    // A parameter or a state out of its range, or a full buffer's delay above 0xFFFE.
+    // A parameter or a state out of its range, a frame rate extension too wide, or a full buffer's delay above 0xFFFE.
     Params,
     // Used before its start, or started twice.
     Order,
@@ -235,7 +235,8 @@ impl VbvParams {
             & (self.frd <= 32032)
     }
 
-    // Whether R, B and the value of the frame rate are the same, whatever its numerator and denominator.
+    // Whether R, B and the value of the frame rate are the same, whatever its numerator and denominator. Parameters out of
+    // their ranges are the same as none.
     pub fn same(self, other: VbvParams) -> bool
         ensures { λ r. ⌜ r ≡ sameParams self other ⌝ }
     {

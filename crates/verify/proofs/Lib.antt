@@ -14,4 +14,5 @@ pub mod Periods
 pub mod Cases
 pub mod Places
 pub mod Numbering
+pub mod Rates
 pub mod Due

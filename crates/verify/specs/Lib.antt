@@ -6,6 +6,7 @@ pub mod Due
 pub mod Answers
 pub mod Layout
 pub mod Periods
+pub mod Rates
 pub mod Sizes
 pub mod Numbers
 pub mod Steps

@@ -13,24 +13,24 @@ first-sequence-requires c κs = search needs
 enum-known-offset : tie.Need-enum-known-offset
 enum-known-offset c = search needs
 
-sub-declared-at : tie.Need-sub-declared-at
-sub-declared-at c = omega (arith, first-inside _ _ _ (sym (c .before .before .before .first-sequence .ensures) ∙ c .before .offset .given .1))
+sub-declared-by : tie.Need-sub-declared-by
+sub-declared-by c = omega (arith, first-inside _ _ _ (sym (c .before .before .before .first-sequence .ensures) ∙ c .before .offset .given .1))
 
-part-declared-at-start : tie.Need-part-declared-at-start
-part-declared-at-start c = omega (arith, first-inside _ _ _ (sym (c .before .before .before .first-sequence .ensures) ∙ c .before .offset .given .1))
+part-declared-by-start : tie.Need-part-declared-by-start
+part-declared-by-start c = omega (arith, first-inside _ _ _ (sym (c .before .before .before .first-sequence .ensures) ∙ c .before .offset .given .1))
 
-part-declared-at-end : tie.Need-part-declared-at-end
-part-declared-at-end c = search needs
+part-declared-by-end : tie.Need-part-declared-by-end
+part-declared-by-end c = search needs
 
-declared-at-requires : tie.Need-declared-at-requires
-declared-at-requires c κs = search needs
+declared-by-requires : tie.Need-declared-by-requires
+declared-by-requires c κs = search needs
 
 enum-told : tie.Need-enum-told
 enum-told c = search needs
 
 returns : tie.Need-returns
 unfolding declared declaredAt
-returns c = rw (← c .before .before .before .before .before .first-sequence .ensures, c .before .before .before .offset .given .1, ← rest-is _ _) (c .declared-at .ensures)
+returns c = rw (← c .before .before .before .before .before .first-sequence .ensures, c .before .before .before .offset .given .1, ← rest-is _ _) (c .declared-by .ensures)
 
 returns-2 : tie.Need-returns-2
 unfolding declared declaredAt
@@ -42,10 +42,10 @@ declared-params-spec =
     (tie.spec
     first-sequence-requires
     enum-known-offset
-    sub-declared-at
-    part-declared-at-start
-    part-declared-at-end
-    declared-at-requires
+    sub-declared-by
+    part-declared-by-start
+    part-declared-by-end
+    declared-by-requires
     enum-told
     returns
     returns-2)

@@ -1,7 +1,7 @@
 use Rattle.pictures.specs.Sequence.{declaredBy}
 use borrow.Author.Needs.{needs}
-use Rattle.pictures.proofs.sequence.declared_at.Statement.{statement}
-use Rattle.pictures.proofs.sequence.declared_at.Tie as tie
+use Rattle.pictures.proofs.sequence.declared_by.Statement.{statement}
+use Rattle.pictures.proofs.sequence.declared_by.Tie as tie
 
 enum-told : tie.Need-enum-told
 enum-told c = search needs
@@ -46,14 +46,14 @@ returns-2 c = rw (c .before .before .before .before .enum-told .given .1, ← c 
 
 returns-3 : tie.Need-returns-3
 unfolding declaredBy
-returns-3 c = rw (c .before .before .before .before .before .before .enum-told3 .given .1, ← c .before .before .before .before .before .from-buf .ensures .0, c .before .before .before .enum-told4 .given .1) (c .rated-by2 .ensures)
+returns-3 c = rw (c .before .before .before .before .before .before .before .enum-told3 .given .1, ← c .before .before .before .before .before .before .from-buf .ensures .0, c .before .before .before .before .enum-told4 .given .1) (c .rated-by2 .ensures)
 
 returns-4 : tie.Need-returns-4
 unfolding declaredBy
 returns-4 c = rw (c .before .before .before .before .enum-told3 .given .1, ← c .before .before .before .from-buf .ensures .0, c .before .answer2 .given .1)
 
-pub declared-at-spec : {M : Type 1} → statement M
-declared-at-spec =
+pub declared-by-spec : {M : Type 1} → statement M
+declared-by-spec =
     tie.close
     (tie.spec
     enum-told

@@ -1,0 +1,78 @@
+-- Only the value of a frame rate counts: removal by removal, and so for the report, the records and every refusal.
+-- Assumes nothing.
+use mathlib.Core.Path.{_≡_, refl}
+use mathlib.Core.Bool.{Bool, true, false}
+use mathlib.Core.List.{List, [], _∷_}
+use Prim.Native.Nat.{ℕ, suc, _+_}
+use Rattle.bits.specs.Bits.{pick}
+use Rattle.bits.specs.Refusals.{Answer, value, refused, andThen}
+use Rattle.vbv.specs.Annex.{firstDelivered, gain}
+use Rattle.vbv.specs.Model.{periods}
+use Rattle.vbv.specs.Params.{sameParams}
+use Rattle.vbv.specs.Rates.{SameBits, SameTold}
+use Rattle.vbv.specs.declared.VbvParams.{VbvParams}
+use Rattle.vbv.proofs.Scale.{SameValue, same-value, same-told}
+use Rattle.pictures.specs.declared.SeenPicture.{SeenPicture}
+use Rattle.verify.specs.Run.{recordOf, removal, run}
+use Rattle.verify.specs.Check.{Accepted, accepted, withPictures, reported, records}
+use Rattle.verify.specs.Rates.{ValueReports}
+use Rattle.verify.specs.declared.CodedPicture.{CodedPicture}
+use Rattle.verify.specs.declared.VbvPictureRecord.{VbvPictureRecord}
+
+module _ {p q : VbvParams} (t : SameTold p q) where
+  same-removal : (n previous d e : ℕ) → SameBits p q d e → (c : CodedPicture) → removal p n previous d c ≡ removal q n previous e c
+  unfolding removal recordOf
+  same-removal n previous d e s c =
+      rw (
+        t .underflow (c .«pos_bits») d e s,
+        t .underflow (c .«end_bits») d e s,
+        t .expected (c .«pos_bits») d e s,
+        t .overflow previous d e s,
+        t .held previous d e s
+      )
+
+  pub same-run : (n previous d e : ℕ) → SameBits p q d e → (cs : List CodedPicture) → run p n previous d cs ≡ run q n previous e cs
+  unfolding run
+  same-run n previous d e s [] = refl
+  same-run n previous d e s (c ∷ cs) =
+      rw (
+        same-removal n previous d e s c,
+        same-run (suc n) (c .«end_bits») (d + gain p (periods (c .interval))) (e + gain q (periods (c .interval))) (t .later d e (periods (c .interval)) s) cs
+      )
+
+-- an accepted run is reported alike
+module _ {p q : VbvParams} (v : SameValue p q) where
+  same-reported : (a : Answer (List VbvPictureRecord)) → reported (andThen a (accepted p)) ≡ reported (andThen a (accepted q))
+  same-reported (value []) = refl
+  same-reported (value (r ∷ rs)) = rw (v .rate, v .size)
+  same-reported (refused n k c e) = refl
+
+  same-records : (a : Answer (List VbvPictureRecord)) → records (andThen a (accepted p)) ≡ records (andThen a (accepted q))
+  same-records (value []) = refl
+  same-records (value (r ∷ rs)) = refl
+  same-records (refused n k c e) = refl
+
+-- past a test that both have in common
+past : {X Y : Type 0} (g : X → Y) (b : Bool) (x : X) {y z : X} → g y ≡ g z → g (pick b x y) ≡ g (pick b x z)
+unfolding pick
+past g true x h = refl
+past g false x h = h
+
+module _ (p q : VbvParams) (h : sameParams p q ≡ true) (places : ℕ) (x : SeenPicture) (cs : List CodedPicture) where
+  told : SameTold p q
+  told = same-told p q h
+
+  abbrev ran : VbvParams → Answer (List VbvPictureRecord)
+  ran r = run r 0 0 (firstDelivered r (x .«pos_bits») (x .«vbv_delay»)) cs
+
+  same-ran : ran p ≡ ran q
+  same-ran = same-run told 0 0 _ _ (told .first (x .«pos_bits») (x .«vbv_delay»)) cs
+
+  through : {Y : Type 0} (g : Answer Accepted → Y) → ((a : Answer (List VbvPictureRecord)) → g (andThen a (accepted p)) ≡ g (andThen a (accepted q)))
+      → g (withPictures places p x cs) ≡ g (withPictures places q x cs)
+  unfolding withPictures
+  through g k = rw (told .fits, same-ran) (past g _ _ (past g _ _ (past g _ _ (k (ran q)))))
+
+pub value-reports : ValueReports
+value-reports p q h places x cs =
+    (through p q h places x cs reported (same-reported (same-value p q h)), through p q h places x cs records (same-records (same-value p q h)))
