@@ -1,14 +1,15 @@
--- Demand 3 from C: a list of calls on the state that `cbr_create` left asks the writer the calls of it that are for the writer, in order, and leaves the
+-- Demand 3 from C: a list of calls on the state that a creation left asks the writer the calls of it that are for the writer, in order, and leaves the
 -- bytes of the writer that is left.
 -- Assumes nothing.
-use mathlib.Core.Path.{_≡_, refl, sym, _∙_}
-use mathlib.Core.Bool.{Bool, true, false}
-use mathlib.Core.List.{List, [], _∷_}
-use Prim.Native.Nat.{ℕ, _≤_}
+use mathlib.Core.Path.{_≡_, refl, sym, ap, _∙_}
+use mathlib.Core.Bool.{Bool, true, false, not}
+use mathlib.Core.List.{List, [], _∷_, _++_}
+use Prim.Native.Nat.{ℕ, _^_, _≤_, _<_}
+use native.Mathlib.Decide.{decLt}
 use native.Mathlib.Omega.{arith}
 use lib.Dec.{ltb}
-use lib.ListN.{length}
-use borrow.Author.Tests.{ltb-false}
+use lib.ListN.{length, getD, length-append}
+use borrow.Author.Tests.{ltb-false, lt-ltb, le-ltb, ne-eqb}
 use Rattle.bits.specs.Bits.{pick}
 use Rattle.bits.specs.Refusals.{Answer, value, refused, orElse, number}
 use Rattle.rate_control.specs.Create.{create}
@@ -23,11 +24,14 @@ use Rattle.rate_control.proofs.Keeping.{Whole, created-whole, left-whole, final
 use Rattle.bits.proofs.Numbering.{refused-low}
 use Rattle.rate_control.proofs.Refusing.{writer-numbers}
 use Rattle.layout.specs.State.{stateSize, stateBytes, stateFits, writerAt}
-use Rattle.words.specs.Words.{laid}
+use Rattle.layout.specs.Config.{configSize, modeFits, configIn}
+use Rattle.words.specs.Words.{wordsBytes, wordAt, laid}
+use Rattle.words.proofs.Bytes.{each-small, length-words, word-put}
 use Rattle.layout.proofs.RoundTrip.{read-put, length-state}
 use Rattle.words.proofs.Laying.{laid-laid}
-use Rattle.hipokuta.specs.Send.{stateAfter, createIn, COffer, choicesFit, offerOf, reach, offerIn, offerState, offerOut, offerPlace, withdrawIn}
-use Rattle.hipokuta.specs.Calls.{CCall, offers, withdraws, callState, offerSteps, callSteps, stepsFromC, finalState, forWriter, allForWriter, cSees, cSeesAll, showsAnswer, showsStep, writerShows, writerShowsAll, FromCreation, OwedFromC}
+use Rattle.hipokuta.specs.Send.{stateAfter, createIn, createWith, COffer, choicesFit, offerOf, reach, offerIn, offerState, offerOut, offerPlace, withdrawIn}
+use Rattle.hipokuta.specs.Calls.{CCall, offers, withdraws, callState, offerSteps, callSteps, stepsFromC, finalState, forWriter, allForWriter, cSees, cSeesAll, showsAnswer, showsStep, writerShows, writerShowsAll, FromCreation, OwedFromC, configWords, ConfigRead, FromConfig, OwedFromConfig}
+use Rattle.hipokuta.proofs.Sending.{with-mode}
 use Rattle.layout.specs.Answers.{answerSize}
 
 -- ---- a call on a writer's state in a place
@@ -152,3 +156,62 @@ from-c c place n = go (ltb (length place) stateSize) (create c) refl refl n
     go true a e f h = absurd (omega arith)
     go false (value w) e f h = created-from c w place f e
     go false (refused m k i j) e f h = absurd (omega (arith, refused-low refl refl refl (writer-numbers .creation c) f))
+
+-- ---- a creation by a configuration's bytes
+
+no-room : (c : CbrConfig) (place : List ℕ) → length place < stateSize → createIn c place ≡ refused 19 0 0 0
+unfolding createIn pick
+no-room c place h = rw (lt-ltb (length place) stateSize h)
+
+no-room-with : (config place : List ℕ) → configSize ≤ length config → length place < stateSize → createWith config place ≡ refused 19 0 0 0
+unfolding createWith pick
+no-room-with config place l h = rw (le-ltb (length config) configSize l, lt-ltb (length place) stateSize h)
+
+-- the first words' bytes are a configuration
+read-words : (c : CbrConfig) (more : List ℕ) → ((k : ℕ) → getD (configWords c) k 0 < 2 ^ 64) → (k : ℕ) → k < 9
+    → wordAt (wordsBytes (configWords c) ++ more) k ≡ getD (configWords c) k 0
+read-words c more b k h = word-put (each-small (configWords c) (λ j g. b j)) more k h
+
+words-long : (c : CbrConfig) (more : List ℕ) → configSize ≤ length (wordsBytes (configWords c) ++ more)
+words-long c more = omega (arith, length-append (wordsBytes (configWords c)) more, length-words (configWords c))
+
+config-is : (c : CbrConfig) (more : List ℕ) → ((k : ℕ) → getD (configWords c) k 0 < 2 ^ 64) → configIn (wordsBytes (configWords c) ++ more) ≡ c
+unfolding configIn
+config-is c more b =
+    rw (
+      read-words c more b 1 (omega arith),
+      read-words c more b 2 (omega arith),
+      read-words c more b 3 (omega arith),
+      read-words c more b 4 (omega arith),
+      read-words c more b 5 (omega arith),
+      read-words c more b 6 (omega arith),
+      read-words c more b 7 (omega arith),
+      read-words c more b 8 (omega arith),
+    )
+
+as-create : (c : CbrConfig) (more place : List ℕ) → ((k : ℕ) → getD (configWords c) k 0 < 2 ^ 64)
+    → createWith (wordsBytes (configWords c) ++ more) place ≡ createIn c place
+as-create c more place b = go (decLt (length place) stateSize)
+  where
+    go : Dec (length place < stateSize) → createWith (wordsBytes (configWords c) ++ more) place ≡ createIn c place
+    go (yes h) = no-room-with _ place (words-long c more) h ∙ sym (no-room c place h)
+    go (no h) = with-mode _ place (words-long c more) (omega (arith, h)) _ refl (read-words c more b 0 (omega arith)) ∙ ap (λ (x : CbrConfig). createIn x place) (config-is c more b)
+
+another-mode : (config place : List ℕ) → configSize ≤ length config → stateSize ≤ length place → (wordAt config 0 ≡ 2 → ⊥) → createWith config place ≡ refused 12 0 0 0
+unfolding createWith modeFits pick
+another-mode config place l h n = rw (le-ltb (length config) configSize l, le-ltb (length place) stateSize h, ne-eqb (wordAt config 0) 2 n)
+
+pub config-read : ConfigRead
+config-read = record { as-create = as-create; other-mode = another-mode }
+
+-- 0 says that the bytes are long enough, that there is room, and that the mode is 2
+pub from-config : OwedFromConfig
+unfolding createWith createIn pick
+from-config config place n = go (ltb (length config) configSize) (ltb (length place) stateSize) (modeFits config) refl refl refl n
+  where
+    go : (a b m : Bool) → ltb (length config) configSize ≡ a → ltb (length place) stateSize ≡ b → modeFits config ≡ m
+        → number (pick a (refused 12 0 0 0) (pick b (refused 19 0 0 0) (pick (not m) (refused 12 0 0 0) (create (configIn config))))) ≡ 0 → FromConfig config place
+    go true b m e f g h = absurd (omega arith)
+    go false true m e f g h = absurd (omega arith)
+    go false false false e f g h = absurd (omega arith)
+    go false false true e f g h = record { same = rw (e, f, g); from-creation = from-c (configIn config) place (rw f h) }

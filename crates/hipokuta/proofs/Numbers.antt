@@ -14,8 +14,9 @@ use Rattle.pictures.specs.declared.VbvStandard.the-variants.{Mpeg1, Mpeg2}
 use Rattle.verify.proofs.Numbering.{check-numbers, enough-numbers}
 use Rattle.rate_control.specs.declared.CbrConfig.{CbrConfig}
 use Rattle.rate_control.proofs.Refusing.{writer-numbers}
+use Rattle.layout.specs.Config.{configIn}
 use Rattle.hipokuta.specs.Check.{checked, reportAlone}
-use Rattle.hipokuta.specs.Send.{createIn, COffer, reach, offerIn, withdrawIn}
+use Rattle.hipokuta.specs.Send.{createIn, createWith, COffer, reach, offerIn, withdrawIn}
 use Rattle.hipokuta.specs.Numbers.{EntryNumbers}
 
 abbrev Checks : Answer Accepted → Type 0
@@ -46,6 +47,14 @@ cbr-create-numbered c place =
     pick-elim (Numbered (19 ∷ 12 ∷ 6 ∷ []) [] []) _ (λ e. by-number refl) λ e.
     wider refl refl refl (writer-numbers .creation c)
 
+cbr-create-config-numbered : (config place : List ℕ) → Numbered (12 ∷ 19 ∷ 6 ∷ []) [] [] (createWith config place)
+unfolding createWith
+cbr-create-config-numbered config place =
+    pick-elim (Numbered (12 ∷ 19 ∷ 6 ∷ []) [] []) _ (λ e. by-number refl) λ e.
+    pick-elim (Numbered (12 ∷ 19 ∷ 6 ∷ []) [] []) _ (λ e. by-number refl) λ e.
+    pick-elim (Numbered (12 ∷ 19 ∷ 6 ∷ []) [] []) _ (λ e. by-number refl) λ e.
+    wider refl refl refl (writer-numbers .creation (configIn config))
+
 abbrev Offers : {X : Type 0} → Answer X → Type 0
 Offers a = Numbered (12 ∷ 19 ∷ 17 ∷ 18 ∷ 20 ∷ 14 ∷ 7 ∷ 21 ∷ 22 ∷ []) (9 ∷ []) [] a
 
@@ -69,6 +78,7 @@ numbers = record {
   vbv-report = vbv-report-numbered;
   vbv-patch-delay = model-numbers .patch;
   cbr-create = cbr-create-numbered;
+  cbr-create-config = cbr-create-config-numbered;
   cbr-offer = cbr-offer-numbered;
   cbr-withdraw = cbr-withdraw-numbered;
 }

@@ -21,7 +21,7 @@ use Rattle.rate_control.proofs.States.{withdraw-answer}
 use Rattle.layout.specs.State.{stateBytes, stateFits, writerAt}
 use Rattle.words.specs.Words.{laid}
 use Rattle.layout.proofs.RoundTrip.{read-back, state-fits}
-use Rattle.hipokuta.specs.Send.{stateAfter, createIn, COffer, offerOf, reach, offerIn, offerState, offerOut, withdrawIn}
+use Rattle.hipokuta.specs.Send.{stateAfter, createIn, createWith, COffer, offerOf, reach, offerIn, offerState, offerOut, withdrawIn}
 use Rattle.hipokuta.specs.Calls.{OwedOfRefusals}
 use Rattle.layout.specs.Answers.{answerSize}
 
@@ -129,4 +129,5 @@ refusals s o b =
       room = room-kept s o b y;
       not-withdrawn = refused-after (withdrawIn s) s;
       not-created = λ c. refused-after (createIn c s) s;
+      not-configured = λ config. refused-after (createWith config s) s;
     }

@@ -7,7 +7,7 @@ use Prim.Native.Nat.{ℕ, _≤_, _<_}
 use native.Mathlib.Omega.{arith}
 use lib.Dec.{leb, eqb}
 use lib.ListN.{length}
-use borrow.Author.Tests.{lt-ltb, le-ltb}
+use borrow.Author.Tests.{lt-ltb, le-ltb, ne-eqb}
 use Rattle.bits.specs.Bits.{pick}
 use Rattle.bits.specs.Refusals.{value, refused, number}
 use Rattle.vbv.specs.Answers.{modelNumber, modelRefusal}
@@ -17,7 +17,7 @@ use Rattle.bits.specs.Refusals.{plain}
 use Rattle.bits.specs.declared.VbvRefusal.{VbvRefusal}
 use Rattle.bits.proofs.Flags.{clash}
 use Rattle.layers.specs.declared.PictureKind.{PictureKind}
-use Rattle.rate_control.specs.Answers.{offerAnswer, creationAnswer, createdAnswer, withdrawalAnswer, withdrawnAnswer}
+use Rattle.rate_control.specs.Answers.{offerAnswer, createdAnswer, withdrawalAnswer, withdrawnAnswer}
 use Rattle.rate_control.specs.Create.{create}
 use Rattle.rate_control.specs.Offer.{Offer, offer, left, outAfter, withdraw}
 use Rattle.rate_control.specs.declared.CbrConfig.{CbrConfig}
@@ -29,16 +29,30 @@ use Rattle.rate_control.specs.declared.CbrWithdrawn.{CbrWithdrawn}
 use Rattle.rate_control.proofs.Creation.{within-is}
 use Rattle.rate_control.proofs.States.{withdraw-answer}
 use Rattle.layout.specs.Answers.{answerSize, answerWords}
+use Rattle.layout.specs.Config.{configSize, modeFits, configIn}
 use Rattle.layout.specs.State.{stateSize, stateBytes, writerAt, stateAt}
-use Rattle.words.specs.Words.{wordsBytes, laid}
+use Rattle.words.specs.Words.{wordsBytes, laid, wordAt}
 use Rattle.layout.specs.declared.CbrState.{CbrState}
 use Rattle.layout.proofs.Answering.{length-refused-answer}
 use Rattle.layout.proofs.Held.{holds, holds-none}
 use Rattle.layout.proofs.RoundTrip.{state-fits}
 use Rattle.words.proofs.Laying.{laid-short}
-use Rattle.hipokuta.specs.Send.{stateAfter, createIn, COffer, kindFor, intervalFor, choicesFit, offerOf, reach, offerIn, offerState, offerOut, offerPlace, withdrawIn}
+use Rattle.hipokuta.specs.Send.{stateAfter, createIn, createWith, COffer, kindFor, intervalFor, choicesFit, offerOf, reach, offerIn, offerState, offerOut, offerPlace, withdrawIn}
 
 -- ---- creation: the number, and the place afterwards
+
+-- of what a creation has answered
+module _ (r : CbrCreated) (place : List ℕ) where
+  abbrev pub Puts : ℕ → List ℕ → Type 0
+  Puts n after = (n ≡ number (createdAnswer r)) × (after ≡ stateAfter (createdAnswer r) place)
+
+  pub is-created : (after : List ℕ) → r .answer ≡ Created → after ≡ laid (stateBytes (r .writer)) place → Puts 0 after
+  unfolding stateAfter
+  is-created after h g = rw h (refl, g)
+
+  pub not-created : (v : VbvError) (n : ℕ) → r .answer ≡ NotCreated v → n ≡ modelNumber v → Puts n place
+  unfolding stateAfter
+  not-created v n h g = rw h (g, refl)
 
 module _ (c : CbrConfig) (place : List ℕ) where
   abbrev Creates : ℕ → List ℕ → Type 0
@@ -48,18 +62,36 @@ module _ (c : CbrConfig) (place : List ℕ) where
   unfolding createIn stateAfter pick
   no-state-place h = rw (lt-ltb (length place) stateSize h) (refl, refl)
 
-  module _ (room : stateSize ≤ length place) (r : CbrCreated) (e : createdAnswer r ≡ create c) where
-    pub is-created : (after : List ℕ) → r .answer ≡ Created → after ≡ laid (stateBytes (r .writer)) place → Creates 0 after
-    unfolding createIn stateAfter pick
-    is-created after h g =
-        let a : create c ≡ value (r .writer) = sym e ∙ ap (λ x. creationAnswer x (r .writer)) h in
-        rw (le-ltb (length place) stateSize room, a) (refl, g)
+  pub created-in : stateSize ≤ length place → (r : CbrCreated) → createdAnswer r ≡ create c → (n : ℕ) (after : List ℕ) → Puts r place n after → Creates n after
+  unfolding createIn pick
+  created-in room r e n after h = rw (le-ltb (length place) stateSize room, ← e) h
 
-    pub not-created : (v : VbvError) (n : ℕ) → r .answer ≡ NotCreated v → n ≡ modelNumber v → Creates n place
-    unfolding createIn stateAfter pick
-    not-created v n h g =
-        let a : create c ≡ modelRefusal v = sym e ∙ ap (λ x. creationAnswer x (r .writer)) h in
-        rw (le-ltb (length place) stateSize room, a) (g, refl)
+module _ (config place : List ℕ) where
+  abbrev CreatesWith : ℕ → List ℕ → Type 0
+  CreatesWith n after = (n ≡ number (createWith config place)) × (after ≡ stateAfter (createWith config place) place)
+
+  pub config-short : length config < configSize → CreatesWith 12 place
+  unfolding createWith stateAfter pick
+  config-short h = rw (lt-ltb (length config) configSize h) (refl, refl)
+
+  module _ (long : configSize ≤ length config) where
+    pub no-place-with : length place < stateSize → CreatesWith 19 place
+    unfolding createWith stateAfter pick
+    no-place-with h = rw (le-ltb (length config) configSize long, lt-ltb (length place) stateSize h) (refl, refl)
+
+    module _ (room : stateSize ≤ length place) (mode : ℕ) (m : mode ≡ wordAt config 0) where
+      pub other-mode : (mode ≡ 2 → ⊥) → CreatesWith 12 place
+      unfolding createWith stateAfter modeFits pick
+      other-mode n = rw (le-ltb (length config) configSize long, le-ltb (length place) stateSize room, ← m, ne-eqb mode 2 n) (refl, refl)
+
+      -- with room and mode 2 it is the creation with what the bytes hold
+      pub with-mode : mode ≡ 2 → createWith config place ≡ createIn (configIn config) place
+      unfolding createWith createIn modeFits pick
+      with-mode h = rw (le-ltb (length config) configSize long, le-ltb (length place) stateSize room, ← m, h)
+
+      pub created-with : mode ≡ 2 → (r : CbrCreated) → createdAnswer r ≡ create (configIn config) → (n : ℕ) (after : List ℕ) → Puts r place n after
+          → CreatesWith n after
+      created-with h r e n after t = rw (with-mode h) (created-in (configIn config) place room r e n after t)
 
 -- ---- an offer: the number, and state, output part and answer place afterwards
 

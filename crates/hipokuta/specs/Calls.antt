@@ -1,12 +1,12 @@
 -- Lists of calls from C on the state that `cbr_create` or `cbr_create_config` left (paper 01, 'Rust forms to replace'): demand 3 covers them, since those that reach the writer are answered as the same
 -- calls on the writer itself; a refusal leaves the state's bytes alone, but for 21; and what output part is large enough.
 -- Assumes nothing.
-use Prim.Native.Nat.{ℕ, _*_, _≤_}
+use Prim.Native.Nat.{ℕ, _*_, _^_, _≤_, _<_}
 use mathlib.Core.Path.{_≡_}
 use mathlib.Core.List.{List, [], _∷_, _++_}
 use mathlib.Core.Bool.{false, not}
 use lib.Dec.{ltb}
-use lib.ListN.{length}
+use lib.ListN.{length, getD}
 use Rattle.bits.specs.Bits.{pick}
 use Rattle.bits.specs.Refusals.{Answer, value, refused, number}
 use Rattle.headers.specs.RoundTrips.{Bytes}
@@ -22,7 +22,7 @@ use Rattle.rate_control.specs.declared.Pending.the-variants.{Nothing}
 use Rattle.layout.specs.Config.{configIn}
 use Rattle.layout.specs.State.{stateBytes, stateFits, writerAt}
 use Rattle.layout.specs.Answers.{answerSize, answerWords}
-use Rattle.words.specs.Words.{wordsBytes, laid}
+use Rattle.words.specs.Words.{wordsBytes, wordAt, laid}
 use Rattle.hipokuta.specs.Send.{stateAfter, createIn, createWith, COffer, choicesFit, offerOf, reach, offerIn, offerState, offerOut, offerPlace, withdrawIn}
 
 pub data CCall : Type 0 where
@@ -122,6 +122,26 @@ OwedFromC = (c : CbrConfig) (place : List ℕ) → number (createIn c place) ≡
 pub record FromConfig (config place : List ℕ) : Type 0 where
   pub same : createWith config place ≡ createIn (configIn config) place
   pub from-creation : FromCreation (configIn config) place
+
+-- the words of a configuration, in their order: the mode, 2, before its fields
+abbrev pub configWords : CbrConfig → List ℕ
+configWords c =
+    2
+    ∷ c .«bit_rate_value»
+    ∷ c .«vbv_buffer_size_value»
+    ∷ c .«frame_rate_code»
+    ∷ c .«frame_rate_extension_n»
+    ∷ c .«frame_rate_extension_d»
+    ∷ c .«initial_quantiser_scale_code»
+    ∷ c .«b_between»
+    ∷ c .«anchors_per_gop»
+    ∷ []
+
+-- a creation by the bytes of these words is the creation with the fields, large ones too, whatever stands after them: with n and d 0 that of `cbr_create`; and another mode is 12
+pub record ConfigRead : Type 0 where
+  pub as-create : (c : CbrConfig) (more place : List ℕ) → ((k : ℕ) → getD (configWords c) k 0 < 2 ^ 64)
+      → createWith (wordsBytes (configWords c) ++ more) place ≡ createIn c place
+  pub other-mode : (config place : List ℕ) → 72 ≤ length config → 152 ≤ length place → (wordAt config 0 ≡ 2 → ⊥) → createWith config place ≡ refused 12 0 0 0
 
 abbrev pub OwedFromConfig : Type 0
 OwedFromConfig = (config place : List ℕ) → number (createWith config place) ≡ 0 → FromConfig config place

@@ -4,3 +4,4 @@ pub mod Ranges
 pub mod RoundTrip
 pub mod Held
 pub mod Answering
+pub mod Narrowing

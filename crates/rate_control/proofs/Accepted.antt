@@ -6,20 +6,25 @@ use mathlib.Core.List.{List, [], _∷_}
 use Prim.Native.Nat.{ℕ, suc, _+_, _-_, _*_, _≤_}
 use native.Mathlib.Omega.{arith}
 use lib.ListN.{length}
-use Rattle.vbv.specs.Model.{farthest, paramsFit}
+use Rattle.vbv.specs.Annex.{firstDelivered, gain}
+use Rattle.vbv.specs.Model.{farthest, paramsFit, periods}
 use Rattle.vbv.specs.declared.VbvParams.{VbvParams}
 use Rattle.vbv.proofs.Laws.{units-over, units-beyond}
+use Rattle.vbv.proofs.Scale.{same-value, same-told}
 use Rattle.verify.specs.Run.{run}
 use Rattle.bits.specs.Refusals.{value}
+use Rattle.bits.proofs.Following.{same-value as was}
 use Rattle.pictures.specs.Sequence.{declared}
 use Rattle.pictures.specs.Seen.{seenPictures}
 use Rattle.pictures.specs.declared.VbvStandard.the-variants.{Mpeg2}
 use Rattle.verify.specs.Coded.{timed}
 use Rattle.verify.proofs.Accepting.{Passed, exactRecord, run-none, run-passed, accepted}
+use Rattle.verify.proofs.Rates.{same-run}
+use Rattle.layers.proofs.Laws.{DeclaresSame, first-declares}
 use Rattle.layers.proofs.Stream.{Part, PartsFit, part, stream, seen, parts-none, stream-seen, stream-declared}
-use Rattle.rate_control.specs.Sent.{Sent, endToEnd, no-removal, removal-then, sentRecord, sentRecords, PassesCheck}
+use Rattle.rate_control.specs.Sent.{Sent, sentPosition, sentEnd, endToEnd, no-removal, removal-then, sentRecord, sentRecords, PassesCheck}
 use Rattle.rate_control.proofs.Removing.{Done, RemovalsDone, EachDone}
-use Rattle.rate_control.proofs.Sending.{seenBy, seenSent, codedSent, codedBy, Sending}
+use Rattle.rate_control.proofs.Sending.{seenBy, seenSent, codedSent, codedBy, firstHeaders, Sending}
 
 -- ---- the run over the pictures
 
@@ -55,22 +60,51 @@ seen-length (x ∷ xs) = ap suc (seen-length xs)
 first-told : {p : VbvParams} {d previous : ℕ} {x : Sent} {xs : List Sent} → RemovalsDone p d previous (x ∷ xs) → x .delay ≤ 65534
 first-told (removal-then r c) = r .as-placed .delay-told
 
+-- what the first headers declare, the same as p but for numerator and denominator: the check runs alike with either
 passes-by : (p : VbvParams) (x : Sent) (xs : List Sent) → paramsFit p ≡ true → 8 * length (endToEnd (x ∷ xs)) ≤ farthest → EachDone p (x ∷ xs)
-    → declared Mpeg2 (endToEnd (x ∷ xs)) ≡ value p → seenPictures Mpeg2 (endToEnd (x ∷ xs)) ≡ value (seenBy (x ∷ xs)) → timed (seenBy (x ∷ xs)) ≡ codedBy (x ∷ xs)
+    → (s : DeclaresSame p (x .offer .headers)) → declared Mpeg2 (endToEnd (x ∷ xs)) ≡ value (s .params)
+    → seenPictures Mpeg2 (endToEnd (x ∷ xs)) ≡ value (seenBy (x ∷ xs)) → timed (seenBy (x ∷ xs)) ≡ codedBy (x ∷ xs)
     → PassesCheck p (x ∷ xs)
 unfolding seenBy seenSent sentRecords
-passes-by p x xs f l c d h t places m =
-    accepted places (record { short = l; declares = d; pictures-are = h }) (first-told c) f (rw (seen-length xs) m) (rw t (course-ran 0 c))
+passes-by p x xs f l c s d h t places m =
+    let first = firstDelivered p (sentPosition x) (x .delay) in
+    let k = same-told p (s .params) (s .same) in
+    let v = same-value p (s .params) (s .same) in
+    let ran = sym (same-run k 0 0 _ _ (k .first (sentPosition x) (x .delay)) (codedBy (x ∷ xs))) ∙ course-ran 0 c in
+    let a = accepted
+    {r = sentRecord p first 0 x}
+    {rs = sentRecords p (first + gain p (periods (x .offer .interval))) (sentEnd x) xs}
+    places (record { short = l; declares = d; pictures-are = h }) (first-told c) (sym (k .fits) ∙ f)
+    (rw (seen-length xs) m) (rw t ran) in
+    record {
+      report-is = rw (a, v .rate, v .size);
+      records-are = rw a;
+      by-headers = λ b e. let z : value b ≡ _ = sym e ∙ a in rw (was z) (s .by-headers);
+      same-value = λ b e. let z : value b ≡ _ = sym e ∙ a in rw (was z) (s .same);
+    }
 
-sending-declared : {p : VbvParams} {x : Sent} {xs : List Sent} → Sending p false 0 (x ∷ xs) → declared Mpeg2 (endToEnd (x ∷ xs)) ≡ value p
+-- they are the first part's, and the stream declares what they do
+record Begun (p : VbvParams) (x : Sent) (xs : List Sent) : Type 0 where
+  same : DeclaresSame p (x .offer .headers)
+  declares : declared Mpeg2 (endToEnd (x ∷ xs)) ≡ value (same .params)
+
+sending-declared : {p : VbvParams} {x : Sent} {xs : List Sent} → Sending p false 0 (x ∷ xs) → Begun p x xs
 unfolding seenBy
-sending-declared {p} {x} {xs} a = ap (declared Mpeg2) (a .laid-is) ∙ go (a .parts) (a .fit) (a .seen-is)
+sending-declared {p} {x} {xs} a = go (a .parts) (a .fit) (a .seen-is) (a .headers-are) (a .laid-is)
   where
-    go : (ys : List Part) → PartsFit p false ys → seen 0 ys (length (a .follows)) ≡ seenBy (x ∷ xs) → declared Mpeg2 (stream ys (a .follows)) ≡ value p
-    go [] f e = let z = sym (parts-none 0 (length (a .follows))) ∙ e in cc
-    go (y ∷ ys) (part f fs) e = stream-declared f ys (a .follows)
+    go : (ys : List Part) → PartsFit p false ys → seen 0 ys (length (a .follows)) ≡ seenBy (x ∷ xs) → firstHeaders ys ≡ x .offer .headers
+        → endToEnd (x ∷ xs) ≡ stream ys (a .follows) → Begun p x xs
+    go [] f e h l = let z = sym (parts-none 0 (length (a .follows))) ∙ e in absurd (let y : _≡_ {A = ℕ} 0 1 = cc in omega arith)
+    go (y ∷ ys) (part f fs) e h l =
+        let s = first-declares p (y .headers) (f .headers-fit) in
+        record {
+          same = record { params = s .params; by-headers = rw (← h) (s .by-headers); same = s .same };
+          declares = ap (declared Mpeg2) l ∙ stream-declared f ys (a .follows);
+        }
 
 pub passes : (p : VbvParams) (xs : List Sent) → paramsFit p ≡ true → 8 * length (endToEnd xs) ≤ farthest → EachDone p xs → Sending p false 0 xs → PassesCheck p xs
 passes p [] f l c a = tt
 passes p (x ∷ xs) f l c a =
-    passes-by p x xs f l c (sending-declared a) (ap (seenPictures Mpeg2) (a .laid-is) ∙ stream-seen (a .fit) (a .ends) ∙ ap value (a .seen-is)) (a .timed-is)
+    let b = sending-declared a in
+    passes-by p x xs f l c (b .same) (b .declares)
+    (ap (seenPictures Mpeg2) (a .laid-is) ∙ stream-seen (a .fit) (a .ends) ∙ ap value (a .seen-is)) (a .timed-is)

@@ -28,13 +28,19 @@ ranges-fit c r =
     simp (
       in-bounds 1 262143 (c .«bit_rate_value») (r .rate-low) (r .rate-high),
       in-bounds 1 1023 (c .«vbv_buffer_size_value») (r .buffer-low) (r .buffer-high),
+      in-bounds 0 3 (c .«frame_rate_extension_n») (omega arith) (r .n-high),
+      in-bounds 0 31 (c .«frame_rate_extension_d») (omega arith) (r .d-high),
       in-bounds 1 31 (c .«initial_quantiser_scale_code») (r .quantiser-low) (r .quantiser-high),
       in-bounds 0 15 (c .«b_between») (omega arith) (r .between-high),
       in-bounds 1 255 (c .«anchors_per_gop») (r .anchors-low) (r .anchors-high),
     )
 
+-- the rate of a configuration in its ranges
+rate-of : (c : CbrConfig) → Ranges c → RateCode (c .«frame_rate_code») 4 32 (frameRate (c .«frame_rate_code») (c .«frame_rate_extension_n») (c .«frame_rate_extension_d»))
+rate-of c r = rate-code (c .«frame_rate_code») (c .«frame_rate_extension_n») (c .«frame_rate_extension_d») (r .n-high) (r .d-high)
+
 module _ (c : CbrConfig) (r : Ranges c) where
-  params-ranged : (n d : ℕ) → 1 ≤ n → n ≤ 60000 → 1 ≤ d → d ≤ 1001 → 90000 * writerParams c (n, d) .«buffer_size_bits» ≤ 65534 * writerParams c (n, d) .«bit_rate» → paramsFit (writerParams c (n, d)) ≡ true
+  params-ranged : (n d : ℕ) → 1 ≤ n → n ≤ 240000 → 1 ≤ d → d ≤ 32032 → 90000 * writerParams c (n, d) .«buffer_size_bits» ≤ 65534 * writerParams c (n, d) .«bit_rate» → paramsFit (writerParams c (n, d)) ≡ true
   params-ranged n d a b g k z =
       let rate = params-rate (c .«bit_rate_value») (c .«vbv_buffer_size_value») (n, d) in
       let buffer = params-buffer (c .«bit_rate_value») (c .«vbv_buffer_size_value») (n, d) in
@@ -54,7 +60,7 @@ module _ (c : CbrConfig) (r : Ranges c) where
       })
 
   -- the model of the parameters, and the ratio
-  with-model : (n d : ℕ) → frameRate (c .«frame_rate_code») ≡ value (n, d) → 1 ≤ c .«frame_rate_code» → c .«frame_rate_code» ≤ 8 → 1 ≤ n → n ≤ 60000 → 1 ≤ d → d ≤ 1001
+  with-model : (n d : ℕ) → frameRate (c .«frame_rate_code») (c .«frame_rate_extension_n») (c .«frame_rate_extension_d») ≡ value (n, d) → 1 ≤ c .«frame_rate_code» → c .«frame_rate_code» ≤ 8 → 1 ≤ n → n ≤ 240000 → 1 ≤ d → d ≤ 32032
       → (x : Answer VbvCbrModel) → NewModel (writerParams c (n, d)) x → CreationDue c (andThen x (λ m. value (freshWriter c m)))
   with-model n d e l h a b g k x (makes f) = rw (fresh-known c (n, d)) (created r l h e (params-fit f .full))
   with-model n d e l h a b g k x (unfit f) = bad-ratio r l h e (go (decLt (65534 * writerParams c (n, d) .«bit_rate») (90000 * writerParams c (n, d) .«buffer_size_bits»)))
@@ -64,51 +70,51 @@ module _ (c : CbrConfig) (r : Ranges c) where
       go (yes z) = z
       go (no z) = absurd (true≢false (sym (params-ranged n d a b g k (omega (arith, z))) ∙ f))
 
-  with-code : (x : Answer (ℕ × ℕ)) → frameRate (c .«frame_rate_code») ≡ x → RateCode (c .«frame_rate_code») x
+  with-code : (x : Answer (ℕ × ℕ)) → frameRate (c .«frame_rate_code») (c .«frame_rate_extension_n») (c .«frame_rate_extension_d») ≡ x → RateCode (c .«frame_rate_code») 4 32 x
       → CreationDue c (andThen x (λ f. andThen (newModel (writerParams c f)) (λ m. value (freshWriter c m))))
-  with-code x e (known {n} {d} l h a b g k) = with-model n d e l h a b g k (newModel (writerParams c (n, d))) (new-model (writerParams c (n, d)))
+  with-code x e (known {n} {d} l h a b g k) = with-model n d e l h a (omega arith) g (omega arith) (newModel (writerParams c (n, d))) (new-model (writerParams c (n, d)))
   with-code x e (unknown z) = bad-code r z
 
 pub creation-due : (c : CbrConfig) → CreationDue c (create c)
 unfolding create
 creation-due c =
     pick-elim (CreationDue c) _ (λ e. bad-range (λ r. true≢false (sym (ranges-fit c r) ∙ not-true _ e)))
-    (λ e. with-code c (config-ranges c (not-false _ e)) (frameRate (c .«frame_rate_code»)) refl (rate-code (c .«frame_rate_code»)))
+    (λ e. with-code c (config-ranges c (not-false _ e)) (frameRate (c .«frame_rate_code») (c .«frame_rate_extension_n») (c .«frame_rate_extension_d»)) refl (rate-of c (config-ranges c (not-false _ e))))
 
 -- ---- and no other
 
 pub creation-only : (c : CbrConfig) (a : Answer CbrWriter) → CreationDue c a → a ≡ create c
 unfolding create
 creation-only c a (bad-range n) = failed (configFits c) _ _ (is-false (configFits c) (λ e. n (config-ranges c e))) refl
-creation-only c a (bad-code r n) = held (configFits c) _ _ (ranges-fit c r) (go (rate-code (c .«frame_rate_code»)))
+creation-only c a (bad-code r n) = held (configFits c) _ _ (ranges-fit c r) (go (rate-of c r))
   where
-    go : {x : Answer (ℕ × ℕ)} → RateCode (c .«frame_rate_code») x → refused 6 0 0 0 ≡ andThen x (λ f. andThen (newModel (writerParams c f)) (λ m. value (freshWriter c m)))
+    go : {x : Answer (ℕ × ℕ)} → RateCode (c .«frame_rate_code») 4 32 x → refused 6 0 0 0 ≡ andThen x (λ f. andThen (newModel (writerParams c f)) (λ m. value (freshWriter c m)))
     go (known l h a b g k) = absurd (n l h)
     go (unknown z) = refl
-creation-only c a (bad-ratio {f} r l h e z) = held (configFits c) _ _ (ranges-fit c r) (go (rate-code (c .«frame_rate_code»)) e)
+creation-only c a (bad-ratio {f} r l h e z) = held (configFits c) _ _ (ranges-fit c r) (go (rate-of c r) e)
   where
     model : (n d : ℕ) → 65534 * writerParams c (n, d) .«bit_rate» < 90000 * writerParams c (n, d) .«buffer_size_bits»
         → {x : Answer VbvCbrModel} → NewModel (writerParams c (n, d)) x → refused 12 0 0 0 ≡ andThen x (λ m. value (freshWriter c m))
     model n d q (makes g) = absurd (omega (arith, q, params-fit g .full))
     model n d q (unfit g) = refl
 
-    go : {x : Answer (ℕ × ℕ)} → RateCode (c .«frame_rate_code») x → x ≡ value f
+    go : {x : Answer (ℕ × ℕ)} → RateCode (c .«frame_rate_code») 4 32 x → x ≡ value f
         → refused 12 0 0 0 ≡ andThen x (λ f. andThen (newModel (writerParams c f)) (λ m. value (freshWriter c m)))
     go (known {n} {d} l h a b g k) e =
         let q : _≡_ {A = ℕ × ℕ} f (n, d) = cc in
         model n d (subst (λ (y : ℕ × ℕ). 65534 * writerParams c y .«bit_rate» < 90000 * writerParams c y .«buffer_size_bits») q z) (new-model (writerParams c (n, d)))
     go (unknown y) e = absurd (y l h)
-creation-only c a (created {f} r l h e z) = held (configFits c) _ _ (ranges-fit c r) (go (rate-code (c .«frame_rate_code»)) e)
+creation-only c a (created {f} r l h e z) = held (configFits c) _ _ (ranges-fit c r) (go (rate-of c r) e)
   where
     model : (n d : ℕ) → paramsFit (writerParams c (n, d)) ≡ true → {x : Answer VbvCbrModel} → NewModel (writerParams c (n, d)) x
         → value (holding (writerParams c (n, d)) (targetsOf c (n, d)) (atFirst c)) ≡ andThen x (λ m. value (freshWriter c m))
     model n d q (makes g) = ap value (sym (fresh-known c (n, d)))
     model n d q (unfit g) = absurd (true≢false (sym q ∙ g))
 
-    go : {x : Answer (ℕ × ℕ)} → RateCode (c .«frame_rate_code») x → x ≡ value f
+    go : {x : Answer (ℕ × ℕ)} → RateCode (c .«frame_rate_code») 4 32 x → x ≡ value f
         → value (holding (writerParams c f) (targetsOf c f) (atFirst c)) ≡ andThen x (λ f. andThen (newModel (writerParams c f)) (λ m. value (freshWriter c m)))
     go (known {n} {d} l h a b g k) e =
         let q : _≡_ {A = ℕ × ℕ} (n, d) f = cc in
         let y = subst (λ (y : ℕ × ℕ). 90000 * writerParams c y .«buffer_size_bits» ≤ 65534 * writerParams c y .«bit_rate») (sym q) z in
-        rw (← q) (model n d (params-ranged c r n d a b g k y) (new-model (writerParams c (n, d))))
+        rw (← q) (model n d (params-ranged c r n d a (omega arith) g (omega arith) y) (new-model (writerParams c (n, d))))
     go (unknown y) e = absurd (y l h)

@@ -47,24 +47,29 @@ pub within-is : (low high v : ℕ) → within low high v ≡ (leb low v && leb v
 unfolding within
 within-is low high v = refl
 
-pub config-told : (c : CbrConfig) (r s q b a : Bool) → r ≡ within 1 262143 (c .«bit_rate_value») → s ≡ within 1 1023 (c .«vbv_buffer_size_value»)
+pub config-told : (c : CbrConfig) (r s n d q b a : Bool) → r ≡ within 1 262143 (c .«bit_rate_value») → s ≡ within 1 1023 (c .«vbv_buffer_size_value»)
+    → n ≡ within 0 3 (c .«frame_rate_extension_n») → d ≡ within 0 31 (c .«frame_rate_extension_d»)
     → q ≡ within 1 31 (c .«initial_quantiser_scale_code») → b ≡ within 0 15 (c .«b_between») → a ≡ within 1 255 (c .«anchors_per_gop»)
-    → (r && (s && (q && (b && a)))) ≡ configFits c
+    → (r && (s && (n && (d && (q && (b && a)))))) ≡ configFits c
 unfolding configFits
-config-told c r s q b a e f g h k = rw (e, f, g, h, k)
+config-told c r s n d q b a e f i j g h k = rw (e, f, i, j, g, h, k)
 
 pub config-ranges : (c : CbrConfig) → configFits c ≡ true → Ranges c
 unfolding configFits
 config-ranges c h =
     let r = both-true (within 1 262143 (c .«bit_rate_value»)) _ h in
     let s = both-true (within 1 1023 (c .«vbv_buffer_size_value»)) _ (r .1) in
-    let q = both-true (within 1 31 (c .«initial_quantiser_scale_code»)) _ (s .1) in
+    let n = both-true (within 0 3 (c .«frame_rate_extension_n»)) _ (s .1) in
+    let d = both-true (within 0 31 (c .«frame_rate_extension_d»)) _ (n .1) in
+    let q = both-true (within 1 31 (c .«initial_quantiser_scale_code»)) _ (d .1) in
     let b = both-true (within 0 15 (c .«b_between»)) (within 1 255 (c .«anchors_per_gop»)) (q .1) in
     record {
       rate-low = within-bounds 1 262143 _ (r .0) .0;
       rate-high = within-bounds 1 262143 _ (r .0) .1;
       buffer-low = within-bounds 1 1023 _ (s .0) .0;
       buffer-high = within-bounds 1 1023 _ (s .0) .1;
+      n-high = within-bounds 0 3 _ (n .0) .1;
+      d-high = within-bounds 0 31 _ (d .0) .1;
       quantiser-low = within-bounds 1 31 _ (q .0) .0;
       quantiser-high = within-bounds 1 31 _ (q .0) .1;
       between-high = within-bounds 0 15 _ (b .0) .1;
@@ -168,9 +173,9 @@ module _ (c : CbrConfig) where
     unfolding create notCreated pick
     left-12 = rw (← e, h, g)
 
-  module _ (f : Bool) (e : f ≡ configFits c) (h : f ≡ true) (x : FrameRate) (k : rateAnswer x ≡ frameRate (c .«frame_rate_code»)) where
+  module _ (f : Bool) (e : f ≡ configFits c) (h : f ≡ true) (x : FrameRate) (k : rateAnswer x ≡ frameRate (c .«frame_rate_code») (c .«frame_rate_extension_n») (c .«frame_rate_extension_d»)) where
     module _ (error : VbvError) (r : CbrCreated) (l : x ≡ NoRate error) (g : r ≡ notCreated error) where
-      rate-refused : frameRate (c .«frame_rate_code») ≡ rateAnswer (NoRate error)
+      rate-refused : frameRate (c .«frame_rate_code») (c .«frame_rate_extension_n») (c .«frame_rate_extension_d») ≡ rateAnswer (NoRate error)
       rate-refused = sym k ∙ ap rateAnswer l
 
       pub way-6 : createdAnswer r ≡ create c
@@ -182,7 +187,7 @@ module _ (c : CbrConfig) where
       left-6 = rw (← e, h, rate-refused, g)
 
     module _ (n d : ℕ) (r : CbrCreated) (l : x ≡ Rate n d) (g : Creates r (withRate c (n, d))) where
-      rate-is : frameRate (c .«frame_rate_code») ≡ value (n, d)
+      rate-is : frameRate (c .«frame_rate_code») (c .«frame_rate_extension_n») (c .«frame_rate_extension_d») ≡ value (n, d)
       rate-is = sym k ∙ ap rateAnswer l
 
       pub way-rate : createdAnswer r ≡ create c
@@ -199,7 +204,7 @@ module _ (c : CbrConfig) where
 pub record Creation (c : CbrConfig) (w : CbrWriter) : Type 0 where
   pub ranges : configFits c ≡ true
   pub frames : ℕ × ℕ
-  pub frames-are : frameRate (c .«frame_rate_code») ≡ value frames
+  pub frames-are : frameRate (c .«frame_rate_code») (c .«frame_rate_extension_n») (c .«frame_rate_extension_d») ≡ value frames
   pub model : VbvCbrModel
   pub model-is : newModel (writerParams c frames) ≡ value model
   pub writer-is : freshWriter c model ≡ w
@@ -208,7 +213,7 @@ pub creation-found : (c : CbrConfig) (w : CbrWriter) → create c ≡ value w �
 unfolding create
 creation-found c w h =
     let a = was-held (configFits c) _ _ refused-value h in
-    let f = then-value (frameRate (c .«frame_rate_code»)) (a .1) in
+    let f = then-value (frameRate (c .«frame_rate_code») (c .«frame_rate_extension_n») (c .«frame_rate_extension_d»)) (a .1) in
     let m = then-value (newModel (writerParams c (f .0))) (f .2) in
     record { ranges = a .0; frames = f .0; frames-are = f .1; model = m .0; model-is = m .1; writer-is = same-value (m .2) }
 

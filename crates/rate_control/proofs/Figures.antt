@@ -1,15 +1,19 @@
 -- The figures hold.
-use mathlib.Core.Path.{refl}
-use Prim.Native.Nat.{_+_, _*_, _%_, _≤_, _<_}
+use mathlib.Core.Path.{_≡_, refl}
+use mathlib.Core.Bool.{true}
+use Prim.Native.Nat.{ℕ, _+_, _*_, _/_, _%_, _≤_, _<_}
 use native.Mathlib.Omega.{arith}
 use native.Mathlib.Nat.{div-add-mod', mod-lt}
 use Rattle.bits.specs.Bits.{pick}
 use Rattle.vbv.specs.declared.VbvParams.{VbvParams}
+use Rattle.vbv.specs.Params.{sameParams}
+use Rattle.vbv.proofs.Params.{params-are}
+use Rattle.vbv.proofs.Scale.{same-value, same-share}
 use Rattle.vbv.proofs.Figures.{model-figures}
 use Rattle.rate_control.specs.Targets.{groupPictures, groupBits, groupWeight, target, targets}
 use Rattle.rate_control.specs.Writer.{of, coarser, steered}
 use Rattle.rate_control.specs.Offer.{firstDelay}
-use Rattle.rate_control.specs.Figures.{retried, WriterFigures, TargetFigures, Rules, Steering}
+use Rattle.rate_control.specs.Figures.{retried, WriterFigures, TargetFigures, ValueTargets, Rules, Steering}
 
 pub writer-figures : WriterFigures
 unfolding groupPictures groupBits groupWeight target targets coarser firstDelay retried
@@ -31,7 +35,21 @@ rules = record { first-delay-low = first-delay-low; first-delay-high = first-del
 
 pub target-figures : TargetFigures
 unfolding groupPictures groupBits groupWeight target targets of
-target-figures = record { of-i = refl; of-p = refl; of-b = refl; floored = refl }
+target-figures = record { of-i = refl; of-p = refl; of-b = refl; of-50-over-2 = rw (params-are 2500 20 50 2); floored = refl }
+
+same-targets : (p q : VbvParams) (between anchors : ℕ) → sameParams p q ≡ true → targets p between anchors ≡ targets q between anchors
+unfolding targets target groupBits
+same-targets p q between anchors h =
+    let v = same-value p q h in
+    let e : p .«bit_rate» * p .frd / p .frn ≡ q .«bit_rate» * q .frd / q .frn = same-share v in
+    rw e
+
+same-first-delay : (p q : VbvParams) → sameParams p q ≡ true → firstDelay p ≡ firstDelay q
+unfolding firstDelay
+same-first-delay p q h = let v = same-value p q h in rw (v .rate, v .size)
+
+pub value-targets : ValueTargets
+value-targets = record { same-targets = same-targets; same-first-delay = same-first-delay }
 
 pub steering : Steering
 unfolding steered pick

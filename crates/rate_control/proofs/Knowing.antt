@@ -85,7 +85,7 @@ pub fresh-known : (c : CbrConfig) (f : ℕ × ℕ)
 unfolding freshWriter
 fresh-known c f = refl
 
-pub created-known : (c : CbrConfig) (f : ℕ × ℕ) (w : CbrWriter) → frameRate (c .«frame_rate_code») ≡ value f → create c ≡ value w
+pub created-known : (c : CbrConfig) (f : ℕ × ℕ) (w : CbrWriter) → frameRate (c .«frame_rate_code») (c .«frame_rate_extension_n») (c .«frame_rate_extension_d») ≡ value f → create c ≡ value w
     → w ≡ holding (writerParams c f) (targetsOf c f) (atFirst c)
 created-known c f w e h =
     let x = creation-found c w h in

@@ -18,7 +18,7 @@ created-numbered : (c : CbrConfig) → Numbered (12 ∷ 6 ∷ []) [] [] (create 
 unfolding create
 created-numbered c =
     pick-elim (Numbered (12 ∷ 6 ∷ []) [] []) _ (λ e. by-number refl) λ e.
-    and-then _ (wider refl refl refl (model-numbers .rate (c .«frame_rate_code»))) λ f.
+    and-then _ (wider refl refl refl (model-numbers .rate (c .«frame_rate_code») (c .«frame_rate_extension_n») (c .«frame_rate_extension_d»))) λ f.
     and-then _ (wider refl refl refl (model-numbers .new _)) λ m.
     a-value
 

@@ -61,6 +61,15 @@ placed-length w o = rw (placed-part w o) (length-append (bytesOf (partOf w o)) (
 
 -- ---- all of them
 
+-- the headers of the first
+abbrev pub firstHeaders : List Part → List ℕ
+firstHeaders [] = []
+firstHeaders (x ∷ xs) = x .headers
+
+abbrev pub sentHeaders : List Sent → List ℕ
+sentHeaders [] = []
+sentHeaders (x ∷ xs) = x .offer .headers
+
 -- pictures sent, n bytes being handed out before: parts end to end and what follows them
 pub record Sending (p : VbvParams) (placed : Bool) (n : ℕ) (xs : List Sent) : Type 0 where
   pub parts : List Part
@@ -68,6 +77,7 @@ pub record Sending (p : VbvParams) (placed : Bool) (n : ℕ) (xs : List Sent) : 
   pub laid-is : endToEnd xs ≡ stream parts follows
   pub seen-is : seen n parts (length follows) ≡ seenBy xs
   pub timed-is : timed (seenBy xs) ≡ codedBy xs
+  pub headers-are : firstHeaders parts ≡ sentHeaders xs
   pub fit : PartsFit p placed parts
   pub ends : Tail follows
   pub bare : parts ≡ [] → follows ≡ []
@@ -94,6 +104,7 @@ module _ {p : VbvParams} {placed : Bool} (n : ℕ) (w : CbrWriter) (o : Offer) {
         laid-is = rw (z e, append-nil, placed-part w o, t, stream-more, stream-none);
         seen-is = rw (z e, parts-last, c);
         timed-is = rw (timed-first, part-interval f, s .timed-is);
+        headers-are = refl;
         fit = part f no-parts;
         ends = tail-end;
         bare = λ h. cc;
@@ -110,6 +121,7 @@ module _ {p : VbvParams} {placed : Bool} (n : ℕ) (w : CbrWriter) (o : Offer) {
         laid-is = rw (s .laid-is, placed-part w o, t, append-nil, stream-more);
         timed-is = rw (timed-first, part-interval f, s .timed-is);
         seen-is = seen-front n _ (partOf w o) (s .parts) (length (s .follows)) c (λ h. ap length (s .bare h)) (s .seen-is);
+        headers-are = refl;
         fit = part f (s .fit);
         ends = s .ends;
         bare = λ h. cc;
@@ -157,6 +169,7 @@ sending n w [] h b = record {
   laid-is = sym (stream-none []);
   seen-is = parts-none n 0;
   timed-is = timed-none;
+  headers-are = refl;
   fit = no-parts;
   ends = tail-none;
   bare = λ e. refl;

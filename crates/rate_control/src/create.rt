@@ -89,8 +89,7 @@ impl CbrConfig {
             & (within(1, 1023, size)
                 & (within(0, 3, n)
                     & (within(0, 31, d)
-                        & (within(1, 31, q)
-                            & (within(0, 15, between) & within(1, 255, anchors))))))
+                        & (within(1, 31, q) & (within(0, 15, between) & within(1, 255, anchors))))))
     }
 
     // Nothing placed, nothing pending, every kind at the given quantiser.

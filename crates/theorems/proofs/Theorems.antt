@@ -12,20 +12,24 @@ use Rattle.picture_header.proofs.Numbering.{picture-numbers}
 use Rattle.writers.proofs.GopHeader.{group-read-back, time-code-written}
 use Rattle.vbv.proofs.Fractions.{fractions}
 use Rattle.vbv.proofs.Numbering.{model-numbers, model-stays}
+use Rattle.vbv.proofs.Rates.{rates}
 use Rattle.scan.proofs.Scans.{scans-owed}
 use Rattle.scan.proofs.Pictures.{walk-gives, in-order}
 use Rattle.verify.proofs.Accepted.{accepted-exactly, nothing-cut}
 use Rattle.verify.proofs.Due.{check-due}
 use Rattle.verify.proofs.Numbering.{check-numbers}
 use Rattle.pictures.proofs.Order.{steps-give, seen-rising}
+use Rattle.pictures.proofs.Showing.{sequence-declares}
 use Rattle.pictures.proofs.Due.{front-due}
 use Rattle.pictures.proofs.Numbering.{front-numbers}
 use Rattle.verify.proofs.Bounds.{records-small}
 use Rattle.verify.proofs.Periods.{periods-told}
+use Rattle.verify.proofs.Rates.{value-reports}
+use Rattle.layers.proofs.Declaring.{headers-declare}
 use Rattle.rate_control.proofs.Demand.{owed}
 use Rattle.rate_control.proofs.Refusing.{writer-numbers}
-use Rattle.rate_control.proofs.Figures.{writer-figures, target-figures, rules, steering}
-use Rattle.hipokuta.proofs.FromC.{from-c}
+use Rattle.rate_control.proofs.Figures.{writer-figures, target-figures, value-targets, rules, steering}
+use Rattle.hipokuta.proofs.FromC.{from-c, config-read, from-config}
 use Rattle.hipokuta.proofs.Refusals.{refusals}
 use Rattle.hipokuta.proofs.Places.{reports}
 use Rattle.hipokuta.proofs.Numbers.{numbers}
@@ -54,12 +58,14 @@ theorems = record {
   picture-numbers = picture-numbers;
   in-fractions = fractions;
   model-numbers = model-numbers;
+  rates = rates;
   model-stays = model-stays;
   scans = scans-owed;
   walk-gives-pictures = walk-gives;
   pictures-in-order = in-order;
   steps-give-pictures = steps-give;
   seen-rising = seen-rising;
+  sequence-declares = sequence-declares;
   front-is-due = front-due;
   front-numbers = front-numbers;
   accepted-exactly = accepted-exactly;
@@ -68,14 +74,19 @@ theorems = record {
   check-numbers = check-numbers;
   periods-told = periods-told;
   records-small = records-small;
+  value-reports = value-reports;
+  headers-declare = headers-declare;
   demand-3 = owed;
   writer-numbers = writer-numbers;
   from-c = from-c;
+  config-read = config-read;
+  from-config = from-config;
   refusals = refusals;
   reports = reports;
   entry-numbers = numbers;
   writer-figures = writer-figures;
   target-figures = target-figures;
+  value-targets = value-targets;
   rules = rules;
   steering = steering;
 }

@@ -23,7 +23,7 @@ use Rattle.layers.specs.Headers.{HeadersDeclare}
 use Rattle.rate_control.specs.Demand.{Demand3}
 use Rattle.rate_control.specs.Numbers.{WriterNumbers}
 use Rattle.rate_control.specs.Figures.{WriterFigures, TargetFigures, ValueTargets, Rules, Steering}
-use Rattle.hipokuta.specs.Calls.{OwedFromC, OwedFromConfig, OwedOfRefusals}
+use Rattle.hipokuta.specs.Calls.{OwedFromC, ConfigRead, OwedFromConfig, OwedOfRefusals}
 use Rattle.hipokuta.specs.Check.{OwedOfReports}
 use Rattle.hipokuta.specs.Numbers.{EntryNumbers}
 
@@ -109,7 +109,8 @@ pub record Theorems : Type 0 where
   pub writer-numbers : WriterNumbers
   -- Demand 3 of lists of calls from C on the bytes of a state.
   pub from-c : OwedFromC
-  -- And on the bytes that a creation by a configuration's bytes left.
+  -- A creation by a configuration's bytes is the creation with the fields whose words they are; and lists of calls on what it left.
+  pub config-read : ConfigRead
   pub from-config : OwedFromConfig
   -- From C a refusal leaves state and output part as they were, but that 21 closes the pending picture.
   pub refusals : OwedOfRefusals

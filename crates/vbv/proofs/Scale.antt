@@ -87,6 +87,12 @@ module _ {p q : VbvParams} (v : SameValue p q) where
   q-rate : 1 ≤ q .«bit_rate»
   q-rate = rw (v .rate) p-rate
 
+  -- a frame's share of the rate, whole bits
+  pub same-share : p .«bit_rate» * p .frd / p .frn ≡ q .«bit_rate» * q .frd / q .frn
+  same-share =
+      let k : p .«bit_rate» * (p .frn * q .frd) ≡ p .«bit_rate» * (q .frn * p .frd) = ap (λ (z : ℕ). p .«bit_rate» * z) (v .frames) in
+      rw (v .rate) (quotient (p .«bit_rate» * p .frd) (p .frn) (p .«bit_rate» * q .frd) (q .frn) (p .frn) (q .frn) p-low q-low (omega arith) (omega arith))
+
   same-fits : paramsFit p ≡ paramsFit q
   unfolding paramsFit ratioFits
   same-fits = rw (v .p-in, v .q-in, v .rate, v .size)

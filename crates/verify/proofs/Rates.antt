@@ -28,7 +28,7 @@ module _ {p q : VbvParams} (t : SameTold p q) where
         t .underflow (c .«end_bits») d e s,
         t .expected (c .«pos_bits») d e s,
         t .overflow previous d e s,
-        t .held previous d e s
+        t .held previous d e s,
       )
 
   pub same-run : (n previous d e : ℕ) → SameBits p q d e → (cs : List CodedPicture) → run p n previous d cs ≡ run q n previous e cs
@@ -37,7 +37,7 @@ module _ {p q : VbvParams} (t : SameTold p q) where
   same-run n previous d e s (c ∷ cs) =
       rw (
         same-removal n previous d e s c,
-        same-run (suc n) (c .«end_bits») (d + gain p (periods (c .interval))) (e + gain q (periods (c .interval))) (t .later d e (periods (c .interval)) s) cs
+        same-run (suc n) (c .«end_bits») (d + gain p (periods (c .interval))) (e + gain q (periods (c .interval))) (t .later d e (periods (c .interval)) s) cs,
       )
 
 -- an accepted run is reported alike

@@ -9,6 +9,12 @@ cast-rate c = search needs
 cast-size : tie.Need-cast-size
 cast-size c = search needs
 
+cast-n : tie.Need-cast-n
+cast-n c = search needs
+
+cast-d : tie.Need-cast-d
+cast-d c = search needs
+
 cast-q : tie.Need-cast-q
 cast-q c = search needs
 
@@ -33,6 +39,12 @@ within-requires-4 c κs = search needs
 within-requires-5 : tie.Need-within-requires-5
 within-requires-5 c κs = search needs
 
+within-requires-6 : tie.Need-within-requires-6
+within-requires-6 c κs = search needs
+
+within-requires-7 : tie.Need-within-requires-7
+within-requires-7 c κs = search needs
+
 returns : tie.Need-returns
 returns c = search (needs, config-told)
 
@@ -42,6 +54,8 @@ fits-spec =
     (tie.spec
     cast-rate
     cast-size
+    cast-n
+    cast-d
     cast-q
     cast-between
     cast-anchors
@@ -50,4 +64,6 @@ fits-spec =
     within-requires-3
     within-requires-4
     within-requires-5
+    within-requires-6
+    within-requires-7
     returns)
