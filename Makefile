@@ -30,6 +30,7 @@ cbrsend = tools/cbrsend.c tools/request.c tools/advice.c tools/sending.c tools/s
     tools/progress.c tools/report.c tools/caution.c tools/look.c tools/place.c $(reading)
 entries = tests/c/entries.c tests/c/places.c c/refusal_text.c
 sender = tests/c/sender.c tests/c/channel.c tests/c/rules.c tests/c/places.c c/refusal_text.c
+configs = tests/c/configs.c tests/c/channel.c tests/c/rules.c tests/c/places.c c/refusal_text.c
 texts = tests/c/texts.c c/refusal_text.c
 structs = tests/c/structs.c
 stamp = tests/c/stamp.c
@@ -40,7 +41,7 @@ fuzz-vbvreport = tests/c/fuzz.c $(vbvreport)
 fuzz-cbrsend = tests/c/fuzz.c $(cbrsend)
 
 TOOLS = tools/vbvreport tools/cbrsend
-PROGRAMS = entries sender texts structs stamp drawings readme_check readme_send
+PROGRAMS = entries sender configs texts structs stamp drawings readme_check readme_send
 TESTS = $(addprefix target/tests/,$(PROGRAMS) vbvreport)
 SANITIZED_TOOLS = $(addprefix target/sanitized/,$(notdir $(TOOLS)) fuzz-vbvreport fuzz-cbrsend)
 SANITIZED = $(SANITIZED_TOOLS) $(addprefix target/sanitized/,$(PROGRAMS))
@@ -74,7 +75,7 @@ PREFIX = /usr/local
 TO = $(DESTDIR)$(PREFIX)
 OWN_FOLDERS = share/hipokuta share/doc/hipokuta
 FOLDERS = bin lib lib/pkgconfig include share/man/man1 share/man/man3 $(OWN_FOLDERS)
-ENTRIES = vbv_check vbv_report vbv_patch_delay cbr_create cbr_offer cbr_withdraw vbv_refusal_name vbv_refusal_text
+ENTRIES = vbv_check vbv_report vbv_patch_delay cbr_create cbr_create_config cbr_offer cbr_withdraw vbv_refusal_name vbv_refusal_text
 bin = $(TOOLS)
 lib = $(LIB)
 lib/pkgconfig = target/hipokuta.pc

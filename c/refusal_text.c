@@ -64,6 +64,7 @@ static const struct {
 OF_BYTES(vbv_report, VBV_REPORT_BYTES);
 OF_BYTES(vbv_record, VBV_RECORD_BYTES);
 OF_BYTES(vbv_refusal, VBV_REFUSAL_BYTES);
+OF_BYTES(cbr_config, CBR_CONFIG_BYTES);
 OF_BYTES(cbr_state, CBR_STATE_BYTES);
 OF_BYTES(cbr_answer, CBR_ANSWER_BYTES);
 

@@ -1,7 +1,7 @@
 /* Hipokuta: the buffer model of ISO/IEC 13818-2, Annex C, at a constant rate, proved: the check of an MPEG stream, and the
  * writer of an MPEG-2 one.
  *
- * A program links the archive, libhipokuta.a, and lends each call its bytes. The structs below lie over the places that a call
+ * A program links the archive, libhipokuta.a, and lends each call its bytes. The structs below lie over what a call reads or
  * writes: numbers are 64-bit words, low byte first (LAYOUT.md). Pointers need no alignment. A null pointer may stand with the
  * length 0, and with no other. What a call may write must not overlap anything else that the same call is lent. Nothing is kept
  * between calls but what the caller holds, no memory is allocated, and calls may run at the same time on different memory.
@@ -18,7 +18,7 @@
 extern "C" {
 #endif
 
-#define HIPOKUTA_VERSION "2.0"
+#define HIPOKUTA_VERSION "2.1"
 
 #define VBV_MPEG1 1
 #define VBV_MPEG2 2
@@ -36,7 +36,7 @@ enum {
     VBV_OVERFLOW = 9,        /* the buffer overflows */
     VBV_UNDERFLOW = 10,      /* a picture is not yet all delivered at its removal */
     VBV_DELAY_MISMATCH = 11, /* coded and expected delay are more than a tick apart */
-    VBV_PARAMETER = 12,      /* a parameter out of range, a buffer of above 65,534 ticks, or state bytes that hold no writer */
+    VBV_PARAMETER = 12,      /* a value out of range, a buffer of above 65,534 ticks, bytes that hold no state or no config */
     VBV_TOO_FAR = 14,        /* the stream passes 2^48 bits */
     VBV_RECORD_PLACES = 15,  /* fewer record places than pictures */
     CBR_OTHER_KIND = 17,     /* another kind is pending, or the last picture was placed */
@@ -88,6 +88,9 @@ struct vbv_refusal {
  * Refused: refusal holds a struct vbv_refusal; report and records are untouched.
  * Bytes of a place after what is written stay as they were.
  *
+ * Pictures are removed at the frame rate of the first sequence header: its code's, in MPEG-2 times (n + 1) / (d + 1), n and d
+ * being frame_rate_extension_n and _d of its sequence extension.
+ *
  * standard is VBV_MPEG1 or VBV_MPEG2, else 12. There are records_len / VBV_RECORD_BYTES record places; fewer than pictures is
  * 15: vbv_report, which takes none, tells in pictures how many are needed. A report_len under VBV_REPORT_BYTES or a refusal_len
  * under VBV_REFUSAL_BYTES is 19, before anything else; a refusal place that is too short is untouched.
@@ -112,13 +115,26 @@ uint64_t vbv_patch_delay(uint8_t *picture, size_t picture_len, uint16_t vbv_dela
 
 /* ---- the writer ---- */
 
-/* Bytes of a writer's state, and of the answer to an offer, and the structs that lie over them. A program may copy a state and
- * go on from the copy; it reads the words, and writes none. */
+/* Bytes of what a writer is created with, of its state, and of the answer to an offer, and the structs that lie over them. A
+ * program may copy a state and go on from the copy; it reads the words, and writes none. */
+#define CBR_CONFIG_BYTES 72
 #define CBR_STATE_BYTES 152
 #define CBR_ANSWER_BYTES 72
 
+struct cbr_config {
+    uint64_t mode;                   /* VBV_MPEG2; there is no other yet */
+    uint64_t bit_rate_value;         /* the rate in units of CBR_RATE_UNIT: 1 to CBR_MOST_RATE */
+    uint64_t vbv_buffer_size_value;  /* the buffer in units of CBR_BUFFER_UNIT: 1 to CBR_MOST_BUFFER */
+    uint64_t frame_rate_code;        /* 1 to 8: 24000/1001, 24, 25, 30000/1001, 30, 50, 60000/1001, 60 frames a second, */
+    uint64_t frame_rate_extension_n; /* 0 to 3: times this + 1, */
+    uint64_t frame_rate_extension_d; /* 0 to 31: divided by this + 1 */
+    uint64_t quantiser;              /* 1 to 31: where all kinds start */
+    uint64_t b_between;              /* 0 to 15, and */
+    uint64_t anchors_per_gop;        /* 1 to 255: see cbr_create */
+};
+
 struct cbr_state {
-    uint64_t bit_rate, buffer_size_bits, frn, frd; /* frn / frd frames a second */
+    uint64_t bit_rate, buffer_size_bits, frn, frd; /* frn / frd frames a second, not reduced */
     uint64_t whole, rest;    /* bits delivered at the next removal, and the part of a bit above them */
     uint64_t prev_end_bits;  /* handed out so far, stuffing too */
     uint64_t removed;        /* pictures placed so far */
@@ -166,11 +182,21 @@ struct cbr_answer {
  * CBR_MOST_BUFFER) times CBR_BUFFER_UNIT bits. quantiser (1 to 31) is where all kinds start; quantisers are values of
  * quantiser_scale_code. b_between (0 to 15) and anchors_per_gop (1 to 255) set the targets that the quantisers are steered by,
  * and nothing else: a group is taken to have one I picture, anchors_per_gop P pictures (the I picture is not counted), and
- * b_between B pictures before each of these.
+ * b_between B pictures before each of these. The frame rate is the code's, which cbr_create_config may multiply and divide.
  */
 uint64_t cbr_create(uint32_t bit_rate_value, uint16_t vbv_buffer_size_value, uint8_t frame_rate_code, uint8_t quantiser,
                     uint8_t b_between, uint8_t anchors_per_gop,
                     void *state, size_t state_len);
+
+/* The same by the words of a struct cbr_config, with frame_rate_extension_n and _d: code 1 with n 1 and d 4 is 24000/1001 x 2/5
+ * frames a second. cbr_create is this with VBV_MPEG2 and both 0. Set every word, by = { .. } say; bytes of config after the
+ * struct's are not read.
+ *
+ * In this order: 12 where config_len is under CBR_CONFIG_BYTES, 19 where state_len is under CBR_STATE_BYTES, 12 where mode is
+ * none, 12 where a word is out of the range that stands beside it, the code's apart, then 6 where that is, then 12 where the
+ * buffer lasts too long. No word is cut: all its 64 bits are tested. A refusal leaves state untouched.
+ */
+uint64_t cbr_create_config(const void *config, size_t config_len, void *state, size_t state_len);
 
 /* Offers a picture. Returns 0, or the number of the refusal; answer holds a struct cbr_answer, unused words 0.
  *
@@ -188,8 +214,8 @@ uint64_t cbr_create(uint32_t bit_rate_value, uint16_t vbv_buffer_size_value, uin
  * headers, to stand before the picture, fit if they are none, or begin 00 00 01 and hold no start codes but B2 (user data), B3
  * (sequence header), B5 (extension) and B8 (group), and do not end 00 00 01. Until a picture is placed each offer's headers
  * begin with B3, the only one, and its sequence extension follows at the next start code; both are well formed and agree with
- * the creation: the rate, buffer and frame rate that they say are the writer's, the frame rate extensions 0. After that no
- * headers hold B3. Anything else is 18.
+ * the creation: the rate and buffer that they say are the writer's, and the frame rate has the writer's value, by whatever
+ * code, n and d (25 is code 3, and code 6 with d 1 too). After that no headers hold B3. Anything else is 18.
  *
  * layer fits if it is one MPEG-2 picture from its start code to the end of its slices: 00 at byte 0 and nowhere else, next the
  * picture coding extension, then any of B5 and B2, then slices (01 to AF), at least one, and nothing after them; it does not

@@ -24,7 +24,7 @@ static const char *changed(const struct declared *a, const struct declared *b, c
 {
     const char *names[] = { a->bit_rate != b->bit_rate ? "rate" : NULL, a->buffer_bits != b->buffer_bits ? "buffer" : NULL,
                             a->width != b->width || a->height != b->height ? "size" : NULL,
-                            a->rate_code != b->rate_code || a->rate_extensions != b->rate_extensions ? "frame rate" : NULL };
+                            a->rate_over != b->rate_over || a->rate_under != b->rate_under ? "frame rate" : NULL };
     size_t length = 0;
     for (size_t i = 0; i < sizeof names / sizeof *names; i++)
         if (names[i] != NULL && length < room)
@@ -63,9 +63,6 @@ static void of_pictures(const struct answer *a, struct cautions *c)
     if (l->repeats > 0)
         add(c, "repeated fields", "Pictures that repeat a field: %zu of %zu. This check does not read that: a set removes pictures "
             "later than here, and its buffer may overflow.", l->repeats, l->pictures);
-    if (a->declared.rate_extensions != 0)
-        add(c, "frame rate extensions", "The frame rate extensions are not 0; this check does not read them, so that its times "
-            "are not the set's.");
 }
 
 /* Bytes that the header at the stream's end must have at least; 0 for a code that is none. */
@@ -140,7 +137,7 @@ static void of_standard(const struct input *in, uint8_t standard, struct caution
 
 int spoils_model(const struct answer *a)
 {
-    return a->look.repeats > 0 || a->declared.rate_extensions != 0;
+    return a->look.repeats > 0;
 }
 
 void find_cautions(const struct input *in, uint8_t standard, const struct answer *a, struct cautions *c)

@@ -20,6 +20,11 @@ struct walk {
     struct shown *of;
 };
 
+/* Frames a second by frame_rate_code (Table 6-4), as numerator and denominator. */
+static const struct {
+    uint64_t over, under;
+} rates[] = { { 0, 0 }, { 24000, 1001 }, { 24, 1 }, { 25, 1 }, { 30000, 1001 }, { 30, 1 }, { 50, 1 }, { 60000, 1001 }, { 60, 1 } };
+
 /* A sequence header's rate is in units of 400 bits a second, its buffer in units of 16,384 bits. */
 enum { RATE_UNIT = CBR_RATE_UNIT, BUFFER_UNIT = CBR_BUFFER_UNIT };
 
@@ -88,8 +93,8 @@ static void end_picture(struct walk *w, size_t end)
 
 static int same_declared(struct declared a, struct declared b)
 {
-    return a.width == b.width && a.height == b.height && a.rate_code == b.rate_code && a.bit_rate == b.bit_rate &&
-           a.buffer_bits == b.buffer_bits && a.rate_extensions == b.rate_extensions;
+    return a.width == b.width && a.height == b.height && a.rate_over == b.rate_over && a.rate_under == b.rate_under &&
+           a.bit_rate == b.bit_rate && a.buffer_bits == b.buffer_bits;
 }
 
 static void take_sequence(struct walk *w, size_t at)
@@ -154,10 +159,26 @@ size_t sequence_length(const struct stream *s, size_t sequence, uint8_t standard
     return end < header.length ? end : header.length;
 }
 
+/* The frame rate: the code's times (n + 1) / (d + 1), in lowest terms. */
+static void set_rate(struct declared *d)
+{
+    if (d->rate_code == 0 || d->rate_code >= sizeof rates / sizeof *rates)
+        return;
+    uint64_t over = rates[d->rate_code].over * (d->rate_n + 1), under = rates[d->rate_code].under * (d->rate_d + 1);
+    uint64_t divisor = over;
+    for (uint64_t rest = under; rest != 0;) {
+        uint64_t next = divisor % rest;
+        divisor = rest;
+        rest = next;
+    }
+    d->rate_over = over / divisor;
+    d->rate_under = under / divisor;
+}
+
 struct declared declared_at(const struct stream *s, size_t sequence, uint8_t standard)
 {
     struct stream h = part(s, sequence, s->length);
-    struct declared d = { field_value(&h, WIDTH), field_value(&h, HEIGHT), field_value(&h, FRAME_RATE_CODE), 0,
+    struct declared d = { field_value(&h, WIDTH), field_value(&h, HEIGHT), field_value(&h, FRAME_RATE_CODE), 0, 0, 0, 0,
                           field_value(&h, BIT_RATE), field_value(&h, VBV_BUFFER_SIZE) };
     size_t length = sequence_length(s, sequence, VBV_MPEG1), at = prefix_after(&h, length);
     struct stream x = part(&h, at, h.length);
@@ -166,8 +187,10 @@ struct declared declared_at(const struct stream *s, size_t sequence, uint8_t sta
         d.height |= field_value(&x, HEIGHT_EXTENSION) << 12;
         d.bit_rate |= (uint64_t)field_value(&x, BIT_RATE_EXTENSION) << 18;
         d.buffer_bits |= (uint64_t)field_value(&x, VBV_BUFFER_SIZE_EXTENSION) << 10;
-        d.rate_extensions = field_value(&x, FRAME_RATE_EXTENSIONS);
+        d.rate_n = field_value(&x, FRAME_RATE_N);
+        d.rate_d = field_value(&x, FRAME_RATE_D);
     }
+    set_rate(&d);
     d.bit_rate *= RATE_UNIT;
     d.buffer_bits *= BUFFER_UNIT;
     return d;

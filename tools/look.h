@@ -29,10 +29,11 @@ struct look {
 /* Looks at a stream; where `of` is not NULL it takes the pictures, as many as an earlier look has counted. */
 void look(const struct stream *s, uint8_t standard, struct look *l, struct shown *of);
 
-/* What a sequence header and its extension declare. */
+/* What a sequence header and its extension declare. Frames a second are rate_over / rate_under in lowest terms, by the code and
+ * its extensions n and d, which are 0 in MPEG-1; both are 0 for a code that is none. */
 struct declared {
-    uint32_t width, height, rate_code, rate_extensions;
-    uint64_t bit_rate, buffer_bits;
+    uint32_t width, height, rate_code, rate_n, rate_d;
+    uint64_t rate_over, rate_under, bit_rate, buffer_bits;
 };
 struct declared declared_at(const struct stream *s, size_t sequence, uint8_t standard);
 

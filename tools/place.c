@@ -12,20 +12,6 @@ enum { BYTE = 8, TICKS = 90000, HALF_TICKS = 180000 };
 
 static const struct field DELAY = { 45, 16 };
 
-static const struct {
-    uint64_t over, under;
-} rates[] = { { 0, 0 }, { 24000, 1001 }, { 24, 1 }, { 25, 1 }, { 30000, 1001 }, { 30, 1 }, { 50, 1 }, { 60000, 1001 }, { 60, 1 } };
-
-uint64_t rate_over(uint32_t code)
-{
-    return code < sizeof rates / sizeof *rates ? rates[code].over : 0;
-}
-
-uint64_t rate_under(uint32_t code)
-{
-    return code < sizeof rates / sizeof *rates ? rates[code].under : 0;
-}
-
 /* What a question is about. */
 struct question {
     const struct stream *s;
@@ -189,7 +175,7 @@ static struct bits missing(struct bits a, uint64_t whole)
 /* Bits delivered at a picture's removal, with so many field periods since the first one's: exact. */
 static struct bits delivered_after(const struct answer *a, uint64_t delay, uint64_t periods)
 {
-    uint64_t over = rate_over(a->declared.rate_code), under = rate_under(a->declared.rate_code), rate = a->declared.bit_rate;
+    uint64_t over = a->declared.rate_over, under = a->declared.rate_under, rate = a->declared.bit_rate;
     uint64_t first = delay * rate, field = rate * under, parts = HALF_TICKS * over;
     uint64_t rest = periods * (field % (2 * over));
     struct bits b = { BYTE * (a->shown[0].at + CODE_BYTES) + first / TICKS + periods * (field / (2 * over)), 0, parts };
@@ -353,6 +339,14 @@ void forget(struct answer *a)
     free(a->records);
     a->shown = NULL;
     a->records = NULL;
+}
+
+const char *frame_rate(const struct declared *d, char *text)
+{
+    int length = snprintf(text, TEXT, "%" PRIu64, d->rate_over);
+    if (d->rate_under > 1)
+        snprintf(text + length, TEXT - (size_t)length, "/%" PRIu64, d->rate_under);
+    return text;
 }
 
 const char *tenths(struct bits b, char *text)

@@ -40,10 +40,6 @@ struct answer {
 int ask(const struct stream *s, uint8_t standard, int records, struct answer *a);
 void forget(struct answer *a);
 
-/* Frames a second as numerator and denominator; 0 for a code that is none. */
-uint64_t rate_over(uint32_t code);
-uint64_t rate_under(uint32_t code);
-
 /* The times of an answer's pictures, by its records, one after the other; begins with { a, 0, 0 }. */
 struct times {
     const struct answer *a;
@@ -58,8 +54,11 @@ int tells_delays(const struct answer *a);
 /* From the last picture's end to this one's, in bits. */
 uint64_t data_bits(const struct answer *a, size_t picture);
 
-/* Bits as a number with tenths, and a time in bits at a rate as mm:ss.mmm; both into `text`, which is returned. */
+/* Frames a second: "25", "30000/1001"; into `text`, which is returned. */
 enum { TEXT = 48 };
+const char *frame_rate(const struct declared *d, char *text);
+
+/* Bits as a number with tenths, and a time in bits at a rate as mm:ss.mmm; both into `text`, which is returned. */
 const char *tenths(struct bits b, char *text);
 const char *clock_time(struct bits at, uint64_t bit_rate, char *text);
 double in_seconds(struct bits at, uint64_t bit_rate);

@@ -88,13 +88,26 @@ static void declare(struct source *in, struct setting at)
     }
 }
 
+/* Frames a second, as a sequence header and its extension say them. */
+struct frame_rate {
+    uint32_t code, n, d;
+};
+
 /* Nothing can be encoded again here, so steering does not matter: any quantiser and targets will do. */
+static uint64_t create_writer(struct setting at, struct frame_rate rate, struct cbr_state *w)
+{
+    struct cbr_config config = { VBV_MPEG2, at.rate, at.buffer, rate.code, rate.n, rate.d, 31, 2, 5 };
+    return cbr_create_config(&config, sizeof config, w, sizeof *w);
+}
+
 static uint64_t create(struct source *in, struct setting at, struct cbr_state *w)
 {
     struct stream header = kept(in, in->header, SEQUENCE_BYTES);
-    uint16_t buffer = at.buffer > UINT16_MAX ? UINT16_MAX : (uint16_t)at.buffer;
+    struct stream extension = kept(in, in->extension, in->pictures.headers_length - in->extension);
+    struct frame_rate rate = { field_value(&header, FRAME_RATE_CODE), field_value(&extension, FRAME_RATE_N),
+                               field_value(&extension, FRAME_RATE_D) };
     declare(in, at);
-    return cbr_create(at.rate, buffer, (uint8_t)field_value(&header, FRAME_RATE_CODE), 31, 2, 5, w, sizeof *w);
+    return create_writer(at, rate, w);
 }
 
 /* By the structure that the picture coding extension tells. */
@@ -188,8 +201,8 @@ struct sending send_first(struct source *in)
 uint32_t most_buffer(uint32_t rate)
 {
     struct cbr_state w;
-    uint16_t buffer = CBR_MOST_BUFFER;
-    while (buffer > 0 && cbr_create(rate, buffer, 3, 31, 2, 5, &w, sizeof w) != 0)
+    uint32_t buffer = CBR_MOST_BUFFER;
+    while (buffer > 0 && create_writer((struct setting){ rate, buffer }, (struct frame_rate){ 3, 0, 0 }, &w) != 0)
         buffer--;
     return buffer;
 }

@@ -11,7 +11,7 @@
 
 const struct field FRAME_RATE_CODE = { 60, 4 }, BIT_RATE = { 64, 18 }, VBV_BUFFER_SIZE = { 83, 10 };
 const struct field EXTENSION_ID = { 32, 4 }, BIT_RATE_EXTENSION = { 51, 12 }, VBV_BUFFER_SIZE_EXTENSION = { 64, 8 },
-                   FRAME_RATE_EXTENSIONS = { 73, 7 };
+                   FRAME_RATE_N = { 73, 2 }, FRAME_RATE_D = { 75, 5 };
 const struct field PICTURE_CODING_TYPE = { 42, 3 }, FORWARD_VECTORS = { 61, 4 }, BACKWARD_VECTORS = { 65, 4 };
 const struct field PICTURE_STRUCTURE = { 54, 2 }, REPEAT_FIRST_FIELD = { 62, 1 };
 

@@ -30,7 +30,7 @@ struct field {
     size_t at, width;
 };
 extern const struct field FRAME_RATE_CODE, BIT_RATE, VBV_BUFFER_SIZE;
-extern const struct field EXTENSION_ID, BIT_RATE_EXTENSION, VBV_BUFFER_SIZE_EXTENSION, FRAME_RATE_EXTENSIONS;
+extern const struct field EXTENSION_ID, BIT_RATE_EXTENSION, VBV_BUFFER_SIZE_EXTENSION, FRAME_RATE_N, FRAME_RATE_D;
 extern const struct field PICTURE_CODING_TYPE, FORWARD_VECTORS, BACKWARD_VECTORS;
 extern const struct field PICTURE_STRUCTURE, REPEAT_FIRST_FIELD;
 

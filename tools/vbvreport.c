@@ -12,7 +12,6 @@
 
 #include <errno.h>
 #include <getopt.h>
-#include <inttypes.h>
 #include <signal.h>
 #include <stdio.h>
 #include <stdlib.h>
@@ -148,14 +147,10 @@ static int draw_to(FILE *file, const struct told *t, const struct options *o)
     char rate[TEXT], mark[300];
     struct removal *of = calloc(a->recorded + 1, sizeof *of);
     struct drawing d = { .name = t->name, .verdict = verdict_words(t), .bit_rate = a->declared.bit_rate,
-                         .buffer_bits = a->declared.buffer_bits, .frame_rate = rate, .of = of, .count = a->recorded,
+                         .buffer_bits = a->declared.buffer_bits, .frame_rate = frame_rate(&a->declared, rate), .of = of, .count = a->recorded,
                          .from = o->from, .to = o->to >= 0 ? o->to : o->from > 0 ? LAST_SECOND : 0 };
     if (of == NULL)
         return trouble(o->picture, "no memory for the drawing");
-    if (rate_under(a->declared.rate_code) > 1)
-        snprintf(rate, sizeof rate, "%" PRIu64 "/%" PRIu64, rate_over(a->declared.rate_code), rate_under(a->declared.rate_code));
-    else
-        snprintf(rate, sizeof rate, "%" PRIu64, rate_over(a->declared.rate_code));
     fill_removals(a, of);
     if (a->number != 0 && bad_removal(a, &d.bad))
         d.mark = mark_words(a, &d.bad, mark, sizeof mark);

@@ -40,9 +40,6 @@ static const char *why_first_headers(const struct stream *headers)
     if (extension.length == 0)
         return "No sequence extension follows the sequence header: this is MPEG-1, and only MPEG-2 is sent. vbvreport\n"
                "  checks MPEG-1 too; encode it as MPEG-2 to send it.";
-    if (field_value(&extension, FRAME_RATE_EXTENSIONS) != 0)
-        return "The frame rate extensions are not 0, so that the frame rate is none of the table's eight. Encode it at one of\n"
-               "  these.";
     return "The sequence header or its extension breaks a rule of the standard, or a second one differs. Encode it again, or\n"
            "  cut IN where the second one stands.";
 }

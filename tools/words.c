@@ -63,6 +63,15 @@ static void print_picture(const struct told *t)
     printf("\n");
 }
 
+/* What pictures are due by, where the header's code alone does not say it. */
+static void print_frame_rate(const struct declared *d)
+{
+    char rate[TEXT];
+    if (d->rate_n != 0 || d->rate_d != 0)
+        printf("  frames a second: %s (frame rate code %" PRIu32 ", extensions n %" PRIu32 ", d %" PRIu32 ")\n", frame_rate(d, rate),
+               d->rate_code, d->rate_n, d->rate_d);
+}
+
 /* A sequence header or its extension, and what it declares where that is refused. */
 static void print_sequence(const struct told *t)
 {
@@ -114,6 +123,8 @@ static void print_refusal(const struct told *t)
         print_picture(t);
     else if (a->place.header != NULL)
         print_sequence(t);
+    if (a->number >= VBV_EARLY && a->number <= VBV_DELAY_MISMATCH)
+        print_frame_rate(&a->declared);
     printf("  %s\n", vbv_refusal_text(a->number));
     if (a->number == VBV_VARIABLE_RATE)
         print_remedy(t);

@@ -49,21 +49,52 @@ uint64_t create(const struct config *c, uint8_t *state, size_t length)
     return cbr_create(c->rate, c->buffer, c->code, c->quantiser, c->between, c->anchors, state, length);
 }
 
-struct channel *open_channel(const struct config *config)
+void say_frame_rate(struct channel *c, unsigned code, unsigned n, unsigned d)
+{
+    const uint64_t *rate = frame_rates[code <= 8 ? code : 0];
+    c->headers[7] = (uint8_t)(0x10 | code);
+    c->headers[21] = (uint8_t)(n << 5 | d);
+    c->declared[FRN] = rate[0] * (n + 1);
+    c->declared[FRD] = rate[1] * (d + 1);
+}
+
+/* A channel of the writer in these bytes, with first headers that say what it was created with. */
+static struct channel *channel_of(const uint8_t *state, const uint64_t *words)
 {
     struct channel *c = calloc(1, sizeof *c);
     if (c == NULL)
         exit(2);
-    uint8_t *state = memory(CBR_STATE_BYTES);
-    answered("a new writer", create(config, state, CBR_STATE_BYTES), 0);
     words_of(state, c->state, STATE_WORDS);
-    memcpy(c->declared, c->state, sizeof c->declared);
-    free(state);
     fill(c->headers, SEQUENCE EXTENSION GROUP "000001B2");
-    uint32_t fields = config->rate << 14 | 1 << 13 | (uint32_t)config->buffer << 3;
-    c->headers[7] = (uint8_t)(0x10 | config->code);
+    uint32_t fields = (uint32_t)words[WANTED_RATE] << 14 | 1 << 13 | (uint32_t)words[WANTED_BUFFER] << 3;
     for (int i = 0; i < 4; i++)
         c->headers[8 + i] = (uint8_t)(fields >> (24 - 8 * i));
+    c->declared[RATE] = 400 * words[WANTED_RATE];
+    c->declared[BUFFER] = 16384 * words[WANTED_BUFFER];
+    say_frame_rate(c, (unsigned)words[WANTED_CODE], (unsigned)words[WANTED_N], (unsigned)words[WANTED_D]);
+    return c;
+}
+
+struct channel *open_channel(const struct config *config)
+{
+    uint64_t words[CONFIG_WORDS] = { 2, config->rate, config->buffer, config->code, 0, 0 };
+    uint8_t *state = memory(CBR_STATE_BYTES);
+    answered("a new writer", create(config, state, CBR_STATE_BYTES), 0);
+    struct channel *c = channel_of(state, words);
+    free(state);
+    return c;
+}
+
+struct channel *open_configured(const uint64_t *words)
+{
+    uint8_t *state = memory(CBR_STATE_BYTES);
+    struct place config = lend(CBR_CONFIG_BYTES);
+    expect_words(&config, words, CONFIG_WORDS);
+    memcpy(config.bytes, config.expected, CBR_CONFIG_BYTES);
+    answered("a new writer", cbr_create_config(config.bytes, CBR_CONFIG_BYTES, state, CBR_STATE_BYTES), 0);
+    take_back(&config, "a new writer", "the configuration has changed");
+    struct channel *c = channel_of(state, words);
+    free(state);
     return c;
 }
 

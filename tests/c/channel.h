@@ -34,8 +34,12 @@ void is(const char *name, uint64_t value, uint64_t expected);
 
 uint64_t create(const struct config *c, uint8_t *state, size_t length);
 
-/* A new writer, with nothing sent; to be freed. */
+/* A new writer, with nothing sent; to be freed. By cbr_create, and by the words of a configuration. */
 struct channel *open_channel(const struct config *config);
+struct channel *open_configured(const uint64_t *words);
+
+/* Gives the first headers a frame rate: its code, 0 to 15, its n and d. */
+void say_frame_rate(struct channel *c, unsigned code, unsigned n, unsigned d);
 
 /* An offer of a layer of that length, with the headers that the channel's next picture needs, and room enough. */
 struct offer picture(const struct channel *c, uint8_t kind, uint8_t interval, size_t length);

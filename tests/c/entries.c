@@ -15,17 +15,28 @@ enum { MOST_PICTURES = 3, RECORDS = VBV_RECORD_BYTES * MOST_PICTURES };
 /* 182,400 bits a second and a buffer of 131,072 bits, 64,673 ticks; 22,800 bits a second and 16,384 bits. */
 #define SLOW "000001B30100101300722040"
 #define SLOWEST "000001B301001013000E6008"
+/* MPEG-2's extension with n and d: 1 and 0, 0 and 1, 1 and 1, 3 and 31; and 50 frames. */
+#define N1 "000001B5148200010020"
+#define D1 "000001B5148200010001"
+#define N1_D1 "000001B5148200010021"
+#define N3_D31 "000001B514820001007F"
+#define FIFTY_FRAMES "000001B301001016027120A0"
 /* Picture headers of I pictures, by their delay. */
 #define I_0 "0000010000080000"
 #define I_400 "0000010000080C80"
 #define I_23901 "00000100000AEAE8"
 #define I_25701 "00000100000B2328"
 #define I_25708 "00000100000B2360"
+#define I_25703 "00000100000B2338"
 #define I_27485 "00000100000B5AE8"
+#define I_29301 "00000100000B93A8"
 #define I_30000 "00000100000BA980"
+#define I_50901 "00000100000E36A8"
 #define I_64000 "00000100000FD000"
 /* A frame with repeat_first_field 1. */
 #define REPEATED "000001B58FFFF34380" SLICE
+/* A frame with a slice of no bytes. */
+#define BARE "000001B58FFFF34180" "00000101"
 #define TEN "40404040404040404040"
 #define FIFTY TEN TEN TEN TEN TEN
 #define USER_DATA "000001B2" FIFTY FIFTY FIFTY FIFTY
@@ -37,7 +48,8 @@ struct known {
     uint64_t refusal[REFUSAL_WORDS], report[REPORT_WORDS], records[RECORD_WORDS * MOST_PICTURES];
 };
 
-/* The answers are the original Rust's; the periods, each record's fifth word, are not in it. */
+/* The answers are the original Rust's; the periods, each record's fifth word, are not in it, and it does not read n and d: those
+ * answers are worked out by hand. */
 static const struct known accepted[] = {
     { "the paper's stream", SEQUENCE EXTENSION GROUP I_22118 FRAME "000001B7", 2, { 0 },
       { 1000000, 327680, 1, 245571, 246027 }, { 22118, 22118, 456, 246027, 2 } },
@@ -50,6 +62,18 @@ static const struct known accepted[] = {
     { "a field, a frame, a field", SEQUENCE EXTENSION I_22118 TOP I_23901 FRAME I_27485 BOTTOM, 2, { 0 },
       { 1000000, 327680, 3, 245603, 305419 },
       { 22118, 22118, 360, 245963, 1, 23901, 23901, 184, 265603, 2, 27485, 27485, 184, 305419, 1 } },
+    { "50 frames by n", SEQUENCE N1 I_22118 FRAME I_23901 FRAME, 2, { 0 },
+      { 1000000, 327680, 2, 245603, 265603 }, { 22118, 22118, 360, 245963, 2, 23901, 23901, 184, 265603, 2 } },
+    { "12.5 frames by d", SEQUENCE D1 I_22118 FRAME I_29301 FRAME, 2, { 0 },
+      { 1000000, 327680, 2, 245603, 325603 }, { 22118, 22118, 360, 245963, 2, 29301, 29301, 184, 325603, 2 } },
+    { "fields of 12.5 frames", SEQUENCE D1 I_22118 TOP I_25701 BOTTOM, 2, { 0 },
+      { 1000000, 327680, 2, 245603, 285603 }, { 22118, 22118, 360, 245963, 1, 25701, 25701, 184, 285603, 1 } },
+    { "25 frames as 25 x 2 / 2", SEQUENCE N1_D1 I_22118 FRAME I_25701 FRAME, 2, { 0 },
+      { 1000000, 327680, 2, 245603, 285603 }, { 22118, 22118, 360, 245963, 2, 25701, 25701, 184, 285603, 2 } },
+    { "25 frames as 50 / 2", FIFTY_FRAMES D1 I_22118 FRAME I_25701 FRAME, 2, { 0 },
+      { 1000000, 327680, 2, 245603, 285603 }, { 22118, 22118, 360, 245963, 2, 25701, 25701, 184, 285603, 2 } },
+    { "MPEG-2's extensions as MPEG-1", SEQUENCE N3_D31 I_22118 FRAME I_25701 FRAME, 1, { 0 },
+      { 1000000, 327680, 2, 245603, 285603 }, { 22118, 22118, 360, 245963, 2, 25701, 25701, 184, 285603, 2 } },
     { "MPEG-1", SEQUENCE I_22118 SLICE I_25708 SLICE, 1, { 0 },
       { 1000000, 327680, 2, 245675, 285675 }, { 22118, 22118, 208, 245883, 2, 25708, 25708, 112, 285675, 2 } },
     { "MPEG-2's fields as MPEG-1", SEQUENCE EXTENSION I_22118 TOP I_25701 BOTTOM, 1, { 0 },
@@ -73,6 +97,11 @@ static const struct known refused[] = {
     { "underflow", SEQUENCE EXTENSION I_0 FRAME, 2, { 10, 0, 0, 0 }, { 0 }, { 0 } },
     { "a field after which the delay is that of a frame", SEQUENCE EXTENSION I_22118 TOP I_25701 BOTTOM, 2, { 11, 1, 25701, 23901 },
       { 0 }, { 0 } },
+    { "a delay that is right without n", SEQUENCE N1 I_22118 BARE I_25703 BARE, 2, { 11, 1, 25703, 23903 }, { 0 }, { 0 } },
+    { "a delay that is right without d", SEQUENCE D1 I_22118 FRAME I_25701 FRAME, 2, { 11, 1, 25701, 29301 }, { 0 }, { 0 } },
+    { "a rate code 9 with extensions", "000001B301001019027120A0" N3_D31 I_22118 FRAME, 2, { 6 }, { 0 }, { 0 } },
+    { "a frame that brings more than the buffer", SEQUENCE N3_D31 I_22118 FRAME I_50901 FRAME, 2, { 9, 1, 50901, 50901 }, { 0 },
+      { 0 } },
     { "delay mismatch", SEQUENCE EXTENSION I_22118 FRAME I_22118 FRAME, 2, { 11, 1, 22118, 25701 }, { 0 }, { 0 } },
     { "a buffer of zero", "000001B30100101302712000" EXTENSION I_22118 FRAME, 2, { 12 }, { 0 }, { 0 } },
     { "22,400 bits a second, buffer 16,384", "000001B301001013000E2008" I_0 SLICE, 1, { 12 }, { 0 }, { 0 } },

@@ -1,4 +1,5 @@
-// hipokuta.h in C++: a picture is sent, its delay written anew, and the stream checked. Exit status 1: another answer.
+// hipokuta.h in C++: a picture is sent, its delay written anew, and the stream checked; a writer by its configuration. Exit status
+// 1: another answer.
 #include "hipokuta.h"
 
 #include <cstring>
@@ -10,12 +11,16 @@ static uint8_t out[CBR_BUFFER_UNIT / 8 * 20];
 
 int main()
 {
-    struct cbr_state state;
+    struct cbr_state state, half;
+    struct cbr_config config = { VBV_MPEG2, 2500, 20, 6, 0, 1, 2, 0, 11 }; // 50 / 2
     struct cbr_answer answer;
     struct vbv_report report;
     struct vbv_record record;
     struct vbv_refusal refusal;
     uint64_t bad = cbr_create(2500, 20, 3, 2, 0, 11, &state, sizeof state);
+    bad |= cbr_create_config(&config, sizeof config, &half, sizeof half);
+    bad |= cbr_create_config(&config, CBR_CONFIG_BYTES - 1, &half, sizeof half) != VBV_PARAMETER;
+    bool halved = half.frn == 50 && half.frd == 2 && std::memcmp(half.target_bits, state.target_bits, sizeof half.target_bits) == 0;
     bad |= vbv_patch_delay(layer, sizeof layer, 0);
     bad |= cbr_offer(&state, sizeof state, headers, sizeof headers, CBR_I, CBR_FRAME, 1, layer, sizeof layer, out, sizeof out,
                      &answer, sizeof answer);
@@ -25,5 +30,5 @@ int main()
     bool words = std::strcmp(vbv_refusal_name(refusal.number), "no sequence header") == 0 && vbv_refusal_text(0) == nullptr;
     bool sent = answer.outcome == CBR_PLACED && state.removed == 1 && state.finished == 1 && state.q[CBR_I] == 1;
     bool same = answer.delay == record.delay && record.periods == 2 && report.pictures == 1 && report.buffer_bits == 327680;
-    return bad == 0 && words && sent && same ? 0 : 1;
+    return bad == 0 && halved && words && sent && same ? 0 : 1;
 }

@@ -4,6 +4,9 @@
 
 __extension__ typedef unsigned __int128 wide;
 
+const uint64_t frame_rates[9][2] = { { 0, 0 }, { 24000, 1001 }, { 24, 1 }, { 25, 1 }, { 30000, 1001 },
+                                     { 30, 1 }, { 50, 1 }, { 60000, 1001 }, { 60, 1 } };
+
 static int within(uint64_t low, uint64_t high, uint64_t value)
 {
     return low <= value && value <= high;
@@ -23,6 +26,32 @@ int rules_fit(const uint64_t *s)
         fits = fits && s[TARGETS + kind] <= FAR && within(1, 31, s[QUANTISERS + kind]);
     return fits && s[PENDING] <= 3 && s[FINISHED] <= 1
         && (s[PENDING] == 0 ? s[PENDING_Q] == 0 : within(1, 31, s[PENDING_Q]));
+}
+
+static int config_fits(const uint64_t *c)
+{
+    return within(1, 262143, c[WANTED_RATE]) && within(1, 1023, c[WANTED_BUFFER]) && c[WANTED_N] <= 3 && c[WANTED_D] <= 31
+        && within(1, 31, c[WANTED_QUANTISER]) && c[WANTED_BETWEEN] <= 15 && within(1, 255, c[WANTED_ANCHORS]);
+}
+
+uint64_t rules_create(const uint64_t *c, uint64_t *s)
+{
+    static const uint64_t weights[3] = { 40, 16, 9 };
+    if (c[WANTED_MODE] != 2 || !config_fits(c))
+        return 12;
+    if (!within(1, 8, c[WANTED_CODE]))
+        return 6;
+    memset(s, 0, 8 * STATE_WORDS);
+    s[RATE] = 400 * c[WANTED_RATE];
+    s[BUFFER] = 16384 * c[WANTED_BUFFER];
+    s[FRN] = frame_rates[c[WANTED_CODE]][0] * (c[WANTED_N] + 1);
+    s[FRD] = frame_rates[c[WANTED_CODE]][1] * (c[WANTED_D] + 1);
+    uint64_t p = c[WANTED_ANCHORS], b = p * c[WANTED_BETWEEN];
+    for (int kind = 0; kind < 3; kind++) {
+        s[TARGETS + kind] = s[RATE] * s[FRD] / s[FRN] * (1 + p + b) * weights[kind] / (40 + 16 * p + 9 * b);
+        s[QUANTISERS + kind] = c[WANTED_QUANTISER];
+    }
+    return 90000 * s[BUFFER] > 65534 * s[RATE] ? 12 : 0;
 }
 
 /* Bits from the stream's first; those delivered in units of 1 / (180,000 x frn) bit. */
@@ -46,7 +75,9 @@ static struct places places_of(const uint64_t *s, const struct offer *o)
 
 static int headers_fit(const uint64_t *s, const struct offer *o)
 {
-    return s[STARTED] ? o->are == PLAIN : o->are == FIRST && memcmp(s, o->declared, sizeof o->declared) == 0;
+    const uint64_t *h = o->declared;
+    int same = h[RATE] == s[RATE] && h[BUFFER] == s[BUFFER] && h[FRN] != 0 && h[FRN] * s[FRD] == s[FRN] * h[FRD];
+    return s[STARTED] ? o->are == PLAIN : o->are == FIRST && same;
 }
 
 /* The refusals before the size and after it; 0 where there is none. */

@@ -1,7 +1,7 @@
 /* The writer's rules in plain numbers of 128 bits, over the words of docs/LAYOUT.md, apart from the library's code: what a
  * call must answer and leave. Whether headers and layer are such as a writer takes is said by who made them.
  *
- * Here, in sender.c and in entries.c ranges, units, refusals by number and their order stand once more, and by figures where
+ * Here, in sender.c, configs.c and entries.c ranges, units, refusals by number and their order stand once more, and by figures where
  * the header has names: a test that took them from the library or its header would not see them change. */
 #ifndef RULES_H
 #define RULES_H
@@ -9,13 +9,18 @@
 #include <stddef.h>
 #include <stdint.h>
 
-/* The words of a state, and of an answer. */
+/* The words of a configuration, of a state, and of an answer. */
+enum { WANTED_MODE, WANTED_RATE, WANTED_BUFFER, WANTED_CODE, WANTED_N, WANTED_D, WANTED_QUANTISER, WANTED_BETWEEN, WANTED_ANCHORS,
+       CONFIG_WORDS };
 enum { RATE, BUFFER, FRN, FRD, WHOLE, REST, END, REMOVED, STARTED, TARGETS, QUANTISERS = 12, PENDING = 15, PENDING_Q,
        STUFFING, FINISHED, STATE_WORDS };
 enum { OUTCOME, NUMBER, PICTURE, CODED, EXPECTED, QUANTISER, DELAY, BYTES, ZEROS, ANSWER_WORDS };
 
 /* 2^48, the greatest end. */
 #define FAR ((uint64_t)1 << 48)
+
+/* Frames a second by frame_rate_code, as numerator and denominator; zeros for 0, which is none. */
+extern const uint64_t frame_rates[9][2];
 
 /* Headers that fit at no time, after the first picture, and before it. */
 enum headers { UNFIT, PLAIN, FIRST };
@@ -25,7 +30,7 @@ struct offer {
     const uint8_t *headers;
     size_t headers_length;
     enum headers are;
-    uint64_t declared[4]; /* by first headers: rate, buffer, frn, frd */
+    uint64_t declared[4]; /* by first headers: rate, buffer, frn, frd; the last two 0 where the code is none */
     uint8_t kind, interval, last;
     const uint8_t *layer;
     size_t layer_length;
@@ -40,6 +45,9 @@ struct told {
 
 /* Whether each value is in its range. */
 int rules_fit(const uint64_t *state);
+
+/* What a creation with these words must answer; where that is 0, state has the writer's words. */
+uint64_t rules_create(const uint64_t *config, uint64_t *state);
 
 struct told rules_offer(const uint64_t *state, const struct offer *o);
 

@@ -14,8 +14,6 @@ static const struct config film = { 2500, 20, 1, 10, 2, 4 };
 static const struct config fine = { 2500, 20, 3, 1, 2, 4 };
 static const struct config coarse = { 2500, 20, 3, 31, 2, 4 };
 static const struct config narrow = { 2500, 1, 3, 10, 2, 4 };
-static const uint64_t frame_rates[9][2] = { { 0, 0 }, { 24000, 1001 }, { 24, 1 }, { 25, 1 }, { 30000, 1001 },
-                                            { 30, 1 }, { 50, 1 }, { 60000, 1001 }, { 60, 1 } };
 
 /* ---- creation */
 
@@ -232,8 +230,10 @@ static const struct unfit headers[] = {
     { "another rate by the extension", SEQUENCE "000001B5148200030000", 0, 0 },
     { "another buffer", "000001B301001013027120A8" EXTENSION, 0, 0 },
     { "another frame rate", "000001B301001012027120A0" EXTENSION, 0, 0 },
-    { "a frame rate extension n", SEQUENCE "000001B5148200010020", 0, 0 },
-    { "a frame rate extension d", SEQUENCE "000001B5148200010001", 0, 0 },
+    { "another frame rate by its extension n", SEQUENCE "000001B5148200010020", 0, 0 },
+    { "another frame rate by its extension d", SEQUENCE "000001B5148200010001", 0, 0 },
+    { "no frame rate, code 9", "000001B301001019027120A0" EXTENSION, 0, 0 },
+    { "no frame rate, code 15 with extensions", "000001B30100101F027120A0" "000001B514820001007F", 0, 0 },
     { "a sequence header later", SEQUENCE EXTENSION, 1, 0 },
     { "a byte before the code", "00" GROUP, 1, 0 },
     { "no code", "40", 1, 0 },

@@ -1,4 +1,7 @@
-// Prints the figures of paper 01 that are not proved: the bytes of three headers, and an end that the model accepts.
+// Prints the figures of paper 01 that are not proved: the bytes of three headers, and an end that the model accepts; and those of
+// request 02.
+mod rates; // request 02
+
 use headers::Written;
 use headers::gop_header::Mpeg2Gop;
 use headers::gop_header::TimeCode;
@@ -147,4 +150,5 @@ fn main() {
     sequence_extension();
     group_header();
     model_end();
+    rates::print_rates();
 }

@@ -9,7 +9,7 @@ use native.Mathlib.Decide.{decLt}
 use native.Mathlib.Omega.{arith}
 use lib.Dec.{ltb}
 use lib.ListN.{length, getD, length-append}
-use borrow.Author.Tests.{ltb-false, lt-ltb, le-ltb, ne-eqb}
+use borrow.Author.Tests.{ltb-false, lt-ltb, le-ltb}
 use Rattle.bits.specs.Bits.{pick}
 use Rattle.bits.specs.Refusals.{Answer, value, refused, orElse, number}
 use Rattle.rate_control.specs.Create.{create}
@@ -27,6 +27,7 @@ use Rattle.layout.specs.State.{stateSize, stateBytes, stateFits, writerAt}
 use Rattle.layout.specs.Config.{configSize, modeFits, configIn}
 use Rattle.words.specs.Words.{wordsBytes, wordAt, laid}
 use Rattle.words.proofs.Bytes.{each-small, length-words, word-put}
+use Rattle.layout.proofs.Configured.{mode-unfit, config-is}
 use Rattle.layout.proofs.RoundTrip.{read-put, length-state}
 use Rattle.words.proofs.Laying.{laid-laid}
 use Rattle.hipokuta.specs.Send.{stateAfter, createIn, createWith, COffer, choicesFit, offerOf, reach, offerIn, offerState, offerOut, offerPlace, withdrawIn}
@@ -175,10 +176,10 @@ read-words c more b k h = word-put (each-small (configWords c) (λ j g. b j)) mo
 words-long : (c : CbrConfig) (more : List ℕ) → configSize ≤ length (wordsBytes (configWords c) ++ more)
 words-long c more = omega (arith, length-append (wordsBytes (configWords c)) more, length-words (configWords c))
 
-config-is : (c : CbrConfig) (more : List ℕ) → ((k : ℕ) → getD (configWords c) k 0 < 2 ^ 64) → configIn (wordsBytes (configWords c) ++ more) ≡ c
-unfolding configIn
-config-is c more b =
+config-read-back : (c : CbrConfig) (more : List ℕ) → ((k : ℕ) → getD (configWords c) k 0 < 2 ^ 64) → configIn (wordsBytes (configWords c) ++ more) ≡ c
+config-read-back c more b =
     rw (
+      config-is (wordsBytes (configWords c) ++ more),
       read-words c more b 1 (omega arith),
       read-words c more b 2 (omega arith),
       read-words c more b 3 (omega arith),
@@ -195,11 +196,11 @@ as-create c more place b = go (decLt (length place) stateSize)
   where
     go : Dec (length place < stateSize) → createWith (wordsBytes (configWords c) ++ more) place ≡ createIn c place
     go (yes h) = no-room-with _ place (words-long c more) h ∙ sym (no-room c place h)
-    go (no h) = with-mode _ place (words-long c more) (omega (arith, h)) _ refl (read-words c more b 0 (omega arith)) ∙ ap (λ (x : CbrConfig). createIn x place) (config-is c more b)
+    go (no h) = with-mode _ place (words-long c more) (omega (arith, h)) _ refl (read-words c more b 0 (omega arith)) ∙ ap (λ (x : CbrConfig). createIn x place) (config-read-back c more b)
 
 another-mode : (config place : List ℕ) → configSize ≤ length config → stateSize ≤ length place → (wordAt config 0 ≡ 2 → ⊥) → createWith config place ≡ refused 12 0 0 0
-unfolding createWith modeFits pick
-another-mode config place l h n = rw (le-ltb (length config) configSize l, le-ltb (length place) stateSize h, ne-eqb (wordAt config 0) 2 n)
+unfolding createWith pick
+another-mode config place l h n = rw (le-ltb (length config) configSize l, le-ltb (length place) stateSize h, mode-unfit config n)
 
 pub config-read : ConfigRead
 config-read = record { as-create = as-create; other-mode = another-mode }

@@ -7,7 +7,7 @@ use Prim.Native.Nat.{ℕ, _≤_, _<_}
 use native.Mathlib.Omega.{arith}
 use lib.Dec.{leb, eqb}
 use lib.ListN.{length}
-use borrow.Author.Tests.{lt-ltb, le-ltb, ne-eqb}
+use borrow.Author.Tests.{lt-ltb, le-ltb}
 use Rattle.bits.specs.Bits.{pick}
 use Rattle.bits.specs.Refusals.{value, refused, number}
 use Rattle.vbv.specs.Answers.{modelNumber, modelRefusal}
@@ -29,11 +29,12 @@ use Rattle.rate_control.specs.declared.CbrWithdrawn.{CbrWithdrawn}
 use Rattle.rate_control.proofs.Creation.{within-is}
 use Rattle.rate_control.proofs.States.{withdraw-answer}
 use Rattle.layout.specs.Answers.{answerSize, answerWords}
-use Rattle.layout.specs.Config.{configSize, modeFits, configIn}
+use Rattle.layout.specs.Config.{configSize, configIn}
 use Rattle.layout.specs.State.{stateSize, stateBytes, writerAt, stateAt}
 use Rattle.words.specs.Words.{wordsBytes, laid, wordAt}
 use Rattle.layout.specs.declared.CbrState.{CbrState}
 use Rattle.layout.proofs.Answering.{length-refused-answer}
+use Rattle.layout.proofs.Configured.{mode-fits, mode-unfit}
 use Rattle.layout.proofs.Held.{holds, holds-none}
 use Rattle.layout.proofs.RoundTrip.{state-fits}
 use Rattle.words.proofs.Laying.{laid-short}
@@ -81,13 +82,13 @@ module _ (config place : List ℕ) where
 
     module _ (room : stateSize ≤ length place) (mode : ℕ) (m : mode ≡ wordAt config 0) where
       pub other-mode : (mode ≡ 2 → ⊥) → CreatesWith 12 place
-      unfolding createWith stateAfter modeFits pick
-      other-mode n = rw (le-ltb (length config) configSize long, le-ltb (length place) stateSize room, ← m, ne-eqb mode 2 n) (refl, refl)
+      unfolding createWith stateAfter pick
+      other-mode n = rw (le-ltb (length config) configSize long, le-ltb (length place) stateSize room, mode-unfit config (λ e. n (m ∙ e))) (refl, refl)
 
       -- with room and mode 2 it is the creation with what the bytes hold
       pub with-mode : mode ≡ 2 → createWith config place ≡ createIn (configIn config) place
-      unfolding createWith createIn modeFits pick
-      with-mode h = rw (le-ltb (length config) configSize long, le-ltb (length place) stateSize room, ← m, h)
+      unfolding createWith createIn pick
+      with-mode h = rw (le-ltb (length config) configSize long, le-ltb (length place) stateSize room, mode-fits config (sym m ∙ h))
 
       pub created-with : mode ≡ 2 → (r : CbrCreated) → createdAnswer r ≡ create (configIn config) → (n : ℕ) (after : List ℕ) → Puts r place n after
           → CreatesWith n after

@@ -1,12 +1,9 @@
 -- Headers declare parameters exactly when they show them.
 -- Assumes nothing.
-use mathlib.Core.Path.{_≡_, refl, sym, ap, _∙_}
+use mathlib.Core.Path.{_≡_, sym, ap, _∙_}
 use mathlib.Core.Bool.{true}
 use mathlib.Core.List.{List}
-use mathlib.Core.Logic.{_↔_}
-use Prim.Native.Nat.{ℕ, _*_}
-use borrow.Author.Tests.{eqb-true}
-use Rattle.bits.specs.Refusals.{value}
+use Prim.Native.Nat.{ℕ}
 use Rattle.vbv.specs.Model.{paramsInRange}
 use Rattle.vbv.specs.declared.VbvParams.{VbvParams}
 use Rattle.vbv.proofs.Params.{params-rate, params-buffer, params-frn, params-frd, same-by}

@@ -5,3 +5,4 @@ pub mod RoundTrip
 pub mod Held
 pub mod Answering
 pub mod Narrowing
+pub mod Configured

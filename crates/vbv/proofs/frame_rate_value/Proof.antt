@@ -1,16 +1,13 @@
-use mathlib.Core.Path.{_≡_, refl, sym, ap, _∙_}
-use Prim.Native.Nat.{ℕ, _+_, _*_}
+use mathlib.Core.Path.{refl, sym, ap, _∙_}
+use Prim.Native.Nat.{_+_}
 use native.Mathlib.Omega.{arith}
 use native.Mathlib.Nat.{mul-le-mul}
 use borrow.Author.Needs.{needs}
 use Rattle.bits.proofs.Flags.{held, failed}
-use Rattle.vbv.specs.Answers.{rateAnswer, codeRate, frameRate}
+use Rattle.vbv.specs.Answers.{rateAnswer, frameRate}
 use Rattle.vbv.proofs.Cases.{code-bounds}
 use Rattle.vbv.proofs.frame_rate_value.Statement.{statement}
 use Rattle.vbv.proofs.frame_rate_value.Tie as tie
-use Rattle.vbv.proofs.frame_rate_value.Reads as reads
-use Rattle.vbv.proofs.frame_rate_value.Lts as lts
-use Rattle.vbv.proofs.code_rate.Reads as code-rate-reads
 
 code-rate-requires : tie.Need-code-rate-requires
 code-rate-requires c κs = search needs

@@ -5,9 +5,6 @@ use Rattle.vbv.proofs.Params.{both-in, same-in, same-out}
 use Rattle.vbv.proofs.Fitting.{frames-in-range}
 use Rattle.vbv.proofs.VbvParams.same.Statement.{statement}
 use Rattle.vbv.proofs.VbvParams.same.Tie as tie
-use Rattle.vbv.proofs.VbvParams.same.Reads as reads
-use Rattle.vbv.proofs.VbvParams.same.Lts as lts
-use Rattle.vbv.proofs.VbvParams.in_range.Reads as in-range-reads
 
 in-range-requires : tie.Need-in-range-requires
 in-range-requires c κs = search needs
