@@ -1,8 +1,7 @@
 //! The original's answer to a case, as FORMAT.md lays it out.
 
-use crate::check::{OF_FIELDS, OF_FRAMES};
+use crate::check::{NOT_READ, OF_FIELDS, OF_FRAMES, OTHERWISE, WITH_RATE};
 use crate::format::{ACCEPTED, Answer, number, words};
-use crate::lists::{AGAIN, CHECKED, EMITTED, FINISHED, NOT_EMITTED, SET, WITHDRAWN};
 use crate::{check, lists, model};
 use original::gop_header::{Mpeg2Gop, TimeCode, nominal_pictures_per_second, write_gop_header};
 use original::picture_header::{
@@ -14,7 +13,7 @@ use original::sequence_header::{AspectRatio, Mpeg2SequenceHeader};
 use original::stream_writer::{
     SequenceHeaderParams, profile_and_level_indication, write_sequence_extension, write_sequence_header,
 };
-use original::vbv::{VbvStandard, frame_rate_value};
+use original::vbv::{VbvStandard, frame_rate_value, oracle_extended};
 use original::{Error, Result};
 use oxideav_core::bits::BitWriter;
 
@@ -33,15 +32,15 @@ pub const KINDS: [(&str, &[u8]); 19] = [
     ("TimeCode::from_display_index", &[6]),
     ("nominal_pictures_per_second", &[6]),
     ("profile_and_level_indication", &[]),
-    ("frame_rate_value", &[6]),
+    ("frame_rate_value", &[6, 12]),
     ("VbvCbrModel", &[7, 8, 9, 10, 12, 13, 14]),
     ("patch_vbv_delay", &[20]),
-    ("verify_cbr_stream, MPEG-1", &[1, 2, 3, 4, 5, 6, 7, 8, 9, 10, 11, 12, 15, OF_FRAMES]),
-    ("verify_cbr_stream, MPEG-2", &[1, 2, 3, 4, 5, 6, 7, 8, 9, 10, 11, 12, 15, OF_FIELDS, OF_FRAMES]),
+    ("verify_cbr_stream, MPEG-1", &[1, 2, 3, 4, 5, 6, 7, 8, 9, 10, 11, 12, 15, OF_FRAMES, NOT_READ]),
     (
-        "CbrWriter",
-        &[6, 7, 9, 12, 14, 17, 18, 19, 20, 21, 22, SET, AGAIN, WITHDRAWN, EMITTED, NOT_EMITTED, CHECKED, FINISHED],
+        "verify_cbr_stream, MPEG-2",
+        &[1, 2, 3, 4, 5, 6, 7, 8, 9, 10, 11, 12, 15, OF_FIELDS, OF_FRAMES, WITH_RATE, OTHERWISE],
     ),
+    ("CbrWriter", &lists::OWED),
 ];
 
 pub fn answer(kind: u8, input: &[u8]) -> Answer {
@@ -62,7 +61,7 @@ pub fn answer(kind: u8, input: &[u8]) -> Answer {
         11 => parsed(6, TimeCode::from_display_index(number(&input[..8]), input[8]), time_code),
         12 => parsed(6, nominal_pictures_per_second(input[0]), |out, rate| put(out, &[rate.into()])),
         13 => parsed(6, Ok(profile_and_level_indication(chroma(input[0]))), |out, byte| put(out, &[byte.into()])),
-        14 => parsed(6, frame_rate_value(input[0]), |out, (frn, frd)| words(out, &[frn.into(), frd.into()])),
+        14 => frame_rate([input[0], input[1], input[2]]),
         15 => model::calls(input),
         16 => model::patched(input),
         17 => check::checked(VbvStandard::Mpeg1, input),
@@ -70,6 +69,16 @@ pub fn answer(kind: u8, input: &[u8]) -> Answer {
         19 => lists::answer(input),
         _ => unreachable!("no kind {kind}"),
     }
+}
+
+/// The original's rate; with n or d not 0 multiplied by the patched copy's rule. It has no 12, which is decided by request 02.
+fn frame_rate([code, n, d]: [u8; 3]) -> Answer {
+    if 3 < n || 31 < d {
+        return Answer::of((12, "n or d above its range"));
+    }
+    let as_it_is = frame_rate_value(code);
+    let rate = if (n, d) == (0, 0) { as_it_is } else { as_it_is.map(|rate| oracle_extended(rate, n, d)) };
+    parsed(6, rate, |out, (frn, frd)| words(out, &[frn.into(), frd.into()]))
 }
 
 /// Puts numbers of four bytes, the lowest first.

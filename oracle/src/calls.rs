@@ -2,12 +2,12 @@
 
 use crate::draw::Draw;
 use crate::model::{BUFFER_UNIT, Call, FAR, MOST_BUFFER, MOST_FRD, MOST_FRN, MOST_RATE, Model, RATE_UNIT, widest};
-use crate::streams::FRAME_RATES;
+use crate::streams::frame_rate;
 
 /// One input of a kind.
 pub fn drawn(kind: u8, d: &mut Draw) -> Vec<u8> {
     match kind {
-        14 => vec![if d.one_in(4) { d.byte() } else { d.below(16) as u8 }],
+        14 => [16, 6, 34].map(|most| if d.one_in(4) { d.byte() } else { d.below(most) as u8 }).to_vec(),
         15 => {
             let params = params(d);
             list(params, d)
@@ -16,11 +16,26 @@ pub fn drawn(kind: u8, d: &mut Draw) -> Vec<u8> {
     }
 }
 
-/// Around each boundary: all rate codes; parameters around each limit; parts around the length needed, with each byte of
+/// Every input of kind 14.
+pub fn every(put: &mut impl FnMut(&[u8])) {
+    for code in 0..=255 {
+        for n in 0..=255 {
+            (0..=255).for_each(|d| put(&[code, n, d]));
+        }
+    }
+}
+
+/// Around each boundary: all rate codes, with each n and d in range, the two above and the greatest; parameters around each limit; parts around the length needed, with each byte of
 /// the start code changed.
 pub fn edges(kind: u8, d: &mut Draw, put: &mut impl FnMut(&[u8])) {
     match kind {
-        14 => (0..=255).for_each(|code| put(&[code])),
+        14 => {
+            for code in 0..=255 {
+                for n in (0..=5).chain([255]) {
+                    (0..=33).chain([255]).for_each(|d| put(&[code, n, d]));
+                }
+            }
+        }
         15 => {
             for params in limits() {
                 put(&list(params, d));
@@ -53,7 +68,8 @@ fn params(d: &mut Draw) -> [u64; 4] {
     let (frn, frd) = match d.below(4) {
         0 => (1 + d.next() % MOST_FRN, 1 + d.next() % MOST_FRD),
         1 => (1 + d.next() % 9, 1 + d.next() % 9),
-        _ => FRAME_RATES[d.below(8)],
+        2 => frame_rate(1 + d.below(8) as u64, d.value(2), d.value(5)),
+        _ => frame_rate(1 + d.below(8) as u64, 0, 0),
     };
     let bits = 1 + d.below(39) as u32;
     let rate = if d.one_in(2) { RATE_UNIT * d.nonzero(18) } else { d.nonzero(bits).min(MOST_RATE) };

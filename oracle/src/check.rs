@@ -1,6 +1,7 @@
 //! Kinds 17 and 18: the check of a stream. The original has no refusal 15, and its 9 and 10 name the picture alone: these
 //! the oracle completes from pictures that it finds itself, run through the original's model. A record's first four words are
-//! the original's. It has no such field as the fifth, `periods` (request 04): that is by the oracle's own rule.
+//! the original's. It has no such field as the fifth, `periods` (request 04): that is by the oracle's own rule. Of an MPEG-2 stream
+//! with n or d not 0 the original is the patched copy (request 02).
 
 use crate::format::{ACCEPTED, Answer, Met, number, pattern, words};
 use crate::layout::VBV_RECORD_BYTES;
@@ -12,7 +13,7 @@ use original::sequence_extension::Mpeg2Sequence;
 use original::sequence_header::Mpeg2SequenceHeader;
 use original::vbv::{
     RemovalInterval, VbvCbrModel, VbvParams, VbvStandard, VbvStreamReport, VbvVerifyError, VbvViolation,
-    frame_rate_value, oracle_scan_start_codes, verify_cbr_stream,
+    frame_rate_value, oracle_scan_start_codes, oracle_verify_extended, verify_cbr_stream,
 };
 
 const PLACES: Met = (15, "fewer record places than pictures");
@@ -20,6 +21,10 @@ const PLACES: Met = (15, "fewer record places than pictures");
 /// What else is counted, records by their fifth word: numbers above those of lists.rs.
 pub const OF_FIELDS: u8 = 136;
 pub const OF_FRAMES: u8 = 137;
+/// And accepted streams by n and d of the first sequence extension.
+pub const WITH_RATE: u8 = 138;
+pub const OTHERWISE: u8 = 139;
+pub const NOT_READ: u8 = 140;
 
 fn counted(periods: u64) -> Met {
     if periods == 1 { (OF_FIELDS, "records with periods 1") } else { (OF_FRAMES, "records with periods 2") }
@@ -79,19 +84,63 @@ pub fn periods(standard: VbvStandard, stream: &[u8]) -> Vec<u64> {
     pictures(standard, stream).iter().map(Picture::periods).collect()
 }
 
-/// What the first sequence header declares.
+/// A stream from its first sequence header on.
+fn from_sequence(stream: &[u8]) -> Option<&[u8]> {
+    let codes = oracle_scan_start_codes(stream);
+    codes.iter().find(|&&(_, code)| code == 0xB3).map(|&(at, _)| &stream[at..])
+}
+
+/// The first sequence header with its extension, if they are there.
+pub fn sequence(stream: &[u8]) -> Option<Mpeg2Sequence> {
+    Mpeg2Sequence::from_buf(from_sequence(stream)?).ok()
+}
+
+/// Whether a sequence extension has n or d not 0.
+pub fn extended(s: &Mpeg2Sequence) -> bool {
+    (s.extension.frame_rate_extension_n, s.extension.frame_rate_extension_d) != (0, 0)
+}
+
+/// The original's check as it is; of an MPEG-2 stream with n or d not 0 the patched copy.
+pub fn verify(standard: VbvStandard, stream: &[u8]) -> Result<VbvStreamReport, VbvVerifyError> {
+    if standard == VbvStandard::Mpeg2 && sequence(stream).is_some_and(|s| extended(&s)) {
+        return oracle_verify_extended(stream, standard);
+    }
+    verify_cbr_stream(stream, standard)
+}
+
+/// What the first sequence header declares, the rate multiplied here once more.
 fn params(standard: VbvStandard, stream: &[u8]) -> VbvParams {
-    let (at, _) = oracle_scan_start_codes(stream).into_iter().find(|&(_, code)| code == 0xB3).unwrap();
-    let header = Mpeg2SequenceHeader::parse(&stream[at..]).unwrap();
-    let (rate, buffer) = match standard {
-        VbvStandard::Mpeg1 => (header.bit_rate, header.vbv_buffer_size.into()),
+    let header = Mpeg2SequenceHeader::parse(from_sequence(stream).unwrap()).unwrap();
+    let (frn, frd) = frame_rate_value(header.frame_rate_code).unwrap();
+    let (rate, buffer, frame_rate) = match standard {
+        VbvStandard::Mpeg1 => (header.bit_rate, header.vbv_buffer_size.into(), (frn, frd)),
         _ => {
-            let sequence = Mpeg2Sequence::from_buf(&stream[at..]).unwrap();
-            (sequence.bit_rate, sequence.vbv_buffer_size)
+            let s = sequence(stream).unwrap();
+            let (n, d) = (s.extension.frame_rate_extension_n, s.extension.frame_rate_extension_d);
+            (s.bit_rate, s.vbv_buffer_size, (frn * u32::from(n + 1), frd * u32::from(d + 1)))
         }
     };
-    let frame_rate = frame_rate_value(header.frame_rate_code).unwrap();
     VbvParams::new(RATE_UNIT * u64::from(rate), BUFFER_UNIT * u64::from(buffer), frame_rate)
+}
+
+/// What else is counted of an accepted stream.
+fn accepted(standard: VbvStandard, stream: &[u8]) -> Vec<Met> {
+    if !sequence(stream).is_some_and(|s| extended(&s)) {
+        return vec![];
+    }
+    if standard == VbvStandard::Mpeg1 {
+        return vec![(NOT_READ, "accepted, n or d not 0 in an extension that is not read")];
+    }
+    let of = |report: VbvStreamReport| {
+        let values = report.pictures.iter().map(|p| (p.expected_delay, p.occupancy_before_bits));
+        values.collect::<Vec<_>>()
+    };
+    let (patched, as_it_is) = (verify(standard, stream).map(of), verify_cbr_stream(stream, standard).map(of));
+    let mut met = vec![(WITH_RATE, "accepted with n or d not 0")];
+    if patched != as_it_is {
+        met.push((OTHERWISE, "of these refused, or with other records, by the original as it is"));
+    }
+    met
 }
 
 /// The delay that the original's model expects of a picture after others that it has removed.
@@ -151,9 +200,9 @@ fn report(report: &VbvStreamReport, all: &[Picture], part: &mut [u8]) -> [u64; 5
     [report.bit_rate, report.buffer_size_bits, report.pictures.len() as u64, least as u64, greatest as u64]
 }
 
-/// What the original makes of a stream: its number and five words, the records stored in the part.
+/// What the original, or its patched copy, makes of a stream: its number and five words, the records stored in the part.
 pub fn judged(standard: VbvStandard, stream: &[u8], part: &mut [u8]) -> (Met, [u64; 5]) {
-    let result = verify_cbr_stream(stream, standard);
+    let result = verify(standard, stream);
     let run = match &result {
         Err(VbvVerifyError::Parse(e)) => matches!(refusal(*e).0, 7 | 8),
         _ => true,
@@ -184,6 +233,7 @@ pub fn checked(standard: VbvStandard, input: &[u8]) -> Answer {
     let mut answer = Answer::of(met);
     if met == ACCEPTED {
         answer.met.extend(fifths(&part, five[2]).map(counted));
+        answer.met.extend(accepted(standard, &input[2..]));
     }
     words(&mut answer.bytes, &five);
     answer.bytes.extend(part);

@@ -1,18 +1,19 @@
 //! Inputs for kinds 17 and 18: a record part's length and a stream, good, damaged, cut or at random.
 
+use crate::check::verify;
 use crate::draw::Draw;
 use crate::headers::damage;
 use crate::layout::VBV_RECORD_BYTES;
 use crate::spans::picture_codes;
-use crate::streams::{self, Fault};
-use original::vbv::{VbvStandard, verify_cbr_stream};
+use crate::streams::{self, Fault, Form};
+use original::vbv::VbvStandard;
 
 /// The record part has room for that many records, and the input fits its bytes.
 const MOST_PLACES: usize = 120;
 
-/// One input of a kind. Some of kind 17 have MPEG-2's extensions, which an MPEG-1 check does not read: its fields are frames.
+/// One input of a kind.
 pub fn drawn(kind: u8, d: &mut Draw) -> Vec<u8> {
-    let mut stream = if d.one_in(16) { noise(d) } else { a_stream(kind == 18 || d.one_in(16), d) };
+    let mut stream = if d.one_in(16) { noise(d) } else { a_stream(form(kind, d), d) };
     if d.one_in(3) {
         for _ in 0..1 + d.below(3) {
             damage(&mut stream, d);
@@ -36,7 +37,7 @@ pub fn with_room(stream: &[u8]) -> Vec<u8> {
 /// What the original answers, in words.
 pub fn told(kind: u8, input: &[u8]) -> String {
     let standard = if kind == 18 { VbvStandard::Mpeg2 } else { VbvStandard::Mpeg1 };
-    match verify_cbr_stream(&input[2..], standard) {
+    match verify(standard, &input[2..]) {
         Err(refusal) => refusal.to_string(),
         Ok(r) => {
             let records = r
@@ -50,9 +51,16 @@ pub fn told(kind: u8, input: &[u8]) -> String {
     }
 }
 
-fn a_stream(mpeg2: bool, d: &mut Draw) -> Vec<u8> {
+/// Some of kind 17 have MPEG-2's extensions, which an MPEG-1 check does not read: its fields are frames, and its rate is that of
+/// the code alone. Most of these are made so that they pass it.
+fn form(kind: u8, d: &mut Draw) -> Form {
+    let extensions = kind == 18 || d.one_in(16);
+    Form { mpeg2: kind == 18 || extensions && d.one_in(4), extensions }
+}
+
+fn a_stream(form: Form, d: &mut Draw) -> Vec<u8> {
     let fault = streams::fault(d);
-    streams::drawn(mpeg2, fault, d)
+    streams::drawn(form, fault, d)
 }
 
 fn input(part: usize, stream: &[u8]) -> Vec<u8> {
@@ -77,7 +85,7 @@ fn noise(d: &mut Draw) -> Vec<u8> {
 /// followed by a zero; and each with every number of record places.
 pub fn edges(kind: u8, d: &mut Draw, put: &mut impl FnMut(&[u8])) {
     for _ in 0..8 {
-        let stream = short(kind == 18, d);
+        let stream = short(Form { mpeg2: kind == 18, extensions: kind == 18 }, d);
         let n = picture_codes(&stream);
         for part in 0..VBV_RECORD_BYTES * (n + 1) {
             put(&input(part, &stream));
@@ -101,9 +109,9 @@ pub fn edges(kind: u8, d: &mut Draw, put: &mut impl FnMut(&[u8])) {
 }
 
 /// A valid stream of at most 150 bytes with at least two pictures.
-fn short(mpeg2: bool, d: &mut Draw) -> Vec<u8> {
+fn short(form: Form, d: &mut Draw) -> Vec<u8> {
     loop {
-        let stream = streams::drawn(mpeg2, Fault::None, d);
+        let stream = streams::drawn(form, Fault::None, d);
         if stream.len() <= 150 && 2 <= picture_codes(&stream) {
             return stream;
         }

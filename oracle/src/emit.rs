@@ -5,7 +5,17 @@ pub struct OracleWriter(CbrWriter);
 impl OracleWriter {
     /// As `encode_cbr_gop_sequence` makes it, of parameters that creation accepts, with nothing put out yet.
     pub fn new(bit_rate: u64, buffer_bits: u64, rate_code: u8, q: u8, between: u8, anchors: u8) -> Self {
-        let frame_rate = frame_rate_value(rate_code).unwrap();
+        Self::at_rate(bit_rate, buffer_bits, frame_rate_value(rate_code).unwrap(), q, between, anchors)
+    }
+
+    /// The same, patched as the check is (request 02): what was looked up is multiplied.
+    pub fn extended(bit_rate: u64, buffer_bits: u64, rate: [u8; 3], q: u8, between: u8, anchors: u8) -> Self {
+        let [code, n, d] = rate;
+        let frame_rate = oracle_extended(frame_rate_value(code).unwrap(), n, d);
+        Self::at_rate(bit_rate, buffer_bits, frame_rate, q, between, anchors)
+    }
+
+    fn at_rate(bit_rate: u64, buffer_bits: u64, frame_rate: (u32, u32), q: u8, between: u8, anchors: u8) -> Self {
         Self(CbrWriter {
             out: vec![],
             model: VbvCbrModel::new(&VbvParams::new(bit_rate, buffer_bits, frame_rate)).unwrap(),

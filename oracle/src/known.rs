@@ -1,8 +1,8 @@
-//! Headers and streams with a name: one for each difference from the standards in which the original wins
-//! (docs/DIFFERENCES.md).
+//! Headers and streams with a name: one for each difference from the standards in which the original wins, and those of rates with
+//! extensions, in which it does not (docs/DIFFERENCES.md).
 
 /// Name, kind, and the bytes of the header or stream.
-const KNOWN: [(&str, u8, &str); 31] = [
+const KNOWN: [(&str, u8, &str); 40] = [
     ("low 18 rate bits of zero are refused", 1, "000001B301001013000020A0"),
     ("constrained_parameters_flag 1", 1, "000001B301001013027120A4"),
     ("reserved aspect and rate codes", 1, "000001B3010010F9027120A0"),
@@ -15,6 +15,12 @@ const KNOWN: [(&str, u8, &str); 31] = [
     ("zeros of a start code lie in the header before it", 6, "000001000008000001B58FFFF34180"),
     ("padding that is not zero, of a picture header", 6, "0000010000080001000001B58FFFF34180"),
     ("padding that is not zero, of a coding extension", 5, "000001B58FFFF341BF"),
+    ("the greatest rate, 240000/32032", 14, "07031F"),
+    ("25/1 as 50/2, by d", 14, "060001"),
+    ("25/1 as 50/2, by n and d", 14, "030101"),
+    ("no such code", 14, "090000"),
+    ("no such code, and n 4", 14, "090400"),
+    ("no such code, and d 32", 14, "000020"),
     (
         "paper 01's own stream",
         18,
@@ -28,8 +34,26 @@ const KNOWN: [(&str, u8, &str); 31] = [
          00000100000AB330 000001B58FFFF34380 00000101 00000100000B2338 000001B58FFFF34180 00000101",
     ),
     (
-        "frame_rate_extension_n and _d are not read",
+        "frame_rate_extension_n 1, with the delay of the code alone",
         18,
+        "000001B301001013027120A0 000001B5148200010020 \
+         00000100000AB330 000001B58FFFF34180 00000101 00000100000B2338 000001B58FFFF34180 00000101",
+    ),
+    (
+        "frame_rate_extension_n 1, with the delay of twice the rate",
+        18,
+        "000001B301001013027120A0 000001B5148200010020 \
+         00000100000AB330 000001B58FFFF34180 00000101 00000100000AEAF8 000001B58FFFF34180 00000101",
+    ),
+    (
+        "25/1 as code 6 with frame_rate_extension_d 1",
+        18,
+        "000001B301001016027120A0 000001B5148200010001 \
+         00000100000AB330 000001B58FFFF34180 00000101 00000100000B2338 000001B58FFFF34180 00000101",
+    ),
+    (
+        "frame_rate_extension_n 1 in MPEG-1 is not read",
+        17,
         "000001B301001013027120A0 000001B5148200010020 \
          00000100000AB330 000001B58FFFF34180 00000101 00000100000B2338 000001B58FFFF34180 00000101",
     ),

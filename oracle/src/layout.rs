@@ -6,6 +6,7 @@ pub const VBV_REPORT_BYTES: usize = 40;
 pub const VBV_RECORD_BYTES: usize = 40;
 pub const VBV_REFUSAL_BYTES: usize = 32;
 
+pub const CBR_CONFIG_BYTES: usize = 72;
 pub const CBR_STATE_BYTES: usize = 152;
 pub const CBR_ANSWER_BYTES: usize = 72;
 pub const CBR_FIELD: u8 = 1;

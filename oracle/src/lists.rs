@@ -1,12 +1,13 @@
 //! Kind 19: lists of calls of the constant-rate writer. The answer is the model's (writer.rs); on the way the original's `emit`
-//! runs beside it, and then the original's check over what was handed out.
+//! runs beside it, and then the original's check over what was handed out. Where n or d is not 0, a writer's or a header's, the
+//! original is its patched copy (request 02).
 
-use crate::check::periods;
+use crate::check::{extended, periods, sequence, verify};
 use crate::format::{ACCEPTED, Answer, Met, number, pattern, words};
 use crate::model::{BUFFER_UNIT, RATE_UNIT, interval};
 use crate::writer::{Config, Offer, Told, Writer};
 use original::rate_control::OracleWriter;
-use original::vbv::{VbvStandard, verify_cbr_stream};
+use original::vbv::VbvStandard;
 
 /// Answers that are no refusals, and what else is counted: above all numbers that a refusal may have.
 pub const SET: u8 = 129;
@@ -16,9 +17,17 @@ pub const EMITTED: u8 = 132;
 pub const NOT_EMITTED: u8 = 133;
 pub const CHECKED: u8 = 134;
 pub const FINISHED: u8 = 135;
+/// Above those of check.rs.
+const PATCHED: u8 = 141;
+const SHOWN_OTHERWISE: u8 = 142;
+const AS_25: u8 = 143;
+
+/// All codes, n and d whose rate is 25/1.
+pub const ALL_25: [[u64; 3]; 8] =
+    [[3, 0, 0], [3, 1, 1], [3, 2, 2], [3, 3, 3], [6, 0, 1], [6, 1, 3], [6, 2, 5], [6, 3, 7]];
 
 /// What the answers are called.
-const REASONS: [Met; 19] = [
+const REASONS: [Met; 29] = [
     ACCEPTED,
     (6, "rate code not 1 to 8"),
     (7, "position beyond delivered bits"),
@@ -38,34 +47,59 @@ const REASONS: [Met; 19] = [
     (NOT_EMITTED, "of those refused 7, 9, 21 and 22 refused by emit"),
     (CHECKED, "lists with a picture, their bytes accepted by the original's check with these records"),
     (FINISHED, "of these finished"),
+    (PATCHED, "of these with n or d not 0 in their header, accepted by the patched copy"),
+    (SHOWN_OTHERWISE, "of these with another code, n or d in their header than the writer's"),
+    (AS_25, "of these at 25/1 as code 3"),
+    (AS_25 + 1, "of these at 25/1 as code 3, n 1, d 1"),
+    (AS_25 + 2, "of these at 25/1 as code 3, n 2, d 2"),
+    (AS_25 + 3, "of these at 25/1 as code 3, n 3, d 3"),
+    (AS_25 + 4, "of these at 25/1 as code 6, n 0, d 1"),
+    (AS_25 + 5, "of these at 25/1 as code 6, n 1, d 3"),
+    (AS_25 + 6, "of these at 25/1 as code 6, n 2, d 5"),
+    (AS_25 + 7, "of these at 25/1 as code 6, n 3, d 7"),
 ];
+
+/// All of them have to be met.
+pub const OWED: [u8; REASONS.len() - 1] = {
+    let mut numbers = [0; REASONS.len() - 1];
+    let mut i = 0;
+    while i < numbers.len() {
+        numbers[i] = REASONS[i + 1].0;
+        i += 1;
+    }
+    numbers
+};
+
+/// Where an input has the number of its calls, in one byte, and where the calls begin.
+pub const COUNT: usize = 12;
+pub const CALLS: usize = COUNT + 1;
 
 fn met(number: u8) -> Met {
     *REASONS.iter().find(|r| r.0 == number).unwrap()
 }
 
-/// An input's bytes; the number of calls is one byte.
+/// An input's bytes, with no calls yet.
 pub fn config(c: &Config) -> Vec<u8> {
-    let mut bytes = c.rate.to_le_bytes().to_vec();
-    bytes.extend(c.buffer.to_le_bytes());
-    bytes.extend([c.rate_code, c.q, c.between, c.anchors, 0]);
+    let mut bytes = u32::try_from(c.rate).unwrap().to_le_bytes().to_vec();
+    bytes.extend(u16::try_from(c.buffer).unwrap().to_le_bytes());
+    bytes.extend([c.rate_code, c.n, c.d, c.q, c.between, c.anchors, 0].map(|b| u8::try_from(b).unwrap()));
     bytes
 }
 
 pub fn add_withdrawal(input: &mut Vec<u8>) {
-    input[10] += 1;
+    input[COUNT] += 1;
     input.extend([0; 10]);
 }
 
 /// A state set by hand: an end, and whole bits delivered.
 pub fn add_state(input: &mut Vec<u8>, end: u64, whole: u64) {
-    input[10] += 1;
+    input[COUNT] += 1;
     input.extend([2, 0, 0, 0, 16, 0, 0, 0, 0, 0]);
     words(input, &[end, whole]);
 }
 
 pub fn add_offer(input: &mut Vec<u8>, o: &Offer, part: usize) {
-    input[10] += 1;
+    input[COUNT] += 1;
     input.extend([1, o.kind as u8, o.field.into(), o.last.into()]);
     for n in [o.headers.len(), o.layer.len(), part] {
         input.extend(u16::try_from(n).unwrap().to_le_bytes());
@@ -100,6 +134,7 @@ pub fn call(s: &[u8]) -> (Call, usize, &[u8]) {
 
 /// The original beside the model, and all that was handed out.
 struct Beside {
+    config: Config,
     original: OracleWriter,
     /// The offers of the pending picture.
     tries: Vec<Offer>,
@@ -115,9 +150,9 @@ struct Beside {
 }
 
 impl Beside {
-    fn new(original: OracleWriter) -> Self {
+    fn new(config: Config, original: OracleWriter) -> Self {
         let (tries, handed_out, pictures, quantisers, met) = (vec![], vec![], vec![], vec![], vec![]);
-        Self { original, tries, compared: true, whole: true, handed_out, pictures, quantisers, met }
+        Self { config, original, tries, compared: true, whole: true, handed_out, pictures, quantisers, met }
     }
 
     /// Runs `emit` with the tries' layers, in turn.
@@ -203,7 +238,7 @@ impl Beside {
         if self.pictures.is_empty() || !self.whole {
             return;
         }
-        let report = verify_cbr_stream(&self.handed_out, VbvStandard::Mpeg2).expect("the check refuses");
+        let report = verify(VbvStandard::Mpeg2, &self.handed_out).expect("the check refuses");
         let records = report.pictures.iter().map(|p| (p.vbv_delay, p.expected_delay, p.data_bits));
         assert!(records.eq(self.pictures.iter().map(|&(delay, bits, _)| (delay, delay, bits))), "other records");
         let told = periods(VbvStandard::Mpeg2, &self.handed_out);
@@ -211,6 +246,23 @@ impl Beside {
         self.met.push(met(CHECKED));
         if finished {
             self.met.push(met(FINISHED));
+        }
+        self.rate_shown();
+    }
+
+    /// Counts how the header of what was handed out shows the rate.
+    fn rate_shown(&mut self) {
+        let s = sequence(&self.handed_out).unwrap();
+        let (n, d) = (s.extension.frame_rate_extension_n, s.extension.frame_rate_extension_d);
+        let shown = [s.header.frame_rate_code, n, d].map(u64::from);
+        if extended(&s) {
+            self.met.push(met(PATCHED));
+        }
+        if shown != [self.config.rate_code, self.config.n, self.config.d] {
+            self.met.push(met(SHOWN_OTHERWISE));
+        }
+        if let Some(at) = ALL_25.iter().position(|&rate| rate == shown) {
+            self.met.push(met(AS_25 + at as u8));
         }
     }
 }
@@ -234,12 +286,24 @@ fn in_words(told: Told) -> (u8, [u64; 4]) {
 /// What the writer of an input is created with.
 pub fn configured(input: &[u8]) -> Config {
     Config {
-        rate: number(&input[..4]) as u32,
-        buffer: number(&input[4..6]) as u16,
-        rate_code: input[6],
-        q: input[7],
-        between: input[8],
-        anchors: input[9],
+        rate: number(&input[..4]),
+        buffer: number(&input[4..6]),
+        rate_code: input[6].into(),
+        n: input[7].into(),
+        d: input[8].into(),
+        q: input[9].into(),
+        between: input[10].into(),
+        anchors: input[11].into(),
+    }
+}
+
+/// The original's writer of a configuration that creation accepts: as it is where n and d are 0, else patched.
+fn original(c: &Config) -> OracleWriter {
+    let (rate, buffer) = (RATE_UNIT * c.rate, BUFFER_UNIT * c.buffer);
+    let [code, n, d, q, between, anchors] = [c.rate_code, c.n, c.d, c.q, c.between, c.anchors].map(|b| b as u8);
+    match (n, d) {
+        (0, 0) => OracleWriter::new(rate, buffer, code, q, between, anchors),
+        _ => OracleWriter::extended(rate, buffer, [code, n, d], q, between, anchors),
     }
 }
 
@@ -270,13 +334,12 @@ pub fn answer(input: &[u8]) -> Answer {
         Ok(w) => w,
         Err(n) => return Answer::of(met(n)),
     };
-    let (rate, buffer) = (RATE_UNIT * u64::from(c.rate), BUFFER_UNIT * u64::from(c.buffer));
-    let original = OracleWriter::new(rate, buffer, c.rate_code, c.q, c.between, c.anchors);
+    let original = original(&c);
     assert_eq!(original.targets(), w.targets);
-    let mut beside = Beside::new(original);
+    let mut beside = Beside::new(c, original);
     let mut answer = Answer { bytes: vec![0], met: vec![] };
     words(&mut answer.bytes, &w.targets);
-    let mut rest = &input[11..];
+    let mut rest = &input[CALLS..];
     while !rest.is_empty() {
         let (call, part, after) = call(rest);
         rest = after;

@@ -1,9 +1,9 @@
 //! Writes cases with the original's answers to standard output, and counts them on standard error.
 //!
-//!     cases [known] [short] [edges] SEED COUNT KIND..|19|small
+//!     cases [known] [short] [edges] [every] SEED COUNT KIND..|19|small
 //!
 //! known: first the headers and streams that have a name; short: then all inputs of at most two bytes; edges: then those around each
-//! boundary; then COUNT drawn ones. Kind 19, lists of calls of the writer, goes to another program and stands alone;
+//! boundary; every: then all 2^24 of kind 14; then COUNT drawn ones. Kind 19, lists of calls of the writer, goes to another program and stands alone;
 //! small: the same, but only lists of few bytes.
 //!
 //!     cases stream 1|2 FILE
@@ -19,7 +19,7 @@ use std::io::{BufWriter, Stdout, Write, stdout};
 use std::process::exit;
 
 /// How often each kind is drawn.
-const WEIGHTS: [usize; 19] = [12, 8, 16, 12, 8, 16, 6, 10, 2, 6, 3, 1, 1, 1, 24, 4, 40, 60, 1];
+const WEIGHTS: [usize; 19] = [12, 8, 16, 12, 8, 16, 6, 10, 2, 6, 3, 1, 1, 2, 24, 4, 40, 60, 1];
 
 struct Cases {
     out: BufWriter<Stdout>,
@@ -116,6 +116,7 @@ struct Asked {
     known: bool,
     short: bool,
     edges: bool,
+    every: bool,
     small: bool,
     seed: u64,
     count: u64,
@@ -128,6 +129,7 @@ fn asked(mut words: Vec<String>) -> Option<Asked> {
         at.map(|i| words.remove(i)).is_some()
     };
     let (known, short, edges, small) = (flag("known"), flag("short"), flag("edges"), flag("small"));
+    let every = flag("every");
     let numbers = words.iter().map(|w| w.parse().ok()).collect::<Option<Vec<u64>>>()?;
     let [seed, count, kinds @ ..] = &numbers[..] else { return None };
     let mut kinds: Vec<u8> = kinds.iter().map(|&k| k as u8).collect();
@@ -136,7 +138,7 @@ fn asked(mut words: Vec<String>) -> Option<Asked> {
     }
     let some = !kinds.is_empty() && kinds.iter().all(|k| (1..=19).contains(k));
     let alone = !kinds.contains(&19) || kinds.len() == 1;
-    (some && alone).then_some(Asked { known, short, edges, small, seed: *seed, count: *count, kinds })
+    (some && alone).then_some(Asked { known, short, edges, every, small, seed: *seed, count: *count, kinds })
 }
 
 /// Writes all cases that are asked for.
@@ -152,6 +154,9 @@ fn write(asked: &Asked) -> Cases {
         }
         if asked.edges {
             cases.edges(kind, &mut d);
+        }
+        if asked.every && kind == 14 {
+            calls::every(&mut |input| cases.put(kind, input));
         }
     }
     let lots: Vec<u8> = asked.kinds.iter().flat_map(|&k| vec![k; WEIGHTS[k as usize - 1]]).collect();
@@ -172,7 +177,7 @@ fn main() {
         }
     }
     let Some(asked) = asked(words) else {
-        eprintln!("usage: cases [known] [short] [edges] SEED COUNT KIND..|19|small");
+        eprintln!("usage: cases [known] [short] [edges] [every] SEED COUNT KIND..|19|small");
         eprintln!("       cases stream 1|2 FILE");
         exit(2);
     };

@@ -2,9 +2,9 @@
 
 use crate::draw::Draw;
 use crate::headers::{self, Field, damage, filler, pack, user_data};
-use crate::lists::{add_offer, add_state, add_withdrawal, answer, config};
-use crate::model::{BUFFER_UNIT, FAR};
-use crate::streams::least_rate;
+use crate::lists::{ALL_25, COUNT, add_offer, add_state, add_withdrawal, answer, config};
+use crate::model::{BUFFER_UNIT, FAR, RATE_UNIT};
+use crate::streams::{frame_rate, least_rate};
 use crate::writer::{Config, Offer, Told, Writer};
 
 /// Bytes that a layer, a part and a list with its answer have at most.
@@ -12,44 +12,83 @@ const MOST_LAYER: u64 = 6_000;
 const MOST_PART: u64 = 9_000;
 const MOST_LIST: usize = 40_000;
 
+/// A code, n and d: of the table, of 25/1, near the table's, or any.
+fn a_rate(d: &mut Draw) -> [u64; 3] {
+    let code = 1 + d.below(8) as u64;
+    match d.below(8) {
+        0..=2 => [code, 0, 0],
+        3 => ALL_25[d.below(8)],
+        4..=6 => [code, d.below(4) as u64, d.below(8) as u64],
+        _ => [code, d.value(2), d.value(5)],
+    }
+}
+
 fn a_config(d: &mut Draw) -> Config {
     let buffer = [1, 1, 1, 2, 3, d.nonzero(10)][d.below(6)];
     let more = [0, d.below(8), d.below(100), d.below(100), d.below(600), d.below(600), d.below(3000), d.below(1 << 18)];
+    let [rate_code, n, of_d] = a_rate(d);
     let mut c = Config {
-        rate: (least_rate(buffer) as u32 + more[d.below(8)] as u32).min(262_143),
-        buffer: buffer as u16,
-        rate_code: 1 + d.below(8) as u8,
-        q: [1, 31, 1 + d.below(31) as u8, 24 + d.below(8) as u8][d.below(4)],
-        between: [0, 1, 2, d.below(16) as u8][d.below(4)],
-        anchors: [1, 4, 1 + d.below(255) as u8][d.below(3)],
+        rate: (least_rate(buffer) + more[d.below(8)] as u64).min(262_143),
+        buffer,
+        rate_code,
+        n,
+        d: of_d,
+        q: [1, 31, 1 + d.below(31) as u64, 24 + d.below(8) as u64][d.below(4)],
+        between: [0, 1, 2, d.below(16) as u64][d.below(4)],
+        anchors: [1, 4, 1 + d.below(255) as u64][d.below(3)],
     };
     if d.one_in(24) {
         // Interval and buffer alike, or nearly so.
-        (c.buffer, c.rate_code) = (1, [2, 3, 5, 6, 8][d.below(5)]);
-        c.rate = [983, 984, 1024, 1228, 1229, 2048, 2457, 2458][d.below(8)];
+        let (frn, frd) = frame_rate(rate_code, n, of_d);
+        c.buffer = 1;
+        c.rate = (BUFFER_UNIT * frn / (RATE_UNIT * frd) + d.below(2) as u64).max(least_rate(1));
     }
     let faults = if d.one_in(12) { 1 + d.below(2) } else { 0 };
     for _ in 0..faults {
-        match d.below(7) {
-            0 => c.rate = [0, 262_144, d.next() as u32][d.below(3)],
-            1 => c.buffer = [0, 1024, d.next() as u16][d.below(3)],
-            2 | 3 => c.rate_code = [0, 9, d.byte()][d.below(3)],
-            4 => c.q = [0, 32, d.byte()][d.below(3)],
-            5 => (c.between, c.anchors) = [(16, 1), (0, 0), (d.byte(), d.byte())][d.below(3)],
-            _ => c.rate = (least_rate(c.buffer.into()) as u32).saturating_sub(1 + d.below(3) as u32),
+        let byte = u64::from(d.byte());
+        match d.below(10) {
+            0 => c.rate = [0, 262_144, d.next() % (1 << 32)][d.below(3)],
+            1 => c.buffer = [0, 1024, d.next() % (1 << 16)][d.below(3)],
+            2 | 3 => c.rate_code = [0, 9, byte][d.below(3)],
+            4 => c.q = [0, 32, byte][d.below(3)],
+            5 => (c.between, c.anchors) = [(16, 1), (0, 0), (byte, d.below(256) as u64)][d.below(3)],
+            6 | 7 => c.n = [4, 5, byte][d.below(3)],
+            8 => c.d = [32, 33, byte][d.below(3)],
+            _ => c.rate = least_rate(c.buffer).saturating_sub(1 + d.below(3) as u64),
         }
     }
     c
 }
 
+/// All codes, n and d whose rate is so.
+fn rates(so: impl Fn((u64, u64)) -> bool) -> Vec<[u64; 3]> {
+    let all = (0..8 * 4 * 32).map(|i| [1 + i / 128, i / 32 % 4, i % 32]);
+    all.filter(|&[code, n, d]| so(frame_rate(code, n, d))).collect()
+}
+
+/// Code, n and d of a header: of a rate of the writer's value, mostly; else near it.
+fn shown(c: &Config, d: &mut Draw) -> [u64; 3] {
+    let own = [c.rate_code, c.n, c.d];
+    let (frn, frd) = frame_rate(c.rate_code, c.n, c.d);
+    let some = match d.below(48) {
+        0..=19 => return own,
+        20 => return [9 + d.below(7) as u64, c.n, c.d],
+        21 => return [c.rate_code, c.d % 4, c.n],
+        22 => return [c.rate_code, 0, 0],
+        23 => return [1 + d.below(8) as u64, d.value(2), d.value(5)],
+        24 => rates(|rate| rate.0 == frn && rate.1 != frd),
+        25 => rates(|rate| rate.0 != frn && rate.1 == frd),
+        _ => rates(|rate| rate.0 * frd == frn * rate.1),
+    };
+    if some.is_empty() { own } else { some[d.below(some.len())] }
+}
+
 fn sequence(c: &Config, d: &mut Draw) -> Vec<u8> {
     let matrices = if d.one_in(16) { d.below(4) } else { 0 };
     let mut header = headers::sequence_header(matrices, d);
-    (header[4].1, header[5].1, header[7].1) = (c.rate_code.into(), c.rate.into(), c.buffer.into());
     let mut extension = headers::sequence_extension(d);
-    for i in [7, 9, 11, 12] {
-        extension[i].1 = 0;
-    }
+    [header[4].1, extension[11].1, extension[12].1] = shown(c, d);
+    (header[5].1, header[7].1, extension[7].1, extension[9].1) = (c.rate, c.buffer, 0, 0);
     if d.one_in(24) {
         let i = [7, 9, 11, 12][d.below(4)];
         extension[i].1 = d.value(extension[i].0);
@@ -75,7 +114,7 @@ fn some_headers(w: &Writer, c: &Config, d: &mut Draw) -> Vec<u8> {
     }
     if d.one_in(12) {
         // Up to the bits delivered or the buffer's free quarter.
-        let most = if w.placed == 0 { 512 * u64::from(c.buffer) } else { w.room(h.len()) };
+        let most = if w.placed == 0 { 512 * c.buffer } else { w.room(h.len()) };
         let n = most.saturating_sub(h.len() as u64).min(MOST_LAYER) as usize + d.below(12);
         h.extend(user_data(n.saturating_sub(9), d));
     }
@@ -230,7 +269,7 @@ fn a_part(w: &Writer, o: &Offer, d: &mut Draw) -> usize {
 /// An end, and bits delivered in the buffer's range after it, near 2^48.
 fn a_far_state(c: &Config, d: &mut Draw) -> (u64, u64) {
     let end = FAR - 8 * [d.below(40), d.below(400), d.below(4000)][d.below(3)] as u64;
-    let most = BUFFER_UNIT * u64::from(c.buffer);
+    let most = BUFFER_UNIT * c.buffer;
     (end, end + [most, d.next() % (most + 1), most - d.next() % (most.min(64) + 1)][d.below(3)])
 }
 
@@ -277,7 +316,7 @@ pub fn drawn(d: &mut Draw) -> Vec<u8> {
 pub fn small(d: &mut Draw) -> Vec<u8> {
     loop {
         let input = drawn(d);
-        let few = input[10] < 4 && !d.one_in(4);
+        let few = input[COUNT] < 4 && !d.one_in(4);
         if !few && input.len() + answer(&input).bytes.len() <= 4_000 {
             return input;
         }

@@ -4,11 +4,25 @@ use crate::draw::Draw;
 use crate::headers::{self, filler, pack};
 use crate::model::{BUFFER_UNIT, Call, Model, RATE_UNIT};
 
-pub const FRAME_RATES: [(u64, u64); 8] =
+const FRAME_RATES: [(u64, u64); 8] =
     [(24_000, 1001), (24, 1), (25, 1), (30_000, 1001), (30, 1), (50, 1), (60_000, 1001), (60, 1)];
 
-/// Bytes that a picture is at most filled up with to reach its least end.
+/// The rate of a code, n and d.
+pub fn frame_rate(code: u64, n: u64, d: u64) -> (u64, u64) {
+    let (frn, frd) = FRAME_RATES[code as usize - 1];
+    (frn * (n + 1), frd * (d + 1))
+}
+
+/// Bytes that a picture is at most filled up with to reach its least end; more where long intervals ask for them.
 const FILL: u64 = 240;
+const LONG_FILL: u64 = 3_000;
+
+/// Which check a stream is made for: fields, n and d count in MPEG-2's alone. And whether it has MPEG-2's extensions.
+#[derive(Clone, Copy)]
+pub struct Form {
+    pub mpeg2: bool,
+    pub extensions: bool,
+}
 
 #[derive(Clone, Copy, PartialEq)]
 pub enum Fault {
@@ -56,7 +70,7 @@ const FAULTS: [Fault; 15] = [
 
 /// What a stream is made of.
 struct Plan {
-    mpeg2: bool,
+    form: Form,
     fault: Fault,
     pictures: usize,
     /// The picture at which the fault is.
@@ -64,6 +78,9 @@ struct Plan {
     rate: u64,
     buffer: u64,
     rate_code: u64,
+    /// n and d of the sequence extension.
+    more_rate: (u64, u64),
+    fill: u64,
     /// Of eight pictures, how many are fields.
     fields: usize,
     /// Zeros at the end of a header serve as those of the next start code.
@@ -88,9 +105,9 @@ pub fn fault(d: &mut Draw) -> Fault {
     if d.one_in(2) { Fault::None } else { FAULTS[d.below(FAULTS.len())] }
 }
 
-fn plan(mpeg2: bool, fault: Fault, d: &mut Draw) -> Plan {
+fn plan(form: Form, fault: Fault, d: &mut Draw) -> Plan {
     let mut pictures = if d.one_in(8) { 1 + d.below(30) } else { 1 + d.below(7) };
-    let (rate_bits, buffer_bits) = if mpeg2 && d.one_in(2) { (30, 18) } else { (18, 10) };
+    let (rate_bits, buffer_bits) = if form.mpeg2 && d.one_in(2) { (30, 18) } else { (18, 10) };
     let mut buffer = if d.one_in(3) { d.nonzero(buffer_bits) } else { 1 + d.below(3) as u64 };
     let more = [0, d.below(3), d.below(60), d.below(1 << 18)][d.below(4)] as u64;
     let mut rate = (least_rate(buffer) + more).min((1 << rate_bits) - 1);
@@ -98,6 +115,11 @@ fn plan(mpeg2: bool, fault: Fault, d: &mut Draw) -> Plan {
         rate += 1;
     }
     let mut rate_code = 1 + d.below(8) as u64;
+    let mut more_rate = if form.extensions && d.one_in(2) { (d.value(2), d.value(5)) } else { (0, 0) };
+    let fill = if more_rate.1 != 0 && d.one_in(4) { LONG_FILL } else { FILL };
+    if fill == LONG_FILL {
+        pictures = pictures.min(7);
+    }
     let mut faulty = d.below(pictures);
     match fault {
         Fault::RateCode => rate_code = if d.one_in(4) { 0 } else { 9 + d.below(7) as u64 },
@@ -106,29 +128,33 @@ fn plan(mpeg2: bool, fault: Fault, d: &mut Draw) -> Plan {
         Fault::LowRate => rate &= !0x3FFFF,
         Fault::Early => {
             (buffer, rate, rate_code) = (1, 57 + d.below(9) as u64, 6 + d.below(3) as u64);
+            more_rate.1 = 0;
             (pictures, faulty) = (pictures + 1, faulty + 1);
         }
         Fault::NoPicture => pictures = 0,
         _ => {}
     }
     Plan {
-        mpeg2,
+        form,
         fault,
         pictures,
         faulty,
         rate,
         buffer,
         rate_code,
-        fields: if mpeg2 { [0, 0, 4, 8][d.below(4)] } else { 0 },
+        more_rate,
+        fill,
+        fields: if form.extensions { [0, 0, 4, 8][d.below(4)] } else { 0 },
         shared: d.one_in(4),
         end_code: d.one_in(2),
     }
 }
 
 /// One stream.
-pub fn drawn(mpeg2: bool, fault: Fault, d: &mut Draw) -> Vec<u8> {
-    let plan = plan(mpeg2, fault, d);
-    let (frn, frd) = FRAME_RATES[plan.rate_code.clamp(1, 8) as usize - 1];
+pub fn drawn(form: Form, fault: Fault, d: &mut Draw) -> Vec<u8> {
+    let plan = plan(form, fault, d);
+    let (n, of_d) = if form.mpeg2 { plan.more_rate } else { (0, 0) };
+    let (frn, frd) = frame_rate(plan.rate_code.clamp(1, 8), n, of_d);
     let model = Model::new([RATE_UNIT * plan.rate, BUFFER_UNIT * plan.buffer, frn, frd]).ok();
     let mut stream = Stream { plan, model, bytes: vec![] };
     let late = stream.plan.fault == Fault::Late;
@@ -167,10 +193,13 @@ impl Stream {
         header[5].1 = self.plan.rate % (1 << 18);
         header[7].1 = self.plan.buffer % (1 << 10);
         self.put(&pack(&header));
-        if self.plan.mpeg2 {
+        if self.plan.form.extensions {
             let mut extension = headers::sequence_extension(d);
-            extension[7].1 = self.plan.rate >> 18;
-            extension[9].1 = self.plan.buffer >> 10;
+            if self.plan.form.mpeg2 {
+                extension[7].1 = self.plan.rate >> 18;
+                extension[9].1 = self.plan.buffer >> 10;
+            }
+            (extension[11].1, extension[12].1) = self.plan.more_rate;
             self.put(&pack(&extension));
         }
     }
@@ -178,10 +207,11 @@ impl Stream {
     /// What may stand before a picture: another sequence header, a group header, user data.
     fn between(&mut self, n: usize, d: &mut Draw) {
         if n != 0 && d.one_in(16) {
-            let declared = (self.plan.rate, self.plan.buffer);
+            let declared = (self.plan.rate, self.plan.buffer, self.plan.more_rate);
             (self.plan.rate, self.plan.buffer) = (d.nonzero(18), d.value(10));
+            self.plan.more_rate = (d.value(2), d.value(5));
             self.sequence(d);
-            (self.plan.rate, self.plan.buffer) = declared;
+            (self.plan.rate, self.plan.buffer, self.plan.more_rate) = declared;
         }
         if d.one_in(8) {
             self.put(&headers::group(d));
@@ -201,12 +231,13 @@ impl Stream {
         }
         let last = n + 1 == self.plan.pictures;
         let tail = if last && self.plan.end_code { 4 } else { 0 };
-        let end = self.end(n, field.into(), tail, last, d);
+        let interval = (field && self.plan.form.mpeg2).into();
+        let end = self.end(n, interval, tail, last, d);
         self.slices(end - tail, d);
         if tail != 0 {
             self.bytes.extend([0, 0, 1, 0xB7]);
         }
-        let end = Call { which: 3, place: 8 * self.bytes.len() as u64, small: field.into() };
+        let end = Call { which: 3, place: 8 * self.bytes.len() as u64, small: interval };
         if self.model.as_mut().is_some_and(|m| m.call(end).is_err()) {
             self.model = None;
         }
@@ -224,7 +255,7 @@ impl Stream {
             header[2].1 = [0, 5, 6, 7][d.below(4)];
         }
         self.put(&pack(&header));
-        if self.plan.mpeg2 {
+        if self.plan.form.extensions {
             let mut extension = headers::picture_coding_extension(d);
             extension[7].1 = if field { 1 + d.below(2) as u64 } else { 3 };
             if bad {
@@ -269,9 +300,9 @@ impl Stream {
         let least = if last { 0 } else { asked(model, 5, interval).div_ceil(8) };
         if self.faulty(n, Fault::Size) {
             let beyond = if d.one_in(2) { most + 1 } else { least.saturating_sub(1) };
-            return beyond.clamp(shortest, shortest + FILL);
+            return beyond.clamp(shortest, shortest + self.plan.fill);
         }
-        let least = least.clamp(shortest, shortest + FILL);
+        let least = least.clamp(shortest, shortest + self.plan.fill);
         let most = most.clamp(least, least + FILL / 4);
         if self.plan.fault == Fault::Early {
             return most;

@@ -1,5 +1,5 @@
-//! The constant-rate writer as paper 01 tells it ('A placed picture'): a model of the paper's rules in plain numbers of 128 bits.
-//! It parses with the original's functions; everything else is its own, its numbers (400, 16,384, 2^48) too: so it is
+//! The constant-rate writer as paper 01 tells it ('A placed picture'), at the rates of request 02: a model of the papers' rules
+//! in plain numbers of 128 bits. It parses with the original's functions; everything else is its own, its numbers (400, 16,384, 2^48) too: so it is
 //! independent of what it is compared with.
 
 use original::picture_header::{Mpeg2PictureHeader, PictureCodingType, PictureStructure};
@@ -8,14 +8,23 @@ use original::sequence_extension::Mpeg2Sequence;
 const FRAME_RATES: [(u128, u128); 8] =
     [(24_000, 1001), (24, 1), (25, 1), (30_000, 1001), (30, 1), (50, 1), (60_000, 1001), (60, 1)];
 
+/// What a writer is created with, as wide as an entry can say it; n and d are those of the frame rate's extension.
 #[derive(Clone, Copy)]
 pub struct Config {
-    pub rate: u32,
-    pub buffer: u16,
-    pub rate_code: u8,
-    pub q: u8,
-    pub between: u8,
-    pub anchors: u8,
+    pub rate: u64,
+    pub buffer: u64,
+    pub rate_code: u64,
+    pub n: u64,
+    pub d: u64,
+    pub q: u64,
+    pub between: u64,
+    pub anchors: u64,
+}
+
+/// The rate of a code, n and d in range, not reduced; none where there is no such code.
+fn frame_rate(code: u64, n: u64, d: u64) -> Option<(u128, u128)> {
+    let (frn, frd) = FRAME_RATES.get(usize::try_from(code.checked_sub(1)?).ok()?)?;
+    Some((frn * (u128::from(n) + 1), frd * (u128::from(d) + 1)))
 }
 
 /// Kinds are 0, 1 and 2 for I, P and B.
@@ -126,25 +135,24 @@ impl Writer {
     pub fn create(c: Config) -> Result<Self, u8> {
         let fits = (1..=262_143).contains(&c.rate)
             && (1..=1023).contains(&c.buffer)
+            && c.n <= 3
+            && c.d <= 31
             && (1..=31).contains(&c.q)
             && c.between <= 15
-            && 1 <= c.anchors;
+            && (1..=255).contains(&c.anchors);
         if !fits {
             return Err(12);
         }
-        if !(1..=8).contains(&c.rate_code) {
-            return Err(6);
-        }
+        let Some((frn, frd)) = frame_rate(c.rate_code, c.n, c.d) else { return Err(6) };
         let (rate, buffer) = (400 * u128::from(c.rate), 16_384 * u128::from(c.buffer));
         if 90_000 * buffer > 65_534 * rate {
             return Err(12);
         }
-        let (frn, frd) = FRAME_RATES[c.rate_code as usize - 1];
         let (between, anchors) = (u128::from(c.between), u128::from(c.anchors));
         let group = rate * frd / frn * (1 + anchors * (between + 1));
         let weights = 40 + 16 * anchors + 9 * anchors * between;
         let targets = [40, 16, 9].map(|w| (group * w / weights) as u64);
-        let (q, pending) = ([c.q; 3], None);
+        let (q, pending) = ([c.q as u8; 3], None);
         let (started, delivered, end, placed, stuffing, finished) = (false, 0, 0, 0, 0, false);
         Ok(Self { rate, buffer, frn, frd, targets, q, pending, started, delivered, end, placed, stuffing, finished })
     }
@@ -171,13 +179,14 @@ impl Writer {
         shape && sequences == 1 && codes[0] == (0, 0xB3) && self.declared(h)
     }
 
-    /// A sequence header with this rate, buffer and frame rate.
+    /// A sequence header with this rate and buffer, and a frame rate of this value, whatever its code, n and d.
     fn declared(&self, h: &[u8]) -> bool {
         Mpeg2Sequence::from_buf(h).is_ok_and(|s| {
+            let (n, d) = (s.extension.frame_rate_extension_n, s.extension.frame_rate_extension_d);
+            let shown = frame_rate(s.header.frame_rate_code.into(), n.into(), d.into());
             400 * u128::from(s.bit_rate) == self.rate
                 && 16_384 * u128::from(s.vbv_buffer_size) == self.buffer
-                && FRAME_RATES.get(usize::from(s.header.frame_rate_code) - 1) == Some(&(self.frn, self.frd))
-                && (s.extension.frame_rate_extension_n, s.extension.frame_rate_extension_d) == (0, 0)
+                && shown.is_some_and(|(frn, frd)| frn * self.frd == self.frn * frd)
         })
     }
 

@@ -60,9 +60,11 @@ pub(crate) fn list(s: &[u8], out: &mut [u8], given: &mut [u64]) -> usize {
         bit_rate_value: number32(s, 0),
         vbv_buffer_size_value: number16(s, 4),
         frame_rate_code: byte(s, 6),
-        initial_quantiser_scale_code: byte(s, 7),
-        b_between: byte(s, 8),
-        anchors_per_gop: byte(s, 9),
+        frame_rate_extension_n: byte(s, 7),
+        frame_rate_extension_d: byte(s, 8),
+        initial_quantiser_scale_code: byte(s, 9),
+        b_between: byte(s, 10),
+        anchors_per_gop: byte(s, 11),
     });
     let answer = created.answer;
     match answer {
@@ -85,9 +87,9 @@ fn put_created(s: &[u8], writer: CbrWriter, out: &mut [u8], given: &mut [u64]) -
 
 fn put_calls(s: &[u8], writer: CbrWriter, out: &mut [u8], from: usize, given: &mut [u64]) -> usize {
     let mut now = writer;
-    let mut at: usize = 11;
+    let mut at: usize = 13;
     let mut next = from;
-    let mut left = byte(s, 10);
+    let mut left = byte(s, 12);
     while left > 0 {
         let called = call(s, at, now, out, next);
         add_one(given, called.number as usize);

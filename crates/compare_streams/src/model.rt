@@ -25,10 +25,10 @@ struct Called {
 }
 
 pub(crate) fn frame_rate(s: &[u8], out: &mut [u8]) -> usize {
-    if s.len() != 1 {
+    if s.len() != 3 {
         return 0;
     }
-    let rate = vbv::frame_rate_value(byte(s, 0));
+    let rate = vbv::frame_rate_value(byte(s, 0), byte(s, 1), byte(s, 2));
     match rate {
         FrameRate::Refused(e) => put(out, 0, e.number()),
         FrameRate::Rate(frn, frd) => {

@@ -1,21 +1,21 @@
-//! The writer: lists of calls drawn like those of kind 19, its state kept as bytes, and what the model of paper 01 (writer.rs)
-//! comes to.
+//! The writer: lists of calls drawn like those of kind 19, its state kept as bytes, and what the model of paper 01 and request 02
+//! (writer.rs) comes to. It is created by arguments or, always where n or d is not 0, by words (create.rs).
 //!
 //! Before some of a list's calls stands another one, on a copy of the state: damaged or cut short, with a kind, an interval or a
 //! flag out of range, or with a place for the answer that is too short. What a damaged state holds is decoded here once more
 //! (state.rs). After each list stands the check of what it handed out (vbv.rs).
 
+use crate::create::{CREATIONS, CREATIONS_BY_WORDS};
 use crate::entry;
 use crate::run::{Owed, Run};
 use oracle::draw::Draw;
 use oracle::format::{number, pattern};
 use oracle::layout::{CBR_AGAIN, CBR_ANSWER_BYTES, CBR_FIELD, CBR_FRAME, CBR_PLACED, CBR_REFUSED, CBR_STATE_BYTES};
-use oracle::lists::{Call, call, configured};
+use oracle::lists::{CALLS, Call, call, configured};
 use oracle::place::{Left, Place, lay};
 use oracle::state::{WORDS, held, limits, words, words_of};
-use oracle::writer::{Config, Offer, Told, Writer};
+use oracle::writer::{Offer, Told, Writer};
 
-const CREATIONS: &str = "creations";
 const OFFERS: &str = "offers";
 const STOPPED: &str = "offers stopped before the writer";
 const DAMAGED: &str = "offers on a damaged state that fits";
@@ -47,8 +47,9 @@ const STOPS: [&str; 7] = [
 ];
 
 /// What has to be met.
-pub const OWED: [Owed; 5] = [
-    (CREATIONS, &["accepted", "refused 6", "refused 12", "refused 19"]),
+pub const OWED: [Owed; 6] = [
+    CREATIONS,
+    CREATIONS_BY_WORDS,
     (OFFERS, &ANSWERS),
     (STOPPED, &STOPS),
     (DAMAGED, &ANSWERS),
@@ -86,8 +87,8 @@ impl Sent {
     }
 }
 
-/// A value returned by a call that has a state and nothing else, and what it leaves there.
-fn alone(number: u64, state: &[u8]) -> Left {
+/// A value returned by a call that writes a state and nothing else, and what it leaves there.
+pub fn alone(number: u64, state: &[u8]) -> Left {
     let mut left = Left::before(&[("state", state)]);
     left.number = number;
     left
@@ -175,13 +176,6 @@ fn withdrawn(state: &[u8], d: &mut Draw) -> Left {
     Left::after(number, &[("state", &state)], &[])
 }
 
-fn created(c: Config, state: &[u8], d: &mut Draw) -> Left {
-    let mut state = Place::new(state, d);
-    let number =
-        unsafe { entry::cbr_create(c.rate, c.buffer, c.rate_code, c.q, c.between, c.anchors, state.at(), state.len) };
-    Left::after(number, &[("state", &state)], &[])
-}
-
 /// A word's other value: around its limit, around bits delivered that matter, or any.
 fn another(s: &[u64; WORDS], k: usize, d: &mut Draw) -> u64 {
     let (buffer, end) = (s[1] % (1 << 33), s[6] % (1 << 49));
@@ -203,7 +197,12 @@ fn damaged(state: &[u8], d: &mut Draw) -> Vec<u8> {
         return bytes;
     }
     while bytes == state || d.one_in(3) {
-        if d.one_in(4) {
+        if d.one_in(8) {
+            // Another rate of the same value, or nearly so.
+            let (mut s, by) = (words_of(&bytes).unwrap(), 2 + d.below(4) as u64);
+            (s[2], s[3]) = (s[2].wrapping_mul(by), s[3].wrapping_mul(by).wrapping_add(d.one_in(4).into()));
+            lay(&mut bytes, &s);
+        } else if d.one_in(4) {
             bytes[d.below(CBR_STATE_BYTES)] = d.byte();
         } else {
             let (mut s, k) = (words_of(&bytes).unwrap(), d.below(WORDS));
@@ -215,27 +214,6 @@ fn damaged(state: &[u8], d: &mut Draw) -> Vec<u8> {
 }
 
 impl Run {
-    /// A writer and its state, in a place that may be longer.
-    fn create(&mut self, c: Config) -> Option<(Writer, Vec<u8>)> {
-        if self.d.one_in(16) {
-            let n = self.d.below(CBR_STATE_BYTES);
-            let place = self.d.bytes(n);
-            let found = created(c, &place, &mut self.d);
-            self.met(CREATIONS, "refused 19", &found, &alone(19, &place));
-        }
-        let n = CBR_STATE_BYTES + self.d.below(3) * self.d.below(16);
-        let mut state = self.d.bytes(n);
-        let found = created(c, &state, &mut self.d);
-        let made = Writer::create(c);
-        if let Ok(w) = &made {
-            lay(&mut state, &words(w));
-        }
-        let number = made.as_ref().err().map_or(0, |&n| n.into());
-        let why = if number == 0 { "accepted".into() } else { format!("refused {number}") };
-        self.met(CREATIONS, &why, &found, &alone(number, &state));
-        made.ok().map(|w| (w, state))
-    }
-
     /// Compares an offer, and leaves the state that is expected; the other places are returned.
     fn offer(&mut self, what: &'static str, writer: Option<&mut Writer>, state: &mut Vec<u8>, c: &Offering) -> Left {
         let (mut expected, why) = expected(writer, state, c);
@@ -285,7 +263,7 @@ impl Run {
     pub fn list(&mut self, input: &[u8]) {
         let Some((mut w, mut state)) = self.create(configured(input)) else { return };
         let mut sent = Sent { whole: true, stream: vec![], placed: vec![] };
-        let mut rest = &input[11..];
+        let mut rest = &input[CALLS..];
         while !rest.is_empty() {
             let (call, part, after) = call(rest);
             rest = after;

@@ -32,6 +32,7 @@ unsafe extern "C" {
         state: *mut u8,
         state_len: usize,
     ) -> u64;
+    pub fn cbr_create_config(config: *const u8, config_len: usize, state: *mut u8, state_len: usize) -> u64;
     pub fn cbr_offer(
         state: *mut u8,
         state_len: usize,

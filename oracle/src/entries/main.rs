@@ -1,12 +1,13 @@
 //! Runs drawn cases through the entries that C calls, and holds every value returned and every byte of every lent place to
 //! what is expected: of the check and of the delay patch what the original answers (vbv.rs), of the writer what the model of
-//! paper 01 comes to (cbr.rs).
+//! paper 01 and request 02 comes to (create.rs, cbr.rs).
 //!
 //!     entries COUNT SEED
 //!
 //! COUNT lists of calls, as many streams, and as many headers to patch.
 
 mod cbr;
+mod create;
 mod entry;
 mod run;
 mod vbv;
