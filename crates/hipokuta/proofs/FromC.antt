@@ -164,6 +164,10 @@ no-room : (c : CbrConfig) (place : List ℕ) → length place < stateSize → cr
 unfolding createIn pick
 no-room c place h = rw (lt-ltb (length place) stateSize h)
 
+too-short : (config place : List ℕ) → length config < configSize → createWith config place ≡ refused 12 0 0 0
+unfolding createWith pick
+too-short config place h = rw (lt-ltb (length config) configSize h)
+
 no-room-with : (config place : List ℕ) → configSize ≤ length config → length place < stateSize → createWith config place ≡ refused 19 0 0 0
 unfolding createWith pick
 no-room-with config place l h = rw (le-ltb (length config) configSize l, lt-ltb (length place) stateSize h)
@@ -203,7 +207,7 @@ unfolding createWith pick
 another-mode config place l h n = rw (le-ltb (length config) configSize l, le-ltb (length place) stateSize h, mode-unfit config n)
 
 pub config-read : ConfigRead
-config-read = record { as-create = as-create; other-mode = another-mode }
+config-read = record { as-create = as-create; too-short = too-short; no-place = no-room-with; other-mode = another-mode }
 
 -- 0 says that the bytes are long enough, that there is room, and that the mode is 2
 pub from-config : OwedFromConfig

@@ -137,10 +137,13 @@ configWords c =
     ∷ c .«anchors_per_gop»
     ∷ []
 
--- a creation by the bytes of these words is the creation with the fields, large ones too, whatever stands after them: with n and d 0 that of `cbr_create`; and another mode is 12
+-- a creation by the bytes of these words is the creation with the fields, large ones too, whatever stands after them: with n and d 0 that of `cbr_create`. First 12 for bytes that are too few, then 19 for
+-- a place that is too short, then 12 for another mode
 pub record ConfigRead : Type 0 where
   pub as-create : (c : CbrConfig) (more place : List ℕ) → ((k : ℕ) → getD (configWords c) k 0 < 2 ^ 64)
       → createWith (wordsBytes (configWords c) ++ more) place ≡ createIn c place
+  pub too-short : (config place : List ℕ) → length config < 72 → createWith config place ≡ refused 12 0 0 0
+  pub no-place : (config place : List ℕ) → 72 ≤ length config → length place < 152 → createWith config place ≡ refused 19 0 0 0
   pub other-mode : (config place : List ℕ) → 72 ≤ length config → 152 ≤ length place → (wordAt config 0 ≡ 2 → ⊥) → createWith config place ≡ refused 12 0 0 0
 
 abbrev pub OwedFromConfig : Type 0

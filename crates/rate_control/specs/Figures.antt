@@ -23,7 +23,7 @@ pub record WriterFigures : Type 0 where
   pub targets-of-three : targets (at25 1000000 327680) 2 4 ≡ 118181 ∷ 47272 ∷ 26590 ∷ []
   pub retries-from-1 : retried 11 1 ≡ 2 ∷ 3 ∷ 4 ∷ 6 ∷ 8 ∷ 11 ∷ 14 ∷ 18 ∷ 23 ∷ 29 ∷ 31 ∷ []
 
--- figures that no paper has: the target of each kind, and targets at 50/2 and at 30,000/1001, where a picture's bits are no whole number
+-- figures that no paper has: the target of each kind; targets at 50/2; and at 30,000/1001, where a picture's bits are no whole number
 pub record TargetFigures : Type 0 where
   pub of-i : of I (targets (at25 1000000 327680) 2 4) ≡ 118181
   pub of-p : of P (targets (at25 1000000 327680) 2 4) ≡ 47272

@@ -63,7 +63,7 @@ pub record Theorems : Type 0 where
   pub in-fractions : InFractions
   -- The model refuses with 12, 13, 14, 7 and 8 by number alone, and with 9 and 10 by number and picture; a frame rate with 12 and 6, the patch with 20.
   pub model-numbers : ModelNumbers
-  -- The frame rate of a code, n and d in figures; and only its value counts: with the same R, B and value all that Annex C tells is the same, whatever units it is counted in.
+  -- The lookup of a frame rate is answered as it is due, with figures; and only its value counts: with the same R, B and value all that Annex C tells is the same, whatever units it is counted in.
   pub rates : RatesOwed
   -- A model that `new` and calls left is in its ranges.
   pub model-stays : ModelStays
@@ -98,7 +98,7 @@ pub record Theorems : Type 0 where
   pub periods-told : PeriodsTold
   -- In a record the delays have 16 bits, the data bits are at most 2^48, the occupancy is at most the largest buffer and the periods are at most 6.
   pub records-small : RecordsSmall
-  -- Of a frame rate only the value counts (request 02): with the same R, B and value the report, the records and every refusal of the pictures are the same.
+  -- Of a frame rate only the value counts (request 02): streams that show the same pictures, R, B and value get the same report, records or refusal.
   pub value-reports : ValueReports
   -- ---- the writer
   -- The first headers declare a writer's parameters exactly when they show its R, its B and a frame rate of its value, by whatever code, n and d.
@@ -121,7 +121,7 @@ pub record Theorems : Type 0 where
   -- ---- figures
   -- The figures of paper 01 that are marked P.
   pub writer-figures : WriterFigures
-  -- The target of each kind, and targets at 50/2 and where a picture's bits are no whole number.
+  -- The target of each kind; targets at 50/2; and where a picture's bits are no whole number.
   pub target-figures : TargetFigures
   -- Of a frame rate only the value counts (request 02): the same targets and first delay.
   pub value-targets : ValueTargets

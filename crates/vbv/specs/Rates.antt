@@ -1,6 +1,6 @@
--- Frame rates with extensions (ISO/IEC 13818-2 6.3.5; request 02): figures; and that of a frame rate only the value counts, not the numerator and denominator that it is written with.
+-- Frame rates with extensions (ISO/IEC 13818-2 6.3.5; request 02): which answer the lookup is due; figures; and that of a frame rate only the value counts, not the numerator and denominator that it is written with.
 -- Assumes nothing.
-use Prim.Native.Nat.{ℕ, _+_, _*_}
+use Prim.Native.Nat.{ℕ, _+_, _*_, _≤_, _<_}
 use mathlib.Core.Path.{_≡_}
 use mathlib.Core.Bool.{true}
 use Rattle.bits.specs.Refusals.{value, refused}
@@ -9,6 +9,13 @@ use Rattle.vbv.specs.Answers.{frameRate}
 use Rattle.vbv.specs.Model.{paramsFit}
 use Rattle.vbv.specs.Params.{sameParams}
 use Rattle.vbv.specs.declared.VbvParams.{VbvParams}
+
+-- 12 for an n or d that is too wide, whatever the code; then 6 for a code other than 1 to 8; then the product of the code's own rate
+pub record LookupDue : Type 0 where
+  pub n-wide : (c n d : ℕ) → 3 < n → frameRate c n d ≡ refused 12 0 0 0
+  pub d-wide : (c n d : ℕ) → 31 < d → frameRate c n d ≡ refused 12 0 0 0
+  pub no-rate : (c n d : ℕ) → n ≤ 3 → d ≤ 31 → (1 ≤ c → c ≤ 8 → ⊥) → frameRate c n d ≡ refused 6 0 0 0
+  pub product : (c n d : ℕ) (f : ℕ × ℕ) → n ≤ 3 → d ≤ 31 → frameRate c 0 0 ≡ value f → frameRate c n d ≡ value (f .0 * (n + 1), f .1 * (d + 1))
 
 pub record RateFigures : Type 0 where
   -- the codes alone
@@ -24,7 +31,8 @@ pub record RateFigures : Type 0 where
   pub greatest : frameRate 7 3 31 ≡ value (240000, 32032)
   pub half-of-50 : frameRate 6 0 1 ≡ value (50, 2)
   pub doubled-and-halved : frameRate 3 1 1 ≡ value (50, 2)
-  -- n times up, d times down
+  -- n times up, d times down: 24000/1001 × 2 / 5
+  pub two-fifths : frameRate 1 1 4 ≡ value (48000, 5005)
   pub up : frameRate 3 1 0 ≡ value (50, 1)
   pub down : frameRate 3 0 1 ≡ value (25, 2)
   -- 12 before 6
@@ -53,5 +61,6 @@ pub record SameTold (p q : VbvParams) : Type 0 where
 
 -- what is owed
 pub record RatesOwed : Type 0 where
+  pub lookup : LookupDue
   pub figures : RateFigures
   pub value-decides : (p q : VbvParams) → sameParams p q ≡ true → SameTold p q

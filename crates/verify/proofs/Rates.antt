@@ -12,10 +12,12 @@ use Rattle.vbv.specs.Params.{sameParams}
 use Rattle.vbv.specs.Rates.{SameBits, SameTold}
 use Rattle.vbv.specs.declared.VbvParams.{VbvParams}
 use Rattle.vbv.proofs.Scale.{SameValue, same-value, same-told}
+use Rattle.pictures.specs.Front.{Front, front}
+use Rattle.pictures.specs.declared.VbvStandard.{VbvStandard}
 use Rattle.pictures.specs.declared.SeenPicture.{SeenPicture}
 use Rattle.verify.specs.Run.{recordOf, removal, run}
-use Rattle.verify.specs.Check.{Accepted, accepted, withPictures, reported, records}
-use Rattle.verify.specs.Rates.{ValueReports}
+use Rattle.verify.specs.Check.{Accepted, accepted, withPictures, verdict, reported, records}
+use Rattle.verify.specs.Rates.{SameAnswer, ValueReports}
 use Rattle.verify.specs.declared.CodedPicture.{CodedPicture}
 use Rattle.verify.specs.declared.VbvPictureRecord.{VbvPictureRecord}
 
@@ -73,6 +75,16 @@ module _ (p q : VbvParams) (h : sameParams p q ≡ true) (places : ℕ) (x : See
   unfolding withPictures
   through g k = rw (told .fits, same-ran) (past g _ _ (past g _ _ (past g _ _ (k (ran q)))))
 
-pub value-reports : ValueReports
-value-reports p q h places x cs =
+same-pictures : (p q : VbvParams) → sameParams p q ≡ true → (places : ℕ) (x : SeenPicture) (cs : List CodedPicture)
+    → SameAnswer (withPictures places p x cs) (withPictures places q x cs)
+same-pictures p q h places x cs =
     (through p q h places x cs reported (same-reported (same-value p q h)), through p q h places x cs records (same-records (same-value p q h)))
+
+same-streams : (standard : VbvStandard) (s t : List ℕ) (places : ℕ) (f g : Front) → front standard s ≡ value f → front standard t ≡ value g
+    → sameParams (f .params) (g .params) ≡ true → f .first ≡ g .first → f .others ≡ g .others
+    → SameAnswer (verdict standard s places) (verdict standard t places)
+unfolding verdict
+same-streams standard s t places f g a b h e k = rw (a, b, e, k) (same-pictures (f .params) (g .params) h places (g .first) _)
+
+pub value-reports : ValueReports
+value-reports = record { of-pictures = same-pictures; of-streams = same-streams }

@@ -4,14 +4,25 @@ use Prim.Native.Nat.{ℕ}
 use mathlib.Core.Path.{_≡_}
 use mathlib.Core.Bool.{true}
 use mathlib.Core.List.{List}
+use Rattle.bits.specs.Refusals.{Answer, value}
 use Rattle.vbv.specs.Params.{sameParams}
 use Rattle.vbv.specs.declared.VbvParams.{VbvParams}
+use Rattle.pictures.specs.Front.{Front, front}
+use Rattle.pictures.specs.declared.VbvStandard.{VbvStandard}
 use Rattle.pictures.specs.declared.SeenPicture.{SeenPicture}
-use Rattle.verify.specs.Check.{withPictures, reported, records}
+use Rattle.verify.specs.Check.{Accepted, withPictures, verdict, reported, records}
 use Rattle.verify.specs.declared.CodedPicture.{CodedPicture}
 
--- what is owed, of the part of the check that comes after the front: report or refusal, and records
-abbrev pub ValueReports : Type 0
-ValueReports =
-    (p q : VbvParams) → sameParams p q ≡ true → (places : ℕ) (x : SeenPicture) (cs : List CodedPicture)
-    → (reported (withPictures places p x cs) ≡ reported (withPictures places q x cs)) × (records (withPictures places p x cs) ≡ records (withPictures places q x cs))
+-- the same report or refusal, and the same records
+abbrev pub SameAnswer : Answer Accepted → Answer Accepted → Type 0
+SameAnswer a b = (reported a ≡ reported b) × (records a ≡ records b)
+
+-- what is owed
+pub record ValueReports : Type 0 where
+  -- of the part of the check that comes after the front
+  pub of-pictures : (p q : VbvParams) → sameParams p q ≡ true → (places : ℕ) (x : SeenPicture) (cs : List CodedPicture)
+      → SameAnswer (withPictures places p x cs) (withPictures places q x cs)
+  -- so of two streams whose headers show the same pictures, and the same parameters but for numerator and denominator
+  pub of-streams : (standard : VbvStandard) (s t : List ℕ) (places : ℕ) (f g : Front) → front standard s ≡ value f → front standard t ≡ value g
+      → sameParams (f .params) (g .params) ≡ true → f .first ≡ g .first → f .others ≡ g .others
+      → SameAnswer (verdict standard s places) (verdict standard t places)
