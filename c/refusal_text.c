@@ -35,8 +35,7 @@ static const struct {
         "Write the right delays: cbrsend does, or vbv_patch_delay." },
     [VBV_PARAMETER] = { "parameter out of range",
         "The rate or the buffer is zero or too large, or the buffer takes more than 65,534 ticks to fill. Choose others. "
-        "From C also: a configuration that is too short or has a value out of range, a bad standard, mode, kind, interval, "
-        "flag or state." },
+        "From C also: a bad configuration, standard, mode, kind, interval, flag or state." },
     [VBV_TOO_FAR] = { "stream too long",
         "The stream has more than 2^48 bits. Check it in parts; send the rest by a new writer." },
     [VBV_RECORD_PLACES] = { "too few record places",
