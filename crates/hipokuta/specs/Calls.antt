@@ -118,10 +118,7 @@ pub record FromCreation (c : CbrConfig) (place : List ℕ) : Type 0 where
 abbrev pub OwedFromC : Type 0
 OwedFromC = (c : CbrConfig) (place : List ℕ) → number (createIn c place) ≡ 0 → FromCreation c place
 
--- an accepted creation by a configuration's bytes leaves the place as the creation with what they hold does, and so it is with every list of calls
-pub record FromConfig (config place : List ℕ) : Type 0 where
-  pub same : createWith config place ≡ createIn (configIn config) place
-  pub from-creation : FromCreation (configIn config) place
+-- ---- a creation by a configuration's bytes
 
 -- the words of a configuration, in their order: the mode, 2, before its fields
 abbrev pub configWords : CbrConfig → List ℕ
@@ -137,14 +134,19 @@ configWords c =
     ∷ c .«anchors_per_gop»
     ∷ []
 
--- a creation by the bytes of these words is the creation with the fields, large ones too, whatever stands after them: with n and d 0 that of `cbr_create`. First 12 for bytes that are too few, then 19 for
--- a place that is too short, then 12 for another mode
+-- a creation by the bytes of these words is the creation with the fields, large ones too, whatever stands after them: with n and d 0
+-- that of `cbr_create`. First 12 for bytes that are too few, then 19 for a place that is too short, then 12 for another mode
 pub record ConfigRead : Type 0 where
   pub as-create : (c : CbrConfig) (more place : List ℕ) → ((k : ℕ) → getD (configWords c) k 0 < 2 ^ 64)
       → createWith (wordsBytes (configWords c) ++ more) place ≡ createIn c place
   pub too-short : (config place : List ℕ) → length config < 72 → createWith config place ≡ refused 12 0 0 0
   pub no-place : (config place : List ℕ) → 72 ≤ length config → length place < 152 → createWith config place ≡ refused 19 0 0 0
   pub other-mode : (config place : List ℕ) → 72 ≤ length config → 152 ≤ length place → (wordAt config 0 ≡ 2 → ⊥) → createWith config place ≡ refused 12 0 0 0
+
+-- an accepted creation by a configuration's bytes leaves the place as the creation with what they hold does, and so it is with every list of calls
+pub record FromConfig (config place : List ℕ) : Type 0 where
+  pub same : createWith config place ≡ createIn (configIn config) place
+  pub from-creation : FromCreation (configIn config) place
 
 abbrev pub OwedFromConfig : Type 0
 OwedFromConfig = (config place : List ℕ) → number (createWith config place) ≡ 0 → FromConfig config place
