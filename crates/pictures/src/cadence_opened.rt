@@ -14,13 +14,16 @@ pub fn cadence_by(part: &[u8], film: bool) -> VbvCadence
     if film {
         let read = Mpeg2Sequence::from_buf(part);
         let answer = read.answer;
-        if let Answer::Parsed = answer {
-            let sequence = read.sequence;
-            let extension = sequence.extension;
-            return VbvCadence::opened(true, extension.progressive_sequence, extension.low_delay);
-        }
+        return match answer {
+            Answer::Parsed => {
+                let sequence = read.sequence;
+                let extension = sequence.extension;
+                VbvCadence::opened(true, extension.progressive_sequence, extension.low_delay)
+            }
+            Answer::Refused(_) => VbvCadence::opened(true, false, false),
+        };
     }
-    VbvCadence::opened(film, false, false)
+    VbvCadence::opened(false, false, false)
 }
 
 // By the first sequence header of a stream.
@@ -28,9 +31,10 @@ pub fn cadence_of(stream: &[u8], film: bool) -> VbvCadence
     ensures { λ r. ⌜ r ≡ cadenceOf film (now (stream .entry)) ⌝ }
 {
     if film {
-        if let Found::At { offset, code: _ } = first_sequence(stream) {
-            return cadence_by(&stream[offset..], film);
-        }
+        return match first_sequence(stream) {
+            Found::At { offset, code: _ } => cadence_by(&stream[offset..], true),
+            Found::Nothing => VbvCadence::opened(true, false, false),
+        };
     }
-    VbvCadence::opened(film, false, false)
+    VbvCadence::opened(false, false, false)
 }

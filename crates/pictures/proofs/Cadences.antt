@@ -37,7 +37,6 @@ unfolding cadenceOf cadenceAt
 plain-of s = case (found (skip notSequence (codes s)))
   where
     case : (f : Found) → cadenceAt false s f ≡ opened false false false
-    unfolding cadenceAt
     case (At o c) = plain-by _
     case Nothing = refl
 
