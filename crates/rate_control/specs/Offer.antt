@@ -61,12 +61,12 @@ deliveredAt w o =
     pick (w .model .started) (delivered (w .model)) (firstDelivered (w .model .params) (position w o) (firstDelay (w .model .params)))
 
 -- how long the picture lasts, by the cadence before it: until a picture is placed the one that the offer's own headers open
-unfoldable pub cadenceAt : CbrWriter → Offer → VbvCadence
-cadenceAt w o = pick (w .model .started) (w .cadence) (cadenceBy (w .cadence .film) (o .headers))
+unfoldable pub cadenceAt : CbrWriter → List ℕ → VbvCadence
+cadenceAt w headers = pick (w .model .started) (w .cadence) (cadenceBy (w .cadence .film) headers)
 
 unfoldable pub intervalAt : CbrWriter → Offer → RemovalInterval
 unfolding cadenceAt
-intervalAt w o = interval (cadenceAt w o) (factsIn (o .layer))
+intervalAt w o = interval (cadenceAt w (o .headers)) (factsIn (o .layer))
 
 unfoldable pub deliveredNext : CbrWriter → Offer → ℕ
 unfolding deliveredAt intervalAt
@@ -131,7 +131,7 @@ withPlaced w o = record {
   pending = Nothing;
   «stuffing_bytes» = w .«stuffing_bytes» + stuffing w o;
   finished = o .last;
-  cadence = after (cadenceAt w o) (factsIn (o .layer));
+  cadence = after (cadenceAt w (o .headers)) (factsIn (o .layer));
 }
 
 -- the writer that an answer leaves: a refusal changes nothing, 21 excepted, which closes the pending picture

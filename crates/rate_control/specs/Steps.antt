@@ -30,7 +30,6 @@ use Rattle.layers.specs.declared.PictureKind.{PictureKind}
 use Rattle.layers.specs.Headers.{headersFit}
 use Rattle.layers.specs.Layer.{layerFits}
 use Rattle.cadence.specs.declared.VbvCadence.{VbvCadence}
-use Rattle.pictures.specs.Cadence.{cadenceBy}
 use Rattle.rate_control.specs.Answers.{createdAnswer}
 use Rattle.rate_control.specs.Create.{writerParams, freshWriter, noWriter}
 use Rattle.rate_control.specs.Writer.{writerFits, index, of, clashes, asked, coarser, steered}
@@ -143,10 +142,6 @@ unfoldable pub measured : VbvCbrModel → ℕ → ℕ → RemovalInterval → Bo
 measured m headers layer i last =
     pick (ltb (farthest / 8) (max headers layer)) (Refused (Model Range))
     (within14 (extentOf m headers layer last) i last (startedAt m (extentOf m headers layer last .position)))
-
--- the cadence before a picture with these headers
-unfoldable pub cadenceBefore : CbrWriter → List ℕ → VbvCadence
-cadenceBefore w headers = pick (w .model .started) (w .cadence) (cadenceBy (w .cadence .film) headers)
 
 -- 12 for the state, 17, 18 and 20 before these
 -- the picture lasts j

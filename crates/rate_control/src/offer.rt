@@ -1,8 +1,8 @@
 // An offer: its tests in paper 01's order, and its answer.
 ghost use mathlib.Core.Path.{_≡_};
 ghost use Rattle.rate_control.specs.Answers.{offerAnswer};
-ghost use Rattle.rate_control.specs.Offer.{offer, left, outAfter};
-ghost use Rattle.rate_control.specs.Steps.{cadenceBefore, tested};
+ghost use Rattle.rate_control.specs.Offer.{cadenceAt, offer, left, outAfter};
+ghost use Rattle.rate_control.specs.Steps.{tested};
 use crate::CbrError;
 use crate::CbrOffered;
 use crate::CbrWriter;
@@ -19,7 +19,7 @@ use vbv::VbvError;
 impl CbrWriter {
     // The cadence before the picture: until one is placed, that which its own headers open.
     fn cadence_at(self, headers: &[u8]) -> VbvCadence
-        ensures { λ r. ⌜ r ≡ cadenceBefore self (now (headers .entry)) ⌝ }
+        ensures { λ r. ⌜ r ≡ cadenceAt self (now (headers .entry)) ⌝ }
     {
         let model = self.model;
         let cadence = self.cadence;
