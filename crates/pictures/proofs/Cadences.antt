@@ -15,7 +15,7 @@ use Rattle.scan.specs.Pictures.{skip, notSequence}
 use Rattle.scan.specs.declared.Found.{Found}
 use Rattle.scan.specs.declared.Found.the-variants.{At, Nothing}
 use Rattle.cadence.specs.Cadence.{opened}
-use Rattle.cadence.proofs.Plain.{opened-plain}
+use Rattle.cadence.proofs.Keeping.{opened-plain}
 use Rattle.pictures.specs.Cadence.{cadenceBy, cadenceAt, cadenceOf}
 use Rattle.pictures.specs.Sequence.{declaredBy}
 use Rattle.pictures.specs.declared.VbvStandard.the-variants.{Mpeg2}
