@@ -14,10 +14,11 @@ use Rattle.scan.specs.Codes.{Code, codes, found}
 use Rattle.scan.specs.Pictures.{skip, notSequence}
 use Rattle.scan.specs.declared.Found.{Found}
 use Rattle.scan.specs.declared.Found.the-variants.{At, Nothing}
-use Rattle.cadence.specs.Cadence.{opened}
-use Rattle.cadence.proofs.Keeping.{opened-plain}
+use Rattle.cadence.specs.Cadence.{opened, cadenceFits}
+use Rattle.cadence.proofs.Keeping.{opened-film, opened-plain, opened-fits}
 use Rattle.pictures.specs.Cadence.{cadenceBy, cadenceAt, cadenceOf}
 use Rattle.pictures.specs.Sequence.{declaredBy}
+use Rattle.pictures.specs.Due.{SequenceOpens}
 use Rattle.pictures.specs.declared.VbvStandard.the-variants.{Mpeg2}
 use Rattle.pictures.proofs.Showing.{declared-from, first-sequence}
 
@@ -53,3 +54,30 @@ unfolding cadenceBy
 cadence-append film s t p e =
     let a = declared-from s p e in
     rw (a .parsed, sequence-append s t (a .read) (a .parsed))
+
+-- film or not is kept, and it fits
+pub by-film : (film : Bool) (s : List ℕ) → cadenceBy film s .film ≡ film
+unfolding cadenceBy
+by-film film s = case (sequence s)
+  where
+    case : (r : Answer Mpeg2Sequence)
+        → orElse (opened film false false) (andThen r (λ q. value (opened film (q .extension .«progressive_sequence») (q .extension .«low_delay»)))) .film ≡ film
+    case (value q) = opened-film film _ _
+    case (refused n k c e) = opened-film film false false
+
+pub by-fits : (film : Bool) (s : List ℕ) → cadenceFits (cadenceBy film s) ≡ true
+unfolding cadenceBy
+by-fits film s = case (sequence s)
+  where
+    case : (r : Answer Mpeg2Sequence)
+        → cadenceFits (orElse (opened film false false) (andThen r (λ q. value (opened film (q .extension .«progressive_sequence») (q .extension .«low_delay»))))) ≡ true
+    case (value q) = opened-fits film _ _
+    case (refused n k c e) = opened-fits film false false
+
+-- what the fields say
+pub sequence-opens : SequenceOpens
+unfolding cadenceBy opened
+sequence-opens = record {
+  in-film = λ s q e. rw e;
+  outside-film = λ s. plain-by s;
+}
