@@ -217,13 +217,13 @@ unopened standard k s places e = rw (front-unopened standard s e)
 
 -- the recorder's, outside film
 module _ (standard : VbvStandard) (s : List ℕ) (places : ℕ) (r : VbvVerified) where
-  abbrev V : Answer Accepted
-  V = verdict (plain standard) s places
+  abbrev plainly : Answer Accepted
+  plainly = verdict (plain standard) s places
 
-  in-plain : V ≡ verdictBy standard (opened false false false) s places
+  in-plain : plainly ≡ verdictBy standard (opened false false false) s places
   in-plain = rw (plain-of s) at (verdict-in (plain standard) s places (plain-fits standard))
 
-  pub recorded : verifiedAnswer r ≡ reported V → Recorded (recordsBy (recorderStep s) (recorderOf standard (opening standard s))) places V r
+  pub recorded : verifiedAnswer r ≡ reported plainly → Recorded (recordsBy (recorderStep s) (recorderOf standard (opening standard s))) places plainly r
   unfolding recorderOf recordsAfter
   recorded h = rw in-plain (go (opening standard s) refl)
     where

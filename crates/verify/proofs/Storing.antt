@@ -12,21 +12,25 @@ use native.Mathlib.Numerals.{add-one}
 use lib.ListN.{length, take, drop, length-append}
 use lib.Seq.{sets, length-sets}
 use Rattle.bits.specs.Answers.{over}
-use Rattle.bits.proofs.Over.{over-sets, sets-append}
+use Rattle.bits.proofs.Over.{over-none as nothing-over, over-sets, sets-append}
 use Rattle.words.specs.Words.{wordsBytes, laid}
 use Rattle.words.proofs.Bytes.{length-words}
 use Rattle.words.proofs.Laying.{laid-part}
 use Rattle.verify.specs.Layout.{recordSize, recordBytes, recordsBytes}
-use Rattle.verify.specs.Check.{Accepted, records}
+use Rattle.verify.specs.Check.{Accepted, verdictBy, verdict, records}
 use Rattle.verify.specs.Steps.{advanced, recordCount, Walker, nextStep, recordsBy, storedNext}
+use Rattle.verify.specs.Mode.{modeFits}
+use Rattle.verify.specs.declared.VbvMode.{VbvMode}
 use Rattle.verify.specs.declared.VbvVerified.{VbvVerified}
 use Rattle.verify.specs.declared.Progress.{Progress}
 use Rattle.pictures.specs.Seen.{nextSeen, one}
 use Rattle.pictures.specs.declared.SeenPicture.{SeenPicture}
 use Rattle.cadence.specs.Cadence.{interval, after}
 use Rattle.cadence.specs.declared.VbvCadence.{VbvCadence}
+use Rattle.pictures.specs.Cadence.{cadenceOf}
 use Rattle.verify.specs.Coded.{codedOf}
 use Rattle.bits.specs.Refusals.{Answer, value}
+use Rattle.verify.proofs.Modes.{verdict-in, verdict-none}
 use Rattle.verify.proofs.Recording.{stateBy, records-last, records-none, records-length, step-one, stepped-one, Recorded}
 use Rattle.verify.specs.declared.VbvPictureRecord.{VbvPictureRecord}
 
@@ -131,3 +135,11 @@ module _ {rs : ℕ → List VbvPictureRecord} {v : Answer Accepted} {r : VbvVeri
 
   pub stored-is : {last : List ℕ} → last ≡ sets out 0 (recordsBytes (rs (recordCount r))) → last ≡ over (recordsBytes (records v)) out
   stored-is e = e ∙ rw (k .each) (records-over out (records v) (omega (arith, k .few, k .count)))
+
+-- in a mode that exists, and in one that does not
+pub over-in : (m : VbvMode) (s : List ℕ) (places : ℕ) (out : List ℕ) {k : VbvCadence} {last : List ℕ} → modeFits m ≡ true → k ≡ cadenceOf (m .film) s
+    → last ≡ over (recordsBytes (records (verdictBy (m .standard) k s places))) out → last ≡ over (recordsBytes (records (verdict m s places))) out
+over-in m s places out h e z = rw (verdict-in m s places h, ← e) z
+
+pub over-none : (m : VbvMode) (s : List ℕ) (places : ℕ) (out : List ℕ) → modeFits m ≡ false → out ≡ over (recordsBytes (records (verdict m s places))) out
+over-none m s places out h = rw (verdict-none m s places h, no-records, nothing-over out)

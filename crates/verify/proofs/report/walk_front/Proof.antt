@@ -33,6 +33,7 @@ same-length : tie.Need-same-length
 same-length c = search needs
 
 returns-2 : tie.Need-returns-2
+unfolding recordsAfter
 returns-2 c =
     let o = opened _ _ (c .before .before .before .before .before .params .given .1) (c .before .before .before .before .before .before .before .opening .ensures) in
     (walked-opened _ _ _ o (c .before .before .walk .ensures .0), rw o (c .before .before .walk .ensures .1))
