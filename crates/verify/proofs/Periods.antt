@@ -4,7 +4,7 @@ use mathlib.Core.Path.{_≡_, sym, ap, subst, _∙_}
 use mathlib.Core.Bool.{Bool, true, false}
 use mathlib.Core.List.{List, [], _∷_}
 use Prim.Native.Nat.{ℕ, _+_}
-use Rattle.vbv.specs.Annex.{gain}
+use Rattle.vbv.specs.Annex.{firstDelivered, gain}
 use Rattle.bits.specs.Refusals.{value}
 use Rattle.vbv.specs.Model.{periods, intervalOf}
 use Rattle.vbv.specs.declared.VbvParams.{VbvParams}
@@ -82,7 +82,7 @@ periods-told = record {
       paired (cadenceOf (m .film) s) (a .first ∷ a .others) (rw (of-film (m .film) s) z) (frames-in (m .standard) s (a .first ∷ a .others) (a .is-read .is-read .pictures-are)) (a .removals);
   by-film = λ m s places p rs a z.
       film-paired (cadenceOf true s .progressive) (cadenceOf true s .«low_delay») [] (a .first ∷ a .others)
-      (subst (λ (k : VbvCadence). Along p (Conforms p) 0 _ (timed k (a .first ∷ a .others)) rs) (ap (λ (b : Bool). cadenceOf b s) z ∙ none-seen s) (a .removals));
+      (subst (λ (k : VbvCadence). Along p (Conforms p) 0 (firstDelivered p (a .first .«pos_bits») (a .first .«vbv_delay»)) (timed k (a .first ∷ a .others)) rs) (ap (λ (b : Bool). cadenceOf b s) z ∙ none-seen s) (a .removals));
   film-timed = λ s xs.
       subst (λ (k : VbvCadence). FilmTimed (cadenceOf true s .progressive) (cadenceOf true s .«low_delay») [] xs (timed k xs)) (sym (none-seen s))
       (film-timed (cadenceOf true s .progressive) (cadenceOf true s .«low_delay») [] xs);
