@@ -51,7 +51,7 @@ module _ (p : VbvParams) (t : List ℕ) (x : Known) (o : Offer) {n : ℕ} (i : I
       refuse 12 (not (writerFits w))
       (refuse 17 (x .finished || clashes (x .pending) (o .kind))
       (refuse 18 (not (headersFit p (anyPlaced x) (o .headers)))
-      (refuse 20 (not (layerFits (o .kind) (o .interval) (o .layer))) r)))
+      (refuse 20 (not (layerFits (w .cadence .film) (o .kind) (o .interval) (o .layer))) r)))
 
   abbrev upTo14 : Answer Given → Answer Given
   upTo14 r = upTo20 (refuse 14 (ltb farthest (position w o) || ltb farthest (end w o)) r)
@@ -87,7 +87,7 @@ module _ (p : VbvParams) (t : List ℕ) (x : Known) (o : Offer) {n : ℕ} (i : I
       held (writerFits w) _ _ (i .fits)
       (no _ _ _ (turn-no (g .in-turn))
       (held (headersFit p (anyPlaced x) (o .headers)) _ _ (g .headers-fit)
-      (held (layerFits (o .kind) (o .interval) (o .layer)) _ _ (g .layer-fits) e)))
+      (held (layerFits (w .cadence .film) (o .kind) (o .interval) (o .layer)) _ _ (g .layer-fits) e)))
 
   past-14 : {k : ℕ} {z r : Answer Given} → Near p x o k → z ≡ r → z ≡ upTo14 r
   past-14 g e =
@@ -143,7 +143,7 @@ module _ (p : VbvParams) (t : List ℕ) (x : Known) (o : Offer) {n : ℕ} (i : I
       held (writerFits w) _ _ (i .fits)
       (no _ _ _ (turn-no f)
       (held (headersFit p (anyPlaced x) (o .headers)) _ _ g
-      (failed (layerFits (o .kind) (o .interval) (o .layer)) _ _ k refl)))
+      (failed (layerFits (w .cadence .film) (o .kind) (o .interval) (o .layer)) _ _ k refl)))
   only (far-position g l) = past-20 g (yes _ _ _ (is-true _ (λ z. omega (arith, l, at-position p t x o i, ltb-false farthest (position w o) (or-left _ _ z)))) refl)
   only (far-end g s l) =
       past-20 g (yes _ _ _ (is-true _ (λ z. omega (arith, l, end-is s, ltb-false farthest (end w o) (or-right (ltb farthest (position w o)) _ z)))) refl)
