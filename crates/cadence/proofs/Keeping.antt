@@ -84,4 +84,4 @@ plain-is k p h =
     let b = both-true (not (k .«low_delay»)) _ (a .1) in
     let c = both-true (not (k .repeat)) _ (b .1) in
     let d = both-true (not (k .top)) _ (c .1) in
-    rw (p, not-true _ (a .0), not-true _ (b .0), not-true _ (c .0), not-true _ (d .0), is-closed (k .waiting) (d .1))
+    rw (p, not-true (k .progressive) (a .0), not-true (k .«low_delay») (b .0), not-true (k .repeat) (c .0), not-true (k .top) (d .0), is-closed (k .waiting) (d .1))

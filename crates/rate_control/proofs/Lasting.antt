@@ -61,7 +61,7 @@ module _ (w : CbrWriter) (o : Offer) (p : w .cadence .film ≡ false) where
     where
       go : (b : Bool) → w .model .started ≡ b → cadenceAt w (o .headers) ≡ w .cadence
       go true e = before-later w (o .headers) e
-      go false e = before-first w (o .headers) e ∙ rw (p, plain-by (o .headers)) (sym (plain-is (w .cadence) p h))
+      go false e = before-first w (o .headers) e ∙ ap (λ (b : Bool). cadenceBy b (o .headers)) p ∙ plain-by (o .headers) ∙ sym (plain-is (w .cadence) p h)
 
   plain-kept : cadenceFits (w .cadence) ≡ true → withPlaced w o .cadence ≡ w .cadence
   unfolding withPlaced
