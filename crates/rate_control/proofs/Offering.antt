@@ -21,7 +21,8 @@ use Rattle.vbv.proofs.Fitting.{model-fits}
 use Rattle.layers.specs.declared.PictureKind.{PictureKind}
 use Rattle.layers.specs.Headers.{headersFit}
 use Rattle.layers.specs.Layer.{layerFits, factsIn}
-use Rattle.cadence.specs.Cadence.{after}
+use Rattle.cadence.specs.Cadence.{interval, after}
+use Rattle.picture_header.specs.declared.PictureFacts.{PictureFacts}
 use Rattle.cadence.specs.declared.VbvCadence.{VbvCadence}
 use Rattle.rate_control.specs.Answers.{Given, offerAnswer}
 use Rattle.rate_control.specs.Writer.{writerFits, index, of, clashes, asked}
@@ -80,6 +81,16 @@ testedFor w o = tested w (o .headers) (o .kind) (o .interval) (o .last) (o .laye
 -- the cadence after its picture
 abbrev pub cadenceLeft : CbrWriter → Offer → VbvCadence
 cadenceLeft w o = after (cadenceAt w (o .headers)) (factsIn (o .layer))
+
+-- as the code comes to them, by the facts f of the layer and the cadence k before the picture
+pub tested-by : (w : CbrWriter) (o : Offer) {f : PictureFacts} {k : VbvCadence} {j : RemovalInterval} {t : Tested} → f ≡ factsIn (o .layer) → k ≡ cadenceAt w (o .headers) → j ≡ interval k f
+    → t ≡ tested w (o .headers) (o .kind) (o .interval) (o .last) (o .layer) j → t ≡ testedFor w o
+unfolding intervalAt
+tested-by w o a b c e = e ∙ ap (tested w (o .headers) (o .kind) (o .interval) (o .last) (o .layer)) (c ∙ rw (a, b))
+
+pub placed-left : (w : CbrWriter) (o : Offer) (p : Placement) {f : PictureFacts} {k c : VbvCadence} {r : CbrOffered} → f ≡ factsIn (o .layer) → k ≡ cadenceAt w (o .headers) → c ≡ after k f
+    → r ≡ placedBy w (o .kind) (length (o .layer)) (o .last) p c → r ≡ placedBy w (o .kind) (length (o .layer)) (o .last) p (cadenceLeft w o)
+placed-left w o p a b c e = e ∙ ap (placedBy w (o .kind) (length (o .layer)) (o .last) p) (c ∙ rw (a, b))
 
 unfoldable answerTo : CbrWriter → Offer → Tested → CbrOffered
 answerTo w o (Refused e) = refusedInCode w e
@@ -187,12 +198,13 @@ module _ (w : CbrWriter) (headers : List ℕ) (k : PictureKind) (i : RemovalInte
   abbrev any-out : Offer
   any-out = record { headers = headers; kind = k; interval = i; last = last; layer = layer; out = [] }
 
-  module _ (t : Tested) (e : t ≡ tested w headers k i last layer (intervalAt w any-out)) (p : Placement) (h : t ≡ Ready p) where
+  module _ {f : PictureFacts} {b : VbvCadence} {j : RemovalInterval} {t : Tested} (a : f ≡ factsIn layer) (c : b ≡ cadenceAt w headers) (d : j ≡ interval b f)
+      (e : t ≡ tested w headers k i last layer j) (p : Placement) (h : t ≡ Ready p) where
     pub bytes-are : p .bytes ≡ length headers + length layer + p .«stuffing_bytes» + length (endCode last)
-    bytes-are = bytes-of w any-out t e p h
+    bytes-are = bytes-of w any-out t (tested-by w any-out a c d e) p h
 
     pub placeable : Placeable w k (length layer) p
-    placeable = placeable-of w any-out t e p h
+    placeable = placeable-of w any-out t (tested-by w any-out a c d e) p h
 
 -- ---- what is promised
 
