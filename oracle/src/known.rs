@@ -1,5 +1,10 @@
 //! Headers and streams with a name: one for each difference from the standards in which the original wins, and those of rates with
-//! extensions, in which it does not (docs/DIFFERENCES.md).
+//! extensions, in which it does not (docs/DIFFERENCES.md); and the worked lists of film mode as streams.
+
+use crate::cadence::SEQUENCES;
+use crate::draw::Draw;
+use crate::streams;
+use crate::worked::{LISTS, pictures, sequence};
 
 /// Name, kind, and the bytes of the header or stream.
 const KNOWN: [(&str, u8, &str); 40] = [
@@ -127,7 +132,26 @@ const KNOWN: [(&str, u8, &str); 40] = [
 ];
 
 /// Those of a kind: name and bytes. Of kinds 8 and 10 these are a writer's numbers and output part.
-pub fn known(kind: u8) -> Vec<(&'static str, Vec<u8>)> {
+pub fn known(kind: u8) -> Vec<(String, Vec<u8>)> {
+    if kind == 20 {
+        return worked();
+    }
+    named(kind).into_iter().map(|(name, bytes)| (name.to_string(), bytes)).collect()
+}
+
+/// The lists of worked.rs as streams, in each sequence.
+fn worked() -> Vec<(String, Vec<u8>)> {
+    let mut all = vec![];
+    for (letters, _) in LISTS {
+        for (column, name) in SEQUENCES.iter().enumerate() {
+            let stream = streams::of(&pictures(letters), sequence(column), &mut Draw(column as u64));
+            all.push((format!("{letters}, {name}"), stream));
+        }
+    }
+    all
+}
+
+fn named(kind: u8) -> Vec<(&'static str, Vec<u8>)> {
     let mut inputs: Vec<_> = KNOWN.iter().filter(|k| k.1 == kind).map(|&(name, _, hex)| (name, bytes(hex))).collect();
     match kind {
         1 => inputs.push(("a matrix of zeros", [bytes("000001B301001013027120A2"), vec![0; 64]].concat())),
