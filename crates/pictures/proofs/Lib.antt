@@ -4,3 +4,4 @@ pub mod Order
 pub mod Due
 pub mod Numbering
 pub mod Cases
+pub mod Cadences

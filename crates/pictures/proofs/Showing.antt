@@ -56,7 +56,7 @@ declared-from s p e =
     record { read = a .0; parsed = a .1; frames = b .0; looked-up = b .1; params-from = same-value (b .2) }
 
 module _ (s : List ℕ) (cs : List Code) (c : codes s ≡ record { offset = 0; code = sequenceHeaderCode } ∷ cs) where
-  first-sequence : found (skip notSequence (codes s)) ≡ At 0 sequenceHeaderCode
+  pub first-sequence : found (skip notSequence (codes s)) ≡ At 0 sequenceHeaderCode
   first-sequence = rw (c, skip-stops notSequence (record { offset = 0; code = sequenceHeaderCode }) cs sequence-code, found-first)
 
   -- a stream that begins with its sequence header declares what that one does

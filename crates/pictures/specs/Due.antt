@@ -1,7 +1,8 @@
--- What a sequence header declares; and which answer the front is due, by conditions: what is shown, or refused by the first test that fails, in the paper's order.
+-- What a sequence header declares, and the cadence that it opens; and which answer the front is due, by conditions: what is shown, or refused by the first test that fails, in the paper's order.
 -- Assumes nothing.
 use Prim.Native.Nat.{ℕ, _*_, _≤_, _<_}
 use mathlib.Core.Path.{_≡_}
+use mathlib.Core.Bool.{true, false}
 use mathlib.Core.List.{List, [], _∷_}
 use lib.ListN.{length}
 use Rattle.vbv.specs.Model.{farthest}
@@ -12,7 +13,9 @@ use Rattle.headers.specs.declared.sequence_header.Mpeg2SequenceHeader.{Mpeg2Seq
 use Rattle.headers.specs.declared.sequence_extension.Mpeg2Sequence.{Mpeg2Sequence}
 use Rattle.vbv.specs.Answers.{frameRate}
 use Rattle.vbv.specs.declared.VbvParams.{VbvParams}
+use Rattle.cadence.specs.declared.OpenField.the-variants.{Closed}
 use Rattle.pictures.specs.Sequence.{declaredBy, declared}
+use Rattle.pictures.specs.Cadence.{cadenceBy}
 use Rattle.pictures.specs.Seen.{seenPictures}
 use Rattle.pictures.specs.Front.{Front, front}
 use Rattle.pictures.specs.declared.VbvStandard.{VbvStandard}
@@ -29,6 +32,13 @@ pub record SequenceDeclares : Type 0 where
       → frameRate (h .«frame_rate_code») 0 0 ≡ value f
       → declaredBy Mpeg1 s
       ≡ value (record { «bit_rate» = 400 * h .«bit_rate»; «buffer_size_bits» = 16384 * h .«vbv_buffer_size»; frn = f .0; frd = f .1 })
+
+-- request 05: a film sequence is progressive and of low delay as its extension says, and no picture has gone before; outside film neither is looked at
+pub record SequenceOpens : Type 0 where
+  pub in-film : (s : List ℕ) (q : Mpeg2Sequence) → sequence s ≡ value q
+      → cadenceBy true s
+      ≡ record { film = true; progressive = q .extension .«progressive_sequence»; «low_delay» = q .extension .«low_delay»; repeat = false; top = false; waiting = Closed }
+  pub outside-film : (s : List ℕ) → cadenceBy false s ≡ record { film = false; progressive = false; «low_delay» = false; repeat = false; top = false; waiting = Closed }
 
 -- a stream of 2^48 bits at most that declares p, with pictures x and xs: 14, 3, sequence header, extension, 6, every picture header and 4 are passed
 pub record Read (standard : VbvStandard) (s : List ℕ) (p : VbvParams) (x : SeenPicture) (xs : List SeenPicture) : Type 0 where

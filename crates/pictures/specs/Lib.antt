@@ -1,4 +1,5 @@
 pub mod Sequence
+pub mod Cadence
 pub mod Seen
 pub mod Front
 pub mod Answers

@@ -1,7 +1,10 @@
 // What the headers of a stream show: what its first sequence header declares, and its pictures in stream order.
+mod cadence_opened; // the cadence that a sequence header opens
 mod seen; // the pictures, one after another
 mod sequence; // what the first sequence header declares
 
+pub use crate::cadence_opened::cadence_by;
+pub use crate::cadence_opened::cadence_of;
 pub use crate::seen::next_seen;
 pub use crate::sequence::declared_by;
 pub use crate::sequence::opening;

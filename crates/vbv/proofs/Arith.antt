@@ -132,12 +132,12 @@ rest-fit t f h g = omega (arith, start-low t f h)
 pub rate-fit : (r d : ℕ) → r ≤ 429496729200 → d ≤ 32032 → r * d < 2 ^ 64
 rate-fit r d h g = omega (arith, mul-le-mul {n₁ = r} {m₁ = d} {n₂ = 429496729200} {m₂ = 32032} h g)
 
-gain-most : (r d n : ℕ) → r ≤ 429496729200 → d ≤ 32032 → n ≤ 2 → r * d * n ≤ 27515278459468800
+gain-most : (r d n : ℕ) → r ≤ 429496729200 → d ≤ 32032 → n ≤ 6 → r * d * n ≤ 82545835378406400
 gain-most r d n h g k =
     let e = mul-le-mul {n₁ = r} {m₁ = d} {n₂ = 429496729200} {m₂ = 32032} h g in
-    omega (arith, mul-le-mul {n₁ = r * d} {m₁ = n} {n₂ = 429496729200 * 32032} {m₂ = 2} e k)
+    omega (arith, mul-le-mul {n₁ = r * d} {m₁ = n} {n₂ = 429496729200 * 32032} {m₂ = 6} e k)
 
-pub gain-fit : (r d n : ℕ) → r ≤ 429496729200 → d ≤ 32032 → n ≤ 2 → r * d * n < 2 ^ 64
+pub gain-fit : (r d n : ℕ) → r ≤ 429496729200 → d ≤ 32032 → n ≤ 6 → r * d * n < 2 ^ 64
 gain-fit r d n h g k = omega (arith, gain-most r d n h g k)
 
 pub left-fit : (x f : ℕ) → 1 ≤ f → f ≤ 240000 → x % (2 * f) * 90000 < 2 ^ 64
@@ -146,11 +146,11 @@ left-fit x f h g = omega (arith, mod-lt x {m = 2 * f} (omega arith))
 pub sum-fit : (r x f : ℕ) → r < 180000 * f → 1 ≤ f → f ≤ 240000 → r + x % (2 * f) * 90000 < 2 ^ 64
 sum-fit r x f l h g = omega (arith, mod-lt x {m = 2 * f} (omega arith))
 
-pub whole-fit : (w r d n f : ℕ) → w ≤ mostDelivered → r ≤ 429496729200 → d ≤ 32032 → n ≤ 2 → w + r * d * n / (2 * f) < 2 ^ 64
+pub whole-fit : (w r d n f : ℕ) → w ≤ mostDelivered → r ≤ 429496729200 → d ≤ 32032 → n ≤ 6 → w + r * d * n / (2 * f) < 2 ^ 64
 whole-fit w r d n f l h g k = omega (arith, gain-most r d n h g k, div-le-self (r * d * n) (2 * f))
 
-pub next-most : (w s r d n f : ℕ) → w ≤ mostDelivered → s < 180000 * f → 1 ≤ f → f ≤ 240000 → r ≤ 429496729200 → d ≤ 32032 → n ≤ 2
-    → w + r * d * n / (2 * f) + (s + r * d * n % (2 * f) * 90000) / (180000 * f) ≤ w + 27515364859468800
+pub next-most : (w s r d n f : ℕ) → w ≤ mostDelivered → s < 180000 * f → 1 ≤ f → f ≤ 240000 → r ≤ 429496729200 → d ≤ 32032 → n ≤ 6
+    → w + r * d * n / (2 * f) + (s + r * d * n % (2 * f) * 90000) / (180000 * f) ≤ w + 82545921778406400
 next-most w s r d n f l t a b h g k =
     omega (
       arith,
@@ -160,7 +160,7 @@ next-most w s r d n f l t a b h g k =
       div-le-self (s + r * d * n % (2 * f) * 90000) (180000 * f),
     )
 
-pub next-fit : (w s r d n f : ℕ) → w ≤ mostDelivered → s < 180000 * f → 1 ≤ f → f ≤ 240000 → r ≤ 429496729200 → d ≤ 32032 → n ≤ 2
+pub next-fit : (w s r d n f : ℕ) → w ≤ mostDelivered → s < 180000 * f → 1 ≤ f → f ≤ 240000 → r ≤ 429496729200 → d ≤ 32032 → n ≤ 6
     → w + r * d * n / (2 * f) + (s + r * d * n % (2 * f) * 90000) / (180000 * f) < 2 ^ 64
 next-fit w s r d n f l t a b h g k = omega (arith, next-most w s r d n f l t a b h g k)
 

@@ -9,7 +9,7 @@ use lib.Dec.{leb, ltb}
 use borrow.Author.Tests.{leb-true, ltb-true, le-leb, lt-ltb}
 use Rattle.bits.proofs.Flags.{and-left, and-right}
 use Rattle.vbv.specs.declared.RemovalInterval.{RemovalInterval}
-use Rattle.vbv.specs.declared.RemovalInterval.the-variants.{Frame, Field}
+use Rattle.vbv.specs.declared.RemovalInterval.the-variants.{Frame, Field, ThreeFields, TwoFrames, ThreeFrames}
 use Rattle.vbv.specs.declared.VbvParams.{VbvParams}
 use Rattle.vbv.specs.declared.VbvCbrModel.{VbvCbrModel}
 use Rattle.vbv.specs.Annex.{unit}
@@ -116,10 +116,13 @@ pub delivered-div : (m : VbvCbrModel) → modelFits m ≡ true → delivered m /
 unfolding delivered unit
 delivered-div m h = digits-div (m .whole) (model-fits h .rest-low)
 
--- an interval is two periods at most
-pub periods-most : (i : RemovalInterval) → periods i ≤ 2
+-- an interval is six periods at most
+pub periods-most : (i : RemovalInterval) → periods i ≤ 6
 periods-most Frame = omega arith
 periods-most Field = omega arith
+periods-most ThreeFields = omega arith
+periods-most TwoFrames = omega arith
+periods-most ThreeFrames = omega arith
 
 -- a field picture lasts one, a frame two
 pub field-lasts : periods (intervalOf true) ≡ 1

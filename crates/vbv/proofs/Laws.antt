@@ -138,7 +138,7 @@ start-whole m delay position f l h =
     let b = ticks-most delay (m .params .«bit_rate») l (omega arith) in
     rw (start-div position (delay * m .params .«bit_rate») (m .params .frn) (omega arith)) (omega arith)
 
-pub next-whole : (m : VbvCbrModel) (i : RemovalInterval) → ModelFits m → nextDelivered m i / unit (m .params) ≤ m .whole + 27515364859468800
+pub next-whole : (m : VbvCbrModel) (i : RemovalInterval) → ModelFits m → nextDelivered m i / unit (m .params) ≤ m .whole + 82545921778406400
 unfolding nextDelivered delivered gain unit
 next-whole m i f =
     let p = m .params in

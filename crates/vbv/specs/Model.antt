@@ -6,7 +6,7 @@ use lib.Dec.{ltb, leb}
 use Rattle.bits.specs.Refusals.{Answer, value, refuse, violate}
 use Rattle.vbv.specs.Annex.{unit, firstDelivered, gain, overflows, beyond, expectedDelay, occupancy, greatestEnd, leastEnd}
 use Rattle.vbv.specs.declared.RemovalInterval.{RemovalInterval}
-use Rattle.vbv.specs.declared.RemovalInterval.the-variants.{Frame, Field}
+use Rattle.vbv.specs.declared.RemovalInterval.the-variants.{Frame, Field, ThreeFields, TwoFrames, ThreeFrames}
 use Rattle.vbv.specs.declared.VbvParams.{VbvParams}
 use Rattle.vbv.specs.declared.VbvCbrModel.{VbvCbrModel}
 
@@ -14,9 +14,9 @@ use Rattle.vbv.specs.declared.VbvCbrModel.{VbvCbrModel}
 abbrev pub farthest : ℕ
 farthest = 2 ^ 48
 
--- more whole bits than a run delivers: the farthest end, a buffer above it, and a frame period's gain
+-- more whole bits than a run delivers: the farthest end, a buffer above it, and what six field periods bring
 abbrev pub mostDelivered : ℕ
-mostDelivered = 2 ^ 55
+mostDelivered = 2 ^ 57
 
 -- paper 01's ranges, each bound included
 unfoldable pub paramsInRange : VbvParams → Bool
@@ -72,7 +72,7 @@ afterRemoval m end d = record {
   started = true;
 }
 
--- C.11: a field picture lasts a field period, a frame a frame period; repeat_first_field does not count (docs/DIFFERENCES.md)
+-- C.11, outside film: a field picture lasts a field period, a frame a frame period; repeat_first_field does not count (docs/DIFFERENCES.md)
 unfoldable pub intervalOf : Bool → RemovalInterval
 intervalOf true = Field
 intervalOf false = Frame
@@ -81,6 +81,9 @@ intervalOf false = Frame
 abbrev pub periods : RemovalInterval → ℕ
 periods Frame = 2
 periods Field = 1
+periods ThreeFields = 3
+periods TwoFrames = 4
+periods ThreeFrames = 6
 
 unfoldable pub nextDelivered : VbvCbrModel → RemovalInterval → ℕ
 nextDelivered m i = delivered m + gain (m .params) (periods i)

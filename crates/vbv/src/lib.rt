@@ -55,10 +55,13 @@ pub enum FrameRate {
     Refused(VbvError),
 }
 
-// How long up to the next removal: a frame period, or a field period, which is half of it.
+// How long up to the next removal: a field period is half a frame period. Three fields and more are for film alone.
 pub enum RemovalInterval {
     Frame,
     Field,
+    ThreeFields,
+    TwoFrames,
+    ThreeFrames,
 }
 
 // R in bits a second, B in bits, and frn / frd frames a second.
@@ -198,8 +201,8 @@ pub fn frame_rate_value(frame_rate_code: u8, n: u8, d: u8) -> FrameRate
 // 2^48: no stream, position, end or number of removals is greater.
 pub const FARTHEST: u64 = 281474976710656;
 
-// 2^55: more bits than a run delivers.
-pub const MOST_DELIVERED: u64 = 36028797018963968;
+// 2^57: more bits than a run delivers.
+pub const MOST_DELIVERED: u64 = 144115188075855872;
 
 // The rate field counts units of 400 bits a second, the buffer field units of 16 * 1024 bits.
 pub const RATE_UNIT: u64 = 400;
@@ -513,7 +516,7 @@ impl VbvCbrModel {
     }
 }
 
-// A field picture lasts a field period.
+// Outside film: a field picture lasts a field period, a frame a frame period.
 pub fn interval(field: bool) -> RemovalInterval
     ensures { λ r. ⌜ r ≡ intervalOf field ⌝ }
 {
@@ -530,6 +533,9 @@ pub fn periods(interval: RemovalInterval) -> u8
     match interval {
         RemovalInterval::Frame => 2,
         RemovalInterval::Field => 1,
+        RemovalInterval::ThreeFields => 3,
+        RemovalInterval::TwoFrames => 4,
+        RemovalInterval::ThreeFrames => 6,
     }
 }
 

@@ -11,11 +11,13 @@ use Rattle.vbv.specs.Annex.{unit, firstDelivered, gain, expectedDelay}
 use Rattle.vbv.specs.Model.{paramsFit, periods}
 use Rattle.vbv.specs.declared.VbvParams.{VbvParams}
 use Rattle.pictures.specs.Due.{Read}
-use Rattle.pictures.specs.declared.VbvStandard.{VbvStandard}
+use Rattle.pictures.specs.Cadence.{cadenceOf}
 use Rattle.pictures.specs.declared.SeenPicture.{SeenPicture}
+use Rattle.verify.specs.Mode.{modeFits}
 use Rattle.verify.specs.Coded.{timed}
 use Rattle.verify.specs.Run.{recordOf}
 use Rattle.verify.specs.Check.{Accepted, verdict}
+use Rattle.verify.specs.declared.VbvMode.{VbvMode}
 use Rattle.verify.specs.declared.CodedPicture.{CodedPicture}
 use Rattle.verify.specs.declared.VbvPictureRecord.{VbvPictureRecord}
 
@@ -40,24 +42,33 @@ pub data Along (p : VbvParams) (Each : ℕ → ℕ → CodedPicture → VbvPictu
   more : {previous d : ℕ} {c : CodedPicture} {cs : List CodedPicture} {r : VbvPictureRecord} {rs : List VbvPictureRecord} → Each previous d c r
       → Along p Each (c .«end_bits») (d + gain p (periods (c .interval))) cs rs → Along p Each previous d (c ∷ cs) (r ∷ rs)
 
+-- in a mode that there is, what is read of a stream: 14, 3, 1, 2, 6, 4 are passed
+pub record ReadIn (m : VbvMode) (s : List ℕ) (p : VbvParams) (x : SeenPicture) (xs : List SeenPicture) : Type 0 where
+  pub mode-fits : modeFits m ≡ true
+  pub is-read : Read (m .standard) s p x xs
+
+-- the pictures of a stream as the model sees them: by the cadence that its first sequence header opens
+abbrev pub timedIn : VbvMode → List ℕ → List SeenPicture → List CodedPicture
+timedIn m s xs = timed (cadenceOf (m .film) s) xs
+
 -- a stream that declares p, whose pictures are recorded as rs
-pub record Passes (standard : VbvStandard) (s : List ℕ) (places : ℕ) (p : VbvParams) (rs : List VbvPictureRecord) : Type 0 where
-  -- 14, 3, 1, 2, 6, 4: it has 2^48 bits at most, its first sequence header and every picture header can be read, and there is one
+pub record Passes (m : VbvMode) (s : List ℕ) (places : ℕ) (p : VbvParams) (rs : List VbvPictureRecord) : Type 0 where
+  -- 12, 14, 3, 1, 2, 6, 4: there is the mode, the stream has 2^48 bits at most, its first sequence header and every picture header can be read, and there is one
   pub first : SeenPicture
   pub others : List SeenPicture
-  pub is-read : Read standard s p first others
+  pub is-read : ReadIn m s p first others
   -- 5, 12, 15: the first delay is not 0xFFFF, the parameters are in their ranges, and there is a place for each record
   pub constant-rate : first .«vbv_delay» ≡ 0xFFFF → ⊥
   pub params-fit : paramsFit p ≡ true
   pub places-suffice : length (first ∷ others) ≤ places
   -- every removal conforms; at the first one all is delivered up to the first picture's position, and what its coded delay brings (C.3.1)
-  pub removals : Along p (Conforms p) 0 (firstDelivered p (first .«pos_bits») (first .«vbv_delay»)) (timed (first ∷ others)) rs
+  pub removals : Along p (Conforms p) 0 (firstDelivered p (first .«pos_bits») (first .«vbv_delay»)) (timedIn m s (first ∷ others)) rs
 
 -- what is owed: accepted exactly when it passes
 abbrev pub AcceptedExactly : Type 0
 AcceptedExactly =
-    (standard : VbvStandard) (s : List ℕ) (places : ℕ) (a : Accepted)
-    → (verdict standard s places ≡ value a) ↔ Passes standard s places (a .params) (a .first ∷ a .others)
+    (m : VbvMode) (s : List ℕ) (places : ℕ) (a : Accepted)
+    → (verdict m s places ≡ value a) ↔ Passes m s places (a .params) (a .first ∷ a .others)
 
 -- the records subtract in ℕ, where a difference is cut off at 0. In those of an accepted stream none is: of its data bits, its occupancy before and after
 -- (nor is the expected delay: `begun` says so of an accepted picture, and of another 7 is tested first)
@@ -68,5 +79,5 @@ pub record Uncut (p : VbvParams) (previous d : ℕ) (c : CodedPicture) (r : VbvP
 
 abbrev pub NothingCut : Type 0
 NothingCut =
-    (standard : VbvStandard) (s : List ℕ) (places : ℕ) (p : VbvParams) (rs : List VbvPictureRecord) (a : Passes standard s places p rs)
-    → Along p (Uncut p) 0 (firstDelivered p (a .first .«pos_bits») (a .first .«vbv_delay»)) (timed (a .first ∷ a .others)) rs
+    (m : VbvMode) (s : List ℕ) (places : ℕ) (p : VbvParams) (rs : List VbvPictureRecord) (a : Passes m s places p rs)
+    → Along p (Uncut p) 0 (firstDelivered p (a .first .«pos_bits») (a .first .«vbv_delay»)) (timedIn m s (a .first ∷ a .others)) rs

@@ -1,4 +1,4 @@
--- The check of a stream (paper 01, 'The buffer report'): the front (14, 3, sequence header, extension, 6, every picture header, 4), then 5, 12, 15 and the run's 7, 8, 11, 9, 10.
+-- The check of a stream (paper 01, 'The buffer report'; paper 02, request 05): 12 for a mode that there is none of; the front (14, 3, sequence header, extension, 6, every picture header, 4), then 5, 12, 15 and the run's 7, 8, 11, 9, 10.
 -- Assumes nothing.
 use Prim.Native.Nat.{ℕ}
 use mathlib.Core.List.{List, [], _∷_}
@@ -9,10 +9,14 @@ use Rattle.bits.specs.Refusals.{Answer, value, refused, refuse, andThen}
 use Rattle.vbv.specs.Annex.{firstDelivered}
 use Rattle.vbv.specs.Model.{paramsFit}
 use Rattle.vbv.specs.declared.VbvParams.{VbvParams}
+use Rattle.verify.specs.Mode.{modeFits}
 use Rattle.verify.specs.Coded.{timed}
 use Rattle.verify.specs.Run.{run, leastAfter, greatestBefore}
 use Rattle.pictures.specs.Front.{front}
+use Rattle.pictures.specs.Cadence.{cadenceOf}
 use Rattle.pictures.specs.declared.VbvStandard.{VbvStandard}
+use Rattle.cadence.specs.declared.VbvCadence.{VbvCadence}
+use Rattle.verify.specs.declared.VbvMode.{VbvMode}
 use Rattle.pictures.specs.declared.SeenPicture.{SeenPicture}
 use Rattle.verify.specs.declared.VbvPictureRecord.{VbvPictureRecord}
 use Rattle.verify.specs.declared.VbvStreamReport.{VbvStreamReport}
@@ -37,10 +41,17 @@ withPictures places p x cs =
     (refuse 15 (ltb places (length cs))
     (andThen (run p 0 0 (firstDelivered p (x .«pos_bits») (x .«vbv_delay»)) cs) (accepted p))))
 
-unfoldable pub verdict : VbvStandard → List ℕ → ℕ → Answer Accepted
-verdict standard s places =
+-- by a cadence before the first picture
+unfoldable pub verdictBy : VbvStandard → VbvCadence → List ℕ → ℕ → Answer Accepted
+verdictBy standard k s places =
     andThen (front standard s) (λ f.
-    withPictures places (f .params) (f .first) (timed (f .first ∷ f .others)))
+    withPictures places (f .params) (f .first) (timed k (f .first ∷ f .others)))
+
+-- which the first sequence header opens
+unfoldable pub verdict : VbvMode → List ℕ → ℕ → Answer Accepted
+verdict m s places =
+    refuse 12 (not (modeFits m))
+    (verdictBy (m .standard) (cadenceOf (m .film) s) s places)
 
 -- the report, and the records
 abbrev pub reportOf : Accepted → VbvStreamReport

@@ -1,4 +1,4 @@
--- Which answer the check of a stream is due (paper 01, 'The buffer report'), by conditions in ≤ and <: accepted, or refused by the first test that fails, in the paper's order.
+-- Which answer the check of a stream is due (paper 01, 'The buffer report'; paper 02, request 05), by conditions in ≤ and <: accepted, or refused by the first test that fails, in the paper's order.
 -- So a bad last header comes before a mismatch at the first picture, and the first violation is the one that is told. Assumes nothing.
 use Prim.Native.Nat.{ℕ, suc, _+_, _*_, _≤_, _<_}
 use mathlib.Core.Path.{_≡_}
@@ -9,12 +9,13 @@ use Rattle.bits.specs.Refusals.{Answer, value, refused}
 use Rattle.vbv.specs.Annex.{unit, firstDelivered, gain, expectedDelay}
 use Rattle.vbv.specs.Model.{paramsFit, periods}
 use Rattle.vbv.specs.declared.VbvParams.{VbvParams}
-use Rattle.pictures.specs.Due.{Read, FrontDue}
-use Rattle.pictures.specs.declared.VbvStandard.{VbvStandard}
+use Rattle.pictures.specs.Due.{FrontDue}
+use Rattle.pictures.specs.declared.VbvStandard.the-variants.{Mpeg1}
 use Rattle.pictures.specs.declared.SeenPicture.{SeenPicture}
-use Rattle.verify.specs.Coded.{timed}
+use Rattle.verify.specs.Mode.{modeFits}
 use Rattle.verify.specs.Check.{Accepted, verdict}
-use Rattle.verify.specs.Accepted.{Conforms}
+use Rattle.verify.specs.Accepted.{Conforms, ReadIn, timedIn}
+use Rattle.verify.specs.declared.VbvMode.{VbvMode}
 use Rattle.verify.specs.declared.CodedPicture.{CodedPicture}
 use Rattle.verify.specs.declared.VbvPictureRecord.{VbvPictureRecord}
 
@@ -56,26 +57,27 @@ pub data RunDue (p : VbvParams) : ℕ → ℕ → ℕ → List CodedPicture → 
 -- ---- the stream
 
 -- passed: 5, 12, 15 too
-pub record Modelled (standard : VbvStandard) (s : List ℕ) (places : ℕ) (p : VbvParams) (x : SeenPicture) (xs : List SeenPicture) : Type 0 where
-  pub is-read : Read standard s p x xs
+pub record Modelled (m : VbvMode) (s : List ℕ) (places : ℕ) (p : VbvParams) (x : SeenPicture) (xs : List SeenPicture) : Type 0 where
+  pub is-read : ReadIn m s p x xs
   pub constant-rate : x .«vbv_delay» ≡ 0xFFFF → ⊥
   pub params-fit : paramsFit p ≡ true
   pub places-suffice : length (x ∷ xs) ≤ places
 
-pub data VerdictDue (standard : VbvStandard) (s : List ℕ) (places : ℕ) : Answer Accepted → Type 0 where
-  by-front : {n k i j : ℕ} → FrontDue standard s (refused n k i j) → VerdictDue standard s places (refused n k i j)
-  variable-rate : {p : VbvParams} {x : SeenPicture} {xs : List SeenPicture} → Read standard s p x xs → x .«vbv_delay» ≡ 0xFFFF
-      → VerdictDue standard s places (refused 5 0 0 0)
-  unfit : {p : VbvParams} {x : SeenPicture} {xs : List SeenPicture} → Read standard s p x xs → (x .«vbv_delay» ≡ 0xFFFF → ⊥) → paramsFit p ≡ false
-      → VerdictDue standard s places (refused 12 0 0 0)
-  few-places : {p : VbvParams} {x : SeenPicture} {xs : List SeenPicture} → Read standard s p x xs → (x .«vbv_delay» ≡ 0xFFFF → ⊥) → paramsFit p ≡ true
-      → places < length (x ∷ xs) → VerdictDue standard s places (refused 15 0 0 0)
-  stopped : {p : VbvParams} {x : SeenPicture} {xs : List SeenPicture} {n k i j : ℕ} → Modelled standard s places p x xs
-      → RunDue p 0 0 (firstDelivered p (x .«pos_bits») (x .«vbv_delay»)) (timed (x ∷ xs)) (refused n k i j) → VerdictDue standard s places (refused n k i j)
-  accepted : {p : VbvParams} {x : SeenPicture} {xs : List SeenPicture} {r : VbvPictureRecord} {rs : List VbvPictureRecord} → Modelled standard s places p x xs
-      → RunDue p 0 0 (firstDelivered p (x .«pos_bits») (x .«vbv_delay»)) (timed (x ∷ xs)) (value (r ∷ rs))
-      → VerdictDue standard s places (value (record { params = p; first = r; others = rs }))
+pub data VerdictDue (m : VbvMode) (s : List ℕ) (places : ℕ) : Answer Accepted → Type 0 where
+  no-film : m .standard ≡ Mpeg1 → m .film ≡ true → VerdictDue m s places (refused 12 0 0 0)
+  by-front : {n k i j : ℕ} → modeFits m ≡ true → FrontDue (m .standard) s (refused n k i j) → VerdictDue m s places (refused n k i j)
+  variable-rate : {p : VbvParams} {x : SeenPicture} {xs : List SeenPicture} → ReadIn m s p x xs → x .«vbv_delay» ≡ 0xFFFF
+      → VerdictDue m s places (refused 5 0 0 0)
+  unfit : {p : VbvParams} {x : SeenPicture} {xs : List SeenPicture} → ReadIn m s p x xs → (x .«vbv_delay» ≡ 0xFFFF → ⊥) → paramsFit p ≡ false
+      → VerdictDue m s places (refused 12 0 0 0)
+  few-places : {p : VbvParams} {x : SeenPicture} {xs : List SeenPicture} → ReadIn m s p x xs → (x .«vbv_delay» ≡ 0xFFFF → ⊥) → paramsFit p ≡ true
+      → places < length (x ∷ xs) → VerdictDue m s places (refused 15 0 0 0)
+  stopped : {p : VbvParams} {x : SeenPicture} {xs : List SeenPicture} {n k i j : ℕ} → Modelled m s places p x xs
+      → RunDue p 0 0 (firstDelivered p (x .«pos_bits») (x .«vbv_delay»)) (timedIn m s (x ∷ xs)) (refused n k i j) → VerdictDue m s places (refused n k i j)
+  accepted : {p : VbvParams} {x : SeenPicture} {xs : List SeenPicture} {r : VbvPictureRecord} {rs : List VbvPictureRecord} → Modelled m s places p x xs
+      → RunDue p 0 0 (firstDelivered p (x .«pos_bits») (x .«vbv_delay»)) (timedIn m s (x ∷ xs)) (value (r ∷ rs))
+      → VerdictDue m s places (value (record { params = p; first = r; others = rs }))
 
 -- what is owed
 abbrev pub CheckDue : Type 0
-CheckDue = (standard : VbvStandard) (s : List ℕ) (places : ℕ) → VerdictDue standard s places (verdict standard s places)
+CheckDue = (m : VbvMode) (s : List ℕ) (places : ℕ) → VerdictDue m s places (verdict m s places)

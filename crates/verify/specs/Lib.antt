@@ -1,3 +1,4 @@
+pub mod Mode
 pub mod Coded
 pub mod Run
 pub mod Check
@@ -7,6 +8,7 @@ pub mod Answers
 pub mod Layout
 pub mod Periods
 pub mod Rates
+pub mod Flags
 pub mod Sizes
 pub mod Numbers
 pub mod Steps

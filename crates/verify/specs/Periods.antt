@@ -1,16 +1,19 @@
--- What is owed of the periods in the records (request 04): the field periods up to the next removal, 1 for a field picture and 2 for a frame.
--- repeat_first_field does not count (docs/DIFFERENCES.md). The last picture has its own too, though no removal follows. Assumes nothing.
+-- What is owed of the periods in the records (requests 04 and 05): the field periods up to the next removal. Outside film 1 for a field picture and 2 for a frame, and repeat_first_field does
+-- not count (docs/DIFFERENCES.md); in film mode what the pictures before tell (cadence/specs/History.antt). The last picture has its own too, though no removal follows. Assumes nothing.
 use Prim.Native.Nat.{ℕ, _+_}
 use mathlib.Core.Path.{_≡_}
-use mathlib.Core.Bool.{true, false}
+use mathlib.Core.Bool.{Bool, true, false}
 use mathlib.Core.List.{List, [], _∷_}
 use Rattle.vbv.specs.Annex.{firstDelivered, gain}
 use Rattle.vbv.specs.declared.VbvParams.{VbvParams}
+use Rattle.picture_header.specs.declared.PictureFacts.{PictureFacts}
+use Rattle.cadence.specs.History.{lastsAfter}
+use Rattle.pictures.specs.Cadence.{cadenceOf}
 use Rattle.pictures.specs.declared.VbvStandard.{VbvStandard}
 use Rattle.pictures.specs.declared.VbvStandard.the-variants.{Mpeg1}
 use Rattle.pictures.specs.declared.SeenPicture.{SeenPicture}
-use Rattle.verify.specs.Coded.{timed}
-use Rattle.verify.specs.Accepted.{Conforms, Passes}
+use Rattle.verify.specs.Accepted.{Conforms, Passes, timedIn}
+use Rattle.verify.specs.declared.VbvMode.{VbvMode}
 use Rattle.verify.specs.declared.CodedPicture.{CodedPicture}
 use Rattle.verify.specs.declared.VbvPictureRecord.{VbvPictureRecord}
 
@@ -20,7 +23,7 @@ pub data Counted (p : VbvParams) : ℕ → ℕ → List CodedPicture → List Vb
   one-more : {previous d : ℕ} {c : CodedPicture} {cs : List CodedPicture} {r : VbvPictureRecord} {rs : List VbvPictureRecord} → Conforms p previous d c r
       → Counted p (c .«end_bits») (d + gain p (r .periods)) cs rs → Counted p previous d (c ∷ cs) (r ∷ rs)
 
--- a picture as its headers show it, and its record
+-- a picture as its headers show it, and its record, outside film
 pub record Lasts (standard : VbvStandard) (x : SeenPicture) (r : VbvPictureRecord) : Type 0 where
   pub a-field : x .facts .field ≡ true → r .periods ≡ 1
   pub a-frame : x .facts .field ≡ false → r .periods ≡ 2
@@ -32,9 +35,18 @@ pub data Paired (standard : VbvStandard) : List SeenPicture → List VbvPictureR
   none : Paired standard [] []
   more : {x : SeenPicture} {xs : List SeenPicture} {r : VbvPictureRecord} {rs : List VbvPictureRecord} → Lasts standard x r → Paired standard xs rs → Paired standard (x ∷ xs) (r ∷ rs)
 
+-- in film mode, after the pictures `before`, the latest first
+pub data FilmPaired (progressive low : Bool) : List PictureFacts → List SeenPicture → List VbvPictureRecord → Type 0 where
+  no-picture : {before : List PictureFacts} → FilmPaired progressive low before [] []
+  picture-then : {before : List PictureFacts} {x : SeenPicture} {xs : List SeenPicture} {r : VbvPictureRecord} {rs : List VbvPictureRecord}
+      → r .periods ≡ lastsAfter progressive low before (x .facts) → FilmPaired progressive low (x .facts ∷ before) xs rs → FilmPaired progressive low before (x ∷ xs) (r ∷ rs)
+
 -- what is owed, of every stream that the check accepts (`Passes`: these and no others, specs/Accepted.antt)
 pub record PeriodsTold : Type 0 where
-  pub up-to-next : (standard : VbvStandard) (s : List ℕ) (places : ℕ) (p : VbvParams) (rs : List VbvPictureRecord) (a : Passes standard s places p rs)
-      → Counted p 0 (firstDelivered p (a .first .«pos_bits») (a .first .«vbv_delay»)) (timed (a .first ∷ a .others)) rs
-  pub by-structure : (standard : VbvStandard) (s : List ℕ) (places : ℕ) (p : VbvParams) (rs : List VbvPictureRecord) (a : Passes standard s places p rs)
-      → Paired standard (a .first ∷ a .others) rs
+  pub up-to-next : (m : VbvMode) (s : List ℕ) (places : ℕ) (p : VbvParams) (rs : List VbvPictureRecord) (a : Passes m s places p rs)
+      → Counted p 0 (firstDelivered p (a .first .«pos_bits») (a .first .«vbv_delay»)) (timedIn m s (a .first ∷ a .others)) rs
+  pub by-structure : (m : VbvMode) (s : List ℕ) (places : ℕ) (p : VbvParams) (rs : List VbvPictureRecord) (a : Passes m s places p rs) → m .film ≡ false
+      → Paired (m .standard) (a .first ∷ a .others) rs
+  -- progressive_sequence and low_delay are those of the extension after the first sequence header (pictures/specs/Due.antt)
+  pub by-film : (m : VbvMode) (s : List ℕ) (places : ℕ) (p : VbvParams) (rs : List VbvPictureRecord) (a : Passes m s places p rs) → m .film ≡ true
+      → FilmPaired (cadenceOf true s .progressive) (cadenceOf true s .«low_delay») [] (a .first ∷ a .others) rs

@@ -8,9 +8,10 @@ use Rattle.bits.specs.Refusals.{Answer, value}
 use Rattle.vbv.specs.Params.{sameParams}
 use Rattle.vbv.specs.declared.VbvParams.{VbvParams}
 use Rattle.pictures.specs.Front.{Front, front}
-use Rattle.pictures.specs.declared.VbvStandard.{VbvStandard}
+use Rattle.pictures.specs.Cadence.{cadenceOf}
 use Rattle.pictures.specs.declared.SeenPicture.{SeenPicture}
 use Rattle.verify.specs.Check.{Accepted, withPictures, verdict, reported, records}
+use Rattle.verify.specs.declared.VbvMode.{VbvMode}
 use Rattle.verify.specs.declared.CodedPicture.{CodedPicture}
 
 -- the same report or refusal, and the same records
@@ -22,7 +23,7 @@ pub record ValueReports : Type 0 where
   -- of the part of the check that comes after the front
   pub of-pictures : (p q : VbvParams) → sameParams p q ≡ true → (places : ℕ) (x : SeenPicture) (cs : List CodedPicture)
       → SameAnswer (withPictures places p x cs) (withPictures places q x cs)
-  -- so of two streams whose headers show the same pictures, and the same parameters but for numerator and denominator
-  pub of-streams : (standard : VbvStandard) (s t : List ℕ) (places : ℕ) (f g : Front) → front standard s ≡ value f → front standard t ≡ value g
-      → sameParams (f .params) (g .params) ≡ true → f .first ≡ g .first → f .others ≡ g .others
-      → SameAnswer (verdict standard s places) (verdict standard t places)
+  -- so of two streams whose headers show the same pictures, open the same cadence, and declare the same parameters but for numerator and denominator
+  pub of-streams : (m : VbvMode) (s t : List ℕ) (places : ℕ) (f g : Front) → front (m .standard) s ≡ value f → front (m .standard) t ≡ value g
+      → sameParams (f .params) (g .params) ≡ true → f .first ≡ g .first → f .others ≡ g .others → cadenceOf (m .film) s ≡ cadenceOf (m .film) t
+      → SameAnswer (verdict m s places) (verdict m t places)

@@ -3,7 +3,7 @@
 use Prim.Native.Nat.{ℕ, _≤_, _<_}
 use mathlib.Core.List.{List, [], _∷_}
 use Rattle.vbv.specs.Model.{farthest}
-use Rattle.pictures.specs.declared.VbvStandard.{VbvStandard}
+use Rattle.verify.specs.declared.VbvMode.{VbvMode}
 use Rattle.verify.specs.Check.{verdict, records}
 use Rattle.verify.specs.declared.VbvPictureRecord.{VbvPictureRecord}
 
@@ -20,4 +20,4 @@ pub data AllSmall : List VbvPictureRecord → Type 0 where
   some : {r : VbvPictureRecord} {rs : List VbvPictureRecord} → Small r → AllSmall rs → AllSmall (r ∷ rs)
 
 abbrev pub RecordsSmall : Type 0
-RecordsSmall = (standard : VbvStandard) (s : List ℕ) (places : ℕ) → AllSmall (records (verdict standard s places))
+RecordsSmall = (m : VbvMode) (s : List ℕ) (places : ℕ) → AllSmall (records (verdict m s places))

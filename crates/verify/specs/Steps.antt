@@ -27,6 +27,8 @@ use Rattle.pictures.specs.declared.VbvStandard.{VbvStandard}
 use Rattle.pictures.specs.declared.SeenPicture.{SeenPicture}
 use Rattle.pictures.specs.declared.Unread.{Unread}
 use Rattle.pictures.specs.declared.Unread.the-variants as un
+use Rattle.cadence.specs.Cadence.{interval, after}
+use Rattle.cadence.specs.declared.VbvCadence.{VbvCadence}
 use Rattle.verify.specs.Coded.{codedOf, timed}
 use Rattle.verify.specs.Layout.{recordSize, recordBytes}
 use Rattle.verify.specs.Run.{apart, occupancyAfter}
@@ -124,10 +126,10 @@ walkedAnswer (wk.Refused e) = unread e
 walkedAnswer (wk.Read p n st) = value (p, (n, st))
 
 -- after n pictures, and those still to come: their number and the progress; 4 where there are none
-unfoldable pub walkedOver : VbvParams → ℕ → Progress → List SeenPicture → Answer (VbvParams × (ℕ × Progress))
-walkedOver p n st xs =
+unfoldable pub walkedOver : VbvParams → VbvCadence → ℕ → Progress → List SeenPicture → Answer (VbvParams × (ℕ × Progress))
+walkedOver p k n st xs =
     refuse 4 (eqb (n + length xs) 0)
-    (value (p, (n + length xs, advancedAll p st (timed xs))))
+    (value (p, (n + length xs, advancedAll p st (timed k xs))))
 
 -- how many pictures a walk came over; none where a header is refused
 unfoldable pub walkedCount : Answer (VbvParams × (ℕ × Progress)) → ℕ
@@ -171,10 +173,10 @@ recordCount (vf.Report x) = x .pictures
 recordCount (vf.Refused e) = 0
 
 -- before the first picture; where the opening is refused (14, 3, 1, 2, 6) no record is asked of it
-unfoldable pub recorderOf : VbvStandard → Answer VbvParams → VbvRecorder
-recorderOf standard (value p) = record { standard = standard; params = p; at = 0; progress = Fresh }
-recorderOf standard (refused n k c e) =
-    record { standard = standard; params = record { «bit_rate» = 0; «buffer_size_bits» = 0; frn = 0; frd = 0 }; at = 0; progress = Unmodelled NoSequenceHeader }
+unfoldable pub recorderOf : VbvStandard → VbvCadence → Answer VbvParams → VbvRecorder
+recorderOf standard k (value p) = record { standard = standard; params = p; at = 0; cadence = k; progress = Fresh }
+recorderOf standard k (refused n i c e) =
+    record { standard = standard; params = record { «bit_rate» = 0; «buffer_size_bits» = 0; frn = 0; frd = 0 }; at = 0; cadence = k; progress = Unmodelled NoSequenceHeader }
 
 unfoldable pub noRecord : VbvPictureRecord
 noRecord = record { «vbv_delay» = 0; «expected_delay» = 0; «data_bits» = 0; «occupancy_before_bits» = 0; periods = 0 }
@@ -192,13 +194,14 @@ storedNext count i st out = pick (ltb i count) (sets out (recordSize * i) (recor
 unfoldable pub stayed : VbvRecorder → VbvRecorded
 stayed w = record { recorder = w; last = noRecord }
 
-unfoldable pub wentOn : VbvRecorder → ℕ → Progress → VbvRecorded
-wentOn w next st =
-    record { recorder = record { standard = w .standard; params = w .params; at = next; progress = st }; last = lastOf st }
+unfoldable pub wentOn : VbvRecorder → ℕ → VbvCadence → Progress → VbvRecorded
+wentOn w next k st =
+    record { recorder = record { standard = w .standard; params = w .params; at = next; cadence = k; progress = st }; last = lastOf st }
 
 unfoldable pub recordedBy : VbvRecorder → Sight → VbvRecorded
 recordedBy w nothing = stayed w
-recordedBy w (one x next) = wentOn w next (advanced (w .params) (w .progress) (codedOf x))
+recordedBy w (one x next) =
+    wentOn w next (after (w .cadence) (x .facts)) (advanced (w .params) (w .progress) (codedOf (interval (w .cadence) (x .facts)) x))
 
 unfoldable pub nextRecord : List ℕ → VbvRecorder → VbvRecorded
 nextRecord s w = orElse (stayed w) (andThen (nextSeen (w .standard) s (w .at)) (λ g. value (recordedBy w g)))

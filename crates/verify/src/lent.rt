@@ -1,9 +1,10 @@
-// The check with records in a lent slice of structs, thin above the check by value.
+// The check, outside film, with records in a lent slice of structs, thin above the check by value.
 ghost use mathlib.Core.Path.{_≡_};
 ghost use lib.ListN.{length};
 ghost use Rattle.bits.specs.Answers.{over};
 ghost use Rattle.verify.specs.Answers.{verifiedAnswer};
 ghost use Rattle.verify.specs.Check.{verdict, reported, records as recordsOf};
+ghost use Rattle.verify.specs.Mode.{plain as plainOf};
 use crate::VbvPictureRecord;
 use crate::VbvVerified;
 use crate::check_stream;
@@ -18,7 +19,7 @@ pub fn verify_cbr_stream(
     standard: VbvStandard,
     records: &mut [VbvPictureRecord],
 ) -> VbvVerified
-    ensures { λ r. ⌜ (verifiedAnswer r ≡ reported (verdict standard (now (stream .entry)) (length (now (records .entry))))) × (now (records .exit) ≡ over (recordsOf (verdict standard (now (stream .entry)) (length (now (records .entry))))) (now (records .entry))) ⌝ }
+    ensures { λ r. ⌜ (verifiedAnswer r ≡ reported (verdict (plainOf standard) (now (stream .entry)) (length (now (records .entry))))) × (now (records .exit) ≡ over (recordsOf (verdict (plainOf standard) (now (stream .entry)) (length (now (records .entry))))) (now (records .entry))) ⌝ }
 {
     let answer = check_stream(stream, standard, records.len());
     let count = record_count(answer);

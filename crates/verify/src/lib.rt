@@ -1,6 +1,7 @@
 // The buffer report of a constant-rate stream: the check of Annex C over the pictures that its headers show.
 ghost use mathlib.Core.Path.{_≡_};
 ghost use Rattle.verify.specs.Answers.{refusalOf};
+ghost use Rattle.verify.specs.Mode.{plain as plainOf, hasFilm, modeFits};
 
 pub mod lent; // the check with records in a lent slice of structs
 mod records; // records as bytes
@@ -8,8 +9,10 @@ mod recorder; // the records one by one
 mod report; // the check of a stream
 mod run; // one removal after another
 
+pub use crate::report::check_in_mode;
 pub use crate::report::check_stream;
 pub use crate::report::verify_cbr_stream;
+pub use crate::report::verify_in_mode;
 pub use bits::VbvRefusal;
 pub use bits::plain;
 use headers::Error;
@@ -20,6 +23,12 @@ use vbv::VbvCbrModel;
 use vbv::VbvError;
 use vbv::VbvParams;
 use vbv::VbvViolation;
+
+// What a stream is checked as, and a writer writes. Film is MPEG-2's alone.
+pub struct VbvMode {
+    pub standard: VbvStandard,
+    pub film: bool,
+}
 
 // The bytes of a record (docs/LAYOUT.md).
 pub const RECORD_BYTES: usize = 40;
@@ -106,6 +115,38 @@ enum BeforeRemoval {
 enum Walked {
     Refused(Unread),
     Read(VbvParams, usize, Progress),
+}
+
+fn has_film(standard: VbvStandard) -> bool
+    ensures { λ r. ⌜ r ≡ hasFilm standard ⌝ }
+{
+    match standard {
+        VbvStandard::Mpeg1 => false,
+        VbvStandard::Mpeg2 => true,
+    }
+}
+
+impl VbvMode {
+    // Outside film.
+    pub fn plain(standard: VbvStandard) -> VbvMode
+        ensures { λ r. ⌜ r ≡ plainOf standard ⌝ }
+    {
+        VbvMode {
+            standard,
+            film: false,
+        }
+    }
+
+    // Whether there is this mode.
+    pub fn fits(self) -> bool
+        ensures { λ r. ⌜ r ≡ modeFits self ⌝ }
+    {
+        let standard = self.standard;
+        if self.film {
+            return has_film(standard);
+        }
+        true
+    }
 }
 
 impl VbvVerifyError {

@@ -1,12 +1,15 @@
 // The records of a stream one by one.
 ghost use mathlib.Core.Path.{_≡_};
 ghost use Rattle.pictures.specs.Front.{opening as openingOf};
+ghost use Rattle.cadence.specs.Cadence.{opened};
+ghost use mathlib.Core.Bool.{false};
 ghost use Rattle.verify.specs.Steps.{recorderOf, recordCount, noRecord, lastOf, stayed, wentOn, nextRecord};
 use crate::Progress;
 use crate::VbvPictureRecord;
 use crate::VbvVerified;
 use crate::VbvVerifyError;
 use crate::run::advance;
+use cadence::VbvCadence;
 use pictures::Declared;
 use pictures::NextSeen;
 use pictures::VbvStandard;
@@ -19,6 +22,7 @@ pub(crate) struct VbvRecorder {
     standard: VbvStandard,
     params: VbvParams,
     at: usize,
+    cadence: VbvCadence,
     progress: Progress,
 }
 
@@ -66,15 +70,17 @@ pub(crate) fn last_of(progress: Progress) -> VbvPictureRecord
 }
 
 impl VbvRecorder {
-    // Before the first picture.
+    // Before the first picture, outside film.
     pub(crate) fn new(stream: &[u8], standard: VbvStandard) -> VbvRecorder
-        ensures { λ r. ⌜ r ≡ recorderOf standard (openingOf standard (now (stream .entry))) ⌝ }
+        ensures { λ r. ⌜ r ≡ recorderOf standard (opened false false false) (openingOf standard (now (stream .entry))) ⌝ }
     {
+        let cadence = VbvCadence::opened(false, false, false);
         match opening(stream, standard) {
             Declared::Params(params) => VbvRecorder {
                 standard,
                 params,
                 at: 0,
+                cadence,
                 progress: Progress::Fresh,
             },
             Declared::Refused(_) => {
@@ -88,6 +94,7 @@ impl VbvRecorder {
                     standard,
                     params,
                     at: 0,
+                    cadence,
                     progress: Progress::Unmodelled(VbvVerifyError::NoSequenceHeader),
                 }
             }
@@ -105,8 +112,8 @@ impl VbvRecorder {
     }
 
     // After a picture whose data end at the code at `at`, or at the stream's end.
-    fn go_on(self, at: usize, progress: Progress) -> VbvRecorded
-        ensures { λ r. ⌜ r ≡ wentOn self at progress ⌝ }
+    fn go_on(self, at: usize, cadence: VbvCadence, progress: Progress) -> VbvRecorded
+        ensures { λ r. ⌜ r ≡ wentOn self at cadence progress ⌝ }
     {
         let standard = self.standard;
         let params = self.params;
@@ -115,6 +122,7 @@ impl VbvRecorder {
                 standard,
                 params,
                 at,
+                cadence,
                 progress,
             },
             last: last_of(progress),
@@ -132,7 +140,13 @@ impl VbvRecorder {
             NextSeen::Picture(seen, next) => {
                 let progress = self.progress;
                 let params = self.params;
-                self.go_on(next, advance(progress, params, seen))
+                let cadence = self.cadence;
+                let facts = seen.facts;
+                self.go_on(
+                    next,
+                    cadence.after(facts),
+                    advance(progress, params, cadence, seen),
+                )
             }
         }
     }

@@ -10,6 +10,7 @@ ghost use Rattle.bits.specs.Refusals.{andThen, value};
 ghost use Rattle.bits.specs.Answers.{over};
 ghost use Rattle.pictures.specs.Front.{opening as openingOf, front};
 ghost use Rattle.pictures.specs.Seen.{seenPictures};
+ghost use Rattle.verify.specs.Mode.{plain as plainOf};
 ghost use Rattle.verify.specs.Answers.{verifiedAnswer};
 ghost use Rattle.verify.specs.Check.{verdict, reported, records as recordsOf};
 ghost use Rattle.verify.specs.Layout.{recordSize, recordsBytes};
@@ -17,6 +18,7 @@ ghost use Rattle.verify.specs.Steps.{walkedAnswer, walkedOver, walkedCou
 ghost use Rattle.verify.specs.declared.Progress.the-variants.{Fresh};
 use crate::Progress;
 use crate::RECORD_BYTES;
+use crate::VbvMode;
 use crate::VbvStreamReport;
 use crate::VbvVerified;
 use crate::VbvVerifyError;
@@ -24,12 +26,15 @@ use crate::Walked;
 use crate::recorder::record_count;
 use crate::records::put_next;
 use crate::run::advance;
+use cadence::VbvCadence;
 use pictures::Declared;
 use pictures::NextSeen;
 use pictures::Unread;
 use pictures::VbvStandard;
+use pictures::cadence_of;
 use pictures::next_seen;
 use pictures::opening;
+use vbv::VbvError;
 use vbv::VbvParams;
 
 // Walks over the pictures and runs the model over them, as long as their headers can be read; there must be one. The records
@@ -37,23 +42,27 @@ use vbv::VbvParams;
 fn walk(
     stream: &[u8],
     standard: VbvStandard,
+    first: VbvCadence,
     params: VbvParams,
     count: usize,
     out: &mut [u8],
 ) -> Walked
     requires { ⌜ 8 * length (now stream) ≤ farthest ⌝ }
     requires { ⌜ recordSize * count ≤ length (now out) ⌝ }
-    requires { ⌜ count ≤ walkedCount (andThen (seenPictures standard (now stream)) (walkedOver params 0 Fresh)) ⌝ }
-    ensures { λ r. ⌜ walkedAnswer r ≡ andThen (seenPictures standard (now (stream .entry))) (walkedOver params 0 Fresh) ⌝ }
-    ensures { λ r. ⌜ now (out .exit) ≡ sets (now (out .entry)) 0 (recordsBytes (firstRecords (now (stream .entry)) (recorderOf standard (value params)) count)) ⌝ }
+    requires { ⌜ count ≤ walkedCount (andThen (seenPictures standard (now stream)) (walkedOver params first 0 Fresh)) ⌝ }
+    ensures { λ r. ⌜ walkedAnswer r ≡ andThen (seenPictures standard (now (stream .entry))) (walkedOver params first 0 Fresh) ⌝ }
+    ensures { λ r. ⌜ now (out .exit) ≡ sets (now (out .entry)) 0 (recordsBytes (firstRecords (now (stream .entry)) (recorderOf standard first (value params)) count)) ⌝ }
 {
     let mut i: usize = 0;
     let mut n: usize = 0;
+    let mut cadence = first;
     let mut progress = Progress::Fresh;
     loop {
         match next_seen(stream, standard, i) {
             NextSeen::Picture(seen, next) => {
-                progress = advance(progress, params, seen);
+                let facts = seen.facts;
+                progress = advance(progress, params, cadence, seen);
+                cadence = cadence.after(facts);
                 put_next(out, count, n, progress);
                 n += 1;
                 i = next;
@@ -71,15 +80,21 @@ fn walk(
 
 // The front: 14, 3, sequence header, extension, 6, every picture header in stream order, 4. The model runs along, so that
 // the stream is walked over once; and the records of the first `count` pictures are stored.
-fn walk_front(stream: &[u8], standard: VbvStandard, count: usize, out: &mut [u8]) -> Walked
+fn walk_front(
+    stream: &[u8],
+    standard: VbvStandard,
+    cadence: VbvCadence,
+    count: usize,
+    out: &mut [u8],
+) -> Walked
     requires { ⌜ recordSize * count ≤ length (now out) ⌝ }
-    requires { ⌜ count ≤ walkedCount (andThen (front standard (now stream)) (λ f. walkedOver (f .params) 0 Fresh (f .first ∷ f .others))) ⌝ }
-    ensures { λ r. ⌜ walkedAnswer r ≡ andThen (front standard (now (stream .entry))) (λ f. walkedOver (f .params) 0 Fresh (f .first ∷ f .others)) ⌝ }
-    ensures { λ r. ⌜ now (out .exit) ≡ sets (now (out .entry)) 0 (recordsBytes (firstRecords (now (stream .entry)) (recorderOf standard (openingOf standard (now (stream .entry)))) count)) ⌝ }
+    requires { ⌜ count ≤ walkedCount (andThen (front standard (now stream)) (λ f. walkedOver (f .params) cadence 0 Fresh (f .first ∷ f .others))) ⌝ }
+    ensures { λ r. ⌜ walkedAnswer r ≡ andThen (front standard (now (stream .entry))) (λ f. walkedOver (f .params) cadence 0 Fresh (f .first ∷ f .others)) ⌝ }
+    ensures { λ r. ⌜ now (out .exit) ≡ sets (now (out .entry)) 0 (recordsBytes (firstRecords (now (stream .entry)) (recorderOf standard cadence (openingOf standard (now (stream .entry)))) count)) ⌝ }
 {
     match opening(stream, standard) {
         Declared::Refused(error) => Walked::Refused(error),
-        Declared::Params(params) => walk(stream, standard, params, count, out),
+        Declared::Params(params) => walk(stream, standard, cadence, params, count, out),
     }
 }
 
@@ -134,23 +149,47 @@ fn judge(walked: Walked, places: usize) -> VbvVerified
     }
 }
 
-// The buffer report of a stream, given so many record places, without its records; or why it is refused.
-pub fn check_stream(stream: &[u8], standard: VbvStandard, places: usize) -> VbvVerified
-    ensures { λ r. ⌜ verifiedAnswer r ≡ reported (verdict standard (now (stream .entry)) places) ⌝ }
+// The buffer report of a stream in a mode, given so many record places, without its records; or why it is refused.
+pub fn check_in_mode(stream: &[u8], mode: VbvMode, places: usize) -> VbvVerified
+    ensures { λ r. ⌜ verifiedAnswer r ≡ reported (verdict mode (now (stream .entry)) places) ⌝ }
 {
-    judge(walk_front(stream, standard, 0, &mut []), places)
+    if mode.fits() {
+        let standard = mode.standard;
+        let cadence = cadence_of(stream, mode.film);
+        return judge(
+            walk_front(stream, standard, cadence, 0, &mut []),
+            places,
+        );
+    }
+    VbvVerified::Refused(VbvVerifyError::Model(VbvError::Params))
 }
 
-// The buffer report of a stream with its records, or why it is refused. A place has the bytes of a record.
-pub fn verify_cbr_stream(stream: &[u8], standard: VbvStandard, records: &mut [u8]) -> VbvVerified
-    ensures { λ r. ⌜ verifiedAnswer r ≡ reported (verdict standard (now (stream .entry)) (length (now (records .entry)) / recordSize)) ⌝ }
-    ensures { λ r. ⌜ now (records .exit) ≡ over (recordsBytes (recordsOf (verdict standard (now (stream .entry)) (length (now (records .entry)) / recordSize)))) (now (records .entry)) ⌝ }
+// The buffer report of a stream in a mode with its records, or why it is refused. A place has the bytes of a record.
+pub fn verify_in_mode(stream: &[u8], mode: VbvMode, records: &mut [u8]) -> VbvVerified
+    ensures { λ r. ⌜ verifiedAnswer r ≡ reported (verdict mode (now (stream .entry)) (length (now (records .entry)) / recordSize)) ⌝ }
+    ensures { λ r. ⌜ now (records .exit) ≡ over (recordsBytes (recordsOf (verdict mode (now (stream .entry)) (length (now (records .entry)) / recordSize)))) (now (records .entry)) ⌝ }
 {
-    let walked = walk_front(stream, standard, 0, &mut []);
-    let answer = judge(walked, records.len() / RECORD_BYTES);
+    let answer = check_in_mode(stream, mode, records.len() / RECORD_BYTES);
     let count = record_count(answer);
     if 0 < count {
-        walk_front(stream, standard, count, records);
+        let standard = mode.standard;
+        let cadence = cadence_of(stream, mode.film);
+        walk_front(stream, standard, cadence, count, records);
     }
     answer
+}
+
+// Outside film.
+pub fn check_stream(stream: &[u8], standard: VbvStandard, places: usize) -> VbvVerified
+    ensures { λ r. ⌜ verifiedAnswer r ≡ reported (verdict (plainOf standard) (now (stream .entry)) places) ⌝ }
+{
+    check_in_mode(stream, VbvMode::plain(standard), places)
+}
+
+// Outside film, with the records.
+pub fn verify_cbr_stream(stream: &[u8], standard: VbvStandard, records: &mut [u8]) -> VbvVerified
+    ensures { λ r. ⌜ verifiedAnswer r ≡ reported (verdict (plainOf standard) (now (stream .entry)) (length (now (records .entry)) / recordSize)) ⌝ }
+    ensures { λ r. ⌜ now (records .exit) ≡ over (recordsBytes (recordsOf (verdict (plainOf standard) (now (stream .entry)) (length (now (records .entry)) / recordSize)))) (now (records .entry)) ⌝ }
+{
+    verify_in_mode(stream, VbvMode::plain(standard), records)
 }

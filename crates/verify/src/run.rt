@@ -5,6 +5,7 @@ ghost use Rattle.vbv.specs.Model.{occupancyBeforeRemoval};
 ghost use Rattle.vbv.specs.Steps.{bitsOf};
 ghost use Rattle.verify.specs.Run.{apart};
 ghost use Rattle.verify.specs.Coded.{codedOf};
+ghost use Rattle.cadence.specs.Cadence.{interval as intervalOf};
 ghost use Rattle.verify.specs.Steps.{withDelays, removedFrom, removed, progressed, firstRemoved, advanced, goneOn};
 use crate::BeforeRemoval;
 use crate::CodedPicture;
@@ -12,6 +13,7 @@ use crate::Progress;
 use crate::Removed;
 use crate::VbvPictureRecord;
 use crate::VbvVerifyError;
+use cadence::VbvCadence;
 use pictures::SeenPicture;
 use vbv::VbvBits;
 use vbv::VbvCbrModel;
@@ -20,7 +22,6 @@ use vbv::VbvModel;
 use vbv::VbvParams;
 use vbv::VbvRemoval;
 use vbv::VbvViolation;
-use vbv::interval;
 use vbv::periods;
 
 // The difference, or 0.
@@ -192,24 +193,29 @@ fn before_removal(progress: Progress, params: VbvParams, coded: CodedPicture) ->
     }
 }
 
-// A picture as the model sees it: a field picture lasts a field period.
-fn coded_picture(seen: SeenPicture) -> CodedPicture
-    ensures { λ r. ⌜ r ≡ codedOf seen ⌝ }
+// A picture as the model sees it: it lasts as the cadence before it says.
+fn coded_picture(cadence: VbvCadence, seen: SeenPicture) -> CodedPicture
+    ensures { λ r. ⌜ r ≡ codedOf (intervalOf cadence (seen .facts)) seen ⌝ }
 {
     let facts = seen.facts;
     CodedPicture {
         pos_bits: seen.pos_bits,
         end_bits: seen.end_bits,
         vbv_delay: seen.vbv_delay,
-        interval: interval(facts.field),
+        interval: cadence.interval(facts),
     }
 }
 
 // The progress after one more picture.
-pub(crate) fn advance(progress: Progress, params: VbvParams, seen: SeenPicture) -> Progress
-    ensures { λ r. ⌜ r ≡ advanced params progress (codedOf seen) ⌝ }
+pub(crate) fn advance(
+    progress: Progress,
+    params: VbvParams,
+    cadence: VbvCadence,
+    seen: SeenPicture,
+) -> Progress
+    ensures { λ r. ⌜ r ≡ advanced params progress (codedOf (intervalOf cadence (seen .facts)) seen) ⌝ }
 {
-    let coded = coded_picture(seen);
+    let coded = coded_picture(cadence, seen);
     match before_removal(progress, params, coded) {
         BeforeRemoval::Model(model, least, greatest) => go_on(
             remove(model, coded),

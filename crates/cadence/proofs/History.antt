@@ -1,0 +1,2 @@
+-- What the cadence keeps is what the pictures before tell.
+-- Assumes nothing.

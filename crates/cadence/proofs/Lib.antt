@@ -1,0 +1,4 @@
+pub mod Ways
+pub mod Plain
+pub mod Table
+pub mod History

@@ -1,0 +1,2 @@
+-- The table and the worked lists hold: by computation, the flags taken one by one.
+-- Assumes nothing.

@@ -1,0 +1,4 @@
+pub mod Cadence
+pub mod Table
+pub mod History
+pub mod Plain
