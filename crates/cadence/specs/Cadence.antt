@@ -10,6 +10,11 @@ use Rattle.cadence.specs.declared.OpenField.{OpenField}
 use Rattle.cadence.specs.declared.OpenField.the-variants.{Closed, LedByAnchor, LedByOther}
 use Rattle.cadence.specs.declared.VbvCadence.{VbvCadence}
 
+unfoldable pub isClosed : OpenField → Bool
+isClosed Closed = true
+isClosed LedByAnchor = false
+isClosed LedByOther = false
+
 -- before the first picture: no anchor, no field. Outside film the sequence's flags are not looked at
 unfoldable pub opened : Bool → Bool → Bool → VbvCadence
 opened film progressive low = record {
@@ -21,6 +26,12 @@ opened film progressive low = record {
   waiting = Closed;
 }
 
+-- outside film nothing is kept
+unfoldable pub cadenceFits : VbvCadence → Bool
+cadenceFits k =
+    pick (k .film) true
+    (not (k .progressive) && (not (k .«low_delay») && (not (k .repeat) && (not (k .top) && isClosed (k .waiting)))))
+
 -- ---- how long
 
 -- C.9 to C.11: a frame by these flags: a field more where the first is repeated; in a progressive sequence one or two frames more (6.3.10)
@@ -31,11 +42,6 @@ unfoldable pub ledByAnchor : OpenField → Bool
 ledByAnchor Closed = false
 ledByAnchor LedByAnchor = true
 ledByAnchor LedByOther = false
-
-unfoldable pub isClosed : OpenField → Bool
-isClosed Closed = true
-isClosed LedByAnchor = false
-isClosed LedByOther = false
 
 -- C.11, C.12: a field lasts 1; the second of a pair led by I or P 2 where the anchor before the pair has the flag, neither in a progressive sequence nor with low_delay
 unfoldable pub fieldInterval : VbvCadence → RemovalInterval

@@ -1,7 +1,7 @@
 // How long a picture lasts (paper 02, request 05): field periods up to the next removal, outside film by the picture's structure, in film mode
 // by Annex C.
 ghost use mathlib.Core.Path.{_≡_};
-ghost use Rattle.cadence.specs.Cadence.{lasting as lastingOf, ledByAnchor, isClosed, interval as intervalOf, after as afterOf, opened as openedOf, with as withOf};
+ghost use Rattle.cadence.specs.Cadence.{lasting as lastingOf, ledByAnchor, isClosed, interval as intervalOf, after as afterOf, opened as openedOf, with as withOf, cadenceFits};
 use picture_header::PictureFacts;
 use vbv::RemovalInterval;
 
@@ -72,6 +72,18 @@ impl VbvCadence {
             top: false,
             waiting: OpenField::Closed,
         }
+    }
+
+    // Outside film nothing is kept.
+    pub fn fits(self) -> bool
+        ensures { λ r. ⌜ r ≡ cadenceFits self ⌝ }
+    {
+        if self.film {
+            return true;
+        }
+        let waiting = self.waiting;
+        !self.progressive
+            & (!self.low_delay & (!self.repeat & (!self.top & is_closed(waiting))))
     }
 
     // How long up to the removal after this picture's.

@@ -19,6 +19,7 @@ use Rattle.rate_control.specs.Demand.{AllBytes, DemandOf}
 use Rattle.rate_control.specs.declared.CbrConfig.{CbrConfig}
 use Rattle.rate_control.specs.declared.CbrWriter.{CbrWriter}
 use Rattle.rate_control.specs.declared.Pending.the-variants.{Nothing}
+use Rattle.layout.specs.Mode.{modeNumber}
 use Rattle.layout.specs.Config.{configIn}
 use Rattle.layout.specs.State.{stateBytes, stateFits, writerAt}
 use Rattle.layout.specs.Answers.{answerSize, answerWords}
@@ -120,10 +121,10 @@ OwedFromC = (c : CbrConfig) (place : List ℕ) → number (createIn c place) ≡
 
 -- ---- a creation by a configuration's bytes
 
--- the words of a configuration, in their order: the mode, 2, before its fields
+-- the words of a configuration, in their order: the mode's number before its other fields
 abbrev pub configWords : CbrConfig → List ℕ
 configWords c =
-    2
+    modeNumber (c .mode)
     ∷ c .«bit_rate_value»
     ∷ c .«vbv_buffer_size_value»
     ∷ c .«frame_rate_code»
@@ -134,14 +135,14 @@ configWords c =
     ∷ c .«anchors_per_gop»
     ∷ []
 
--- a creation by the bytes of these words is the creation with the fields, large ones too, whatever stands after them: with n and d 0
+-- a creation by the bytes of these words is the creation with the fields, large ones too, whatever stands after them: in mode 2 with n and d 0
 -- that of `cbr_create`. First 12 for bytes that are too few, then 19 for a place that is too short, then 12 for another mode
 pub record ConfigRead : Type 0 where
   pub as-create : (c : CbrConfig) (more place : List ℕ) → ((k : ℕ) → getD (configWords c) k 0 < 2 ^ 64)
       → createWith (wordsBytes (configWords c) ++ more) place ≡ createIn c place
   pub too-short : (config place : List ℕ) → length config < 72 → createWith config place ≡ refused 12 0 0 0
-  pub no-place : (config place : List ℕ) → 72 ≤ length config → length place < 152 → createWith config place ≡ refused 19 0 0 0
-  pub other-mode : (config place : List ℕ) → 72 ≤ length config → 152 ≤ length place → (wordAt config 0 ≡ 2 → ⊥) → createWith config place ≡ refused 12 0 0 0
+  pub no-place : (config place : List ℕ) → 72 ≤ length config → length place < 200 → createWith config place ≡ refused 19 0 0 0
+  pub other-mode : (config place : List ℕ) → 72 ≤ length config → 200 ≤ length place → (wordAt config 0 ≡ 2 → ⊥) → (wordAt config 0 ≡ 6 → ⊥) → createWith config place ≡ refused 12 0 0 0
 
 -- an accepted creation by a configuration's bytes leaves the place as the creation with what they hold does, and so it is with every list of calls
 pub record FromConfig (config place : List ℕ) : Type 0 where

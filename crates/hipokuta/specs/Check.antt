@@ -1,49 +1,46 @@
--- `vbv_check` (paper 01, 'The buffer report' and 'Rust forms to replace'; docs/LAYOUT.md): a report or refusal place that is too short is 19, then a standard other than 1 (MPEG-1) and 2 (MPEG-2) is 12, then the check's own answer.
+-- `vbv_check` (paper 01, 'The buffer report' and 'Rust forms to replace'; docs/LAYOUT.md): a report or refusal place that is too short is 19, then a mode that is none (1 MPEG-1, 2 MPEG-2, 6 MPEG-2 film) is 12, then the check's own answer.
 -- `vbv_report`: the same, given a record place for each picture, without the records.
 -- Assumes nothing.
 use Prim.Native.Nat.{ℕ, _/_, _≤_}
 use mathlib.Core.Path.{_≡_}
 use mathlib.Core.Logic.{_↔_}
-use mathlib.Core.Bool.{_||_}
+use mathlib.Core.Bool.{not, _||_}
 use mathlib.Core.List.{List, _∷_}
-use lib.Dec.{ltb, eqb}
+use lib.Dec.{ltb}
 use lib.ListN.{length}
 use denote.Ref.{now}
-use Rattle.bits.specs.Bits.{pick}
 use Rattle.bits.specs.Answers.{over}
 use Rattle.bits.specs.Refusals.{Answer, value, refused, refuse, number}
 use Rattle.scan.specs.Pictures.{pictures}
 use Rattle.verify.specs.Check.{Accepted, verdict, reported}
 use Rattle.verify.specs.Layout.{recordSize, recordsBytes}
-use Rattle.pictures.specs.declared.VbvStandard.the-variants.{Mpeg1, Mpeg2}
 use Rattle.verify.specs.declared.VbvStreamReport.{VbvStreamReport}
 use Rattle.words.specs.Words.{wordsBytes, laid}
+use Rattle.layout.specs.Mode.{isMode, modeFor}
 use Rattle.layout.specs.Answers.{reportSize, refusalSize, reportWords, refusalWords}
 use Rattle.hipokuta.specs.Lent.{Slice}
 
--- of a stream, the standard's number and the places for report, records and refusal
+-- of a stream, the mode's number and the places for report, records and refusal
 unfoldable pub checked : List ℕ → ℕ → List ℕ → List ℕ → List ℕ → Answer Accepted
-checked s standard report recs refusal =
+checked s mode report recs refusal =
     refuse 19 (ltb (length refusal) refusalSize || ltb (length report) reportSize)
-    (pick (eqb standard 1) (verdict Mpeg1 s (length recs / recordSize))
-    (pick (eqb standard 2) (verdict Mpeg2 s (length recs / recordSize))
-    (refused 12 0 0 0)))
+    (refuse 12 (not (isMode mode))
+    (verdict (modeFor mode) s (length recs / recordSize)))
 
 -- by what the slices hold when `vbv_check` is called
 abbrev pub checkedIn : Slice → ℕ → Slice → Slice → Slice → Answer Accepted
-checkedIn stream standard report recs refusal = checked (now (stream .entry)) standard (now (report .entry)) (now (recs .entry)) (now (refusal .entry))
+checkedIn stream mode report recs refusal = checked (now (stream .entry)) mode (now (report .entry)) (now (recs .entry)) (now (refusal .entry))
 
--- of a stream, the standard's number and the places for report and refusal; as many record places as the stream has pictures
+-- of a stream, the mode's number and the places for report and refusal; as many record places as the stream has pictures
 unfoldable pub reportAlone : List ℕ → ℕ → List ℕ → List ℕ → Answer VbvStreamReport
-reportAlone s standard report refusal =
+reportAlone s mode report refusal =
     refuse 19 (ltb (length refusal) refusalSize || ltb (length report) reportSize)
-    (pick (eqb standard 1) (reported (verdict Mpeg1 s (length (pictures s))))
-    (pick (eqb standard 2) (reported (verdict Mpeg2 s (length (pictures s))))
-    (refused 12 0 0 0)))
+    (refuse 12 (not (isMode mode))
+    (reported (verdict (modeFor mode) s (length (pictures s)))))
 
 -- by what the slices hold when `vbv_report` is called
 abbrev pub reportAloneIn : Slice → ℕ → Slice → Slice → Answer VbvStreamReport
-reportAloneIn stream standard report refusal = reportAlone (now (stream .entry)) standard (now (report .entry)) (now (refusal .entry))
+reportAloneIn stream mode report refusal = reportAlone (now (stream .entry)) mode (now (report .entry)) (now (refusal .entry))
 
 -- the places afterwards; a refusal place that is too short is left alone
 unfoldable pub reportAfter : Answer VbvStreamReport → List ℕ → List ℕ
@@ -60,15 +57,15 @@ refusalAfter (refused n k c e) place = laid (wordsBytes (refusalWords record { n
 
 -- ---- both on the same stream: `vbv_report` tells how many record places `vbv_check` needs
 
-pub record Beside (s : List ℕ) (standard : ℕ) (report recs refusal : List ℕ) : Type 0 where
+pub record Beside (s : List ℕ) (mode : ℕ) (report recs refusal : List ℕ) : Type 0 where
   -- n pictures are reported exactly where `vbv_check` with n record places or more accepts, with the same report
   pub accepts : (r : VbvStreamReport)
-      → (reported (checked s standard report recs refusal) ≡ value r) ↔ ((reportAlone s standard report refusal ≡ value r) × (r .pictures ≤ length recs / recordSize))
+      → (reported (checked s mode report recs refusal) ≡ value r) ↔ ((reportAlone s mode report refusal ≡ value r) × (r .pictures ≤ length recs / recordSize))
   -- with a place for each picture both answer the same, and refuse the same
-  pub enough : length (pictures s) ≤ length recs / recordSize → reported (checked s standard report recs refusal) ≡ reportAlone s standard report refusal
+  pub enough : length (pictures s) ≤ length recs / recordSize → reported (checked s mode report recs refusal) ≡ reportAlone s mode report refusal
   -- with any places too, but for 15
-  pub otherwise : (number (checked s standard report recs refusal) ≡ 15 → ⊥) → reported (checked s standard report recs refusal) ≡ reportAlone s standard report refusal
+  pub otherwise : (number (checked s mode report recs refusal) ≡ 15 → ⊥) → reported (checked s mode report recs refusal) ≡ reportAlone s mode report refusal
 
 -- what is owed
 abbrev pub OwedOfReports : Type 0
-OwedOfReports = (s : List ℕ) (standard : ℕ) (report recs refusal : List ℕ) → Beside s standard report recs refusal
+OwedOfReports = (s : List ℕ) (mode : ℕ) (report recs refusal : List ℕ) → Beside s mode report recs refusal

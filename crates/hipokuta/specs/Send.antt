@@ -1,4 +1,4 @@
--- `cbr_create`, `cbr_create_config`, `cbr_offer` and `cbr_withdraw` (paper 01, 'A placed picture' and 'Rust forms to replace'; request 02; docs/LAYOUT.md): the writer's own answers, its state as bytes.
+-- `cbr_create`, `cbr_create_config`, `cbr_offer` and `cbr_withdraw` (paper 01, 'A placed picture' and 'Rust forms to replace'; requests 02 and 05; docs/LAYOUT.md): the writer's own answers, its state as bytes.
 -- Assumes nothing.
 use Prim.Native.Nat.{ℕ}
 use mathlib.Core.List.{List}
@@ -12,6 +12,8 @@ use Rattle.vbv.specs.declared.RemovalInterval.{RemovalInterval}
 use Rattle.vbv.specs.declared.RemovalInterval.the-variants.{Frame, Field}
 use Rattle.layers.specs.declared.PictureKind.{PictureKind}
 use Rattle.layers.specs.declared.PictureKind.the-variants.{I, P, B}
+use Rattle.pictures.specs.declared.VbvStandard.the-variants.{Mpeg2}
+use Rattle.verify.specs.Mode.{plain}
 use Rattle.rate_control.specs.Answers.{Given}
 use Rattle.rate_control.specs.Create.{create, within}
 use Rattle.rate_control.specs.Offer.{Offer, offer, left, outAfter, withdraw}
@@ -30,9 +32,10 @@ stateAfter (refused n k c e) place = place
 
 -- ---- creation
 
--- what `cbr_create` brings: n and d are 0
+-- what `cbr_create` brings: MPEG-2, not film, and n and d are 0
 abbrev pub configOf : ℕ → ℕ → ℕ → ℕ → ℕ → ℕ → CbrConfig
 configOf rate buffer code quantiser between anchors = record {
+  mode = plain Mpeg2;
   «bit_rate_value» = rate;
   «vbv_buffer_size_value» = buffer;
   «frame_rate_code» = code;

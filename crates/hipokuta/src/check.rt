@@ -10,11 +10,12 @@ use bits::VbvRefusal;
 use bits::plain;
 use layout::REFUSAL_BYTES;
 use layout::REPORT_BYTES;
+use layout::is_mode;
+use layout::mode_for;
 use layout::put_refusal;
 use layout::put_report;
-use verify::VbvStandard;
 use verify::VbvVerified;
-use verify::verify_cbr_stream;
+use verify::verify_in_mode;
 
 // A refusal in its place: its number.
 pub(crate) fn refuse(place: &mut [u8], r: VbvRefusal) -> u64
@@ -44,30 +45,26 @@ pub(crate) fn answer(verified: VbvVerified, report: &mut [u8], refusal: &mut [u8
 #[no_mangle]
 pub extern "C" fn vbv_check(
     stream: &[u8],
-    standard: u8,
+    mode: u8,
     report: &mut [u8],
     records: &mut [u8],
     refusal: &mut [u8],
 ) -> u64
-    ensures { λ r. ⌜ r ≡ number (checkedIn stream standard report records refusal) ⌝ }
-    ensures { λ r. ⌜ now (report .exit) ≡ reportAfter (reported (checkedIn stream standard report records refusal)) (now (report .entry)) ⌝ }
-    ensures { λ r. ⌜ now (records .exit) ≡ recordsAfter (checkedIn stream standard report records refusal) (now (records .entry)) ⌝ }
-    ensures { λ r. ⌜ now (refusal .exit) ≡ refusalAfter (checkedIn stream standard report records refusal) (now (refusal .entry)) ⌝ }
+    ensures { λ r. ⌜ r ≡ number (checkedIn stream mode report records refusal) ⌝ }
+    ensures { λ r. ⌜ now (report .exit) ≡ reportAfter (reported (checkedIn stream mode report records refusal)) (now (report .entry)) ⌝ }
+    ensures { λ r. ⌜ now (records .exit) ≡ recordsAfter (checkedIn stream mode report records refusal) (now (records .entry)) ⌝ }
+    ensures { λ r. ⌜ now (refusal .exit) ≡ refusalAfter (checkedIn stream mode report records refusal) (now (refusal .entry)) ⌝ }
 {
     if (refusal.len() < REFUSAL_BYTES) | (report.len() < REPORT_BYTES) {
         return refuse(refusal, plain(19));
     }
-    match standard {
-        1 => answer(
-            verify_cbr_stream(stream, VbvStandard::Mpeg1, records),
+    let number = mode as u64;
+    if is_mode(number) {
+        return answer(
+            verify_in_mode(stream, mode_for(number), records),
             report,
             refusal,
-        ),
-        2 => answer(
-            verify_cbr_stream(stream, VbvStandard::Mpeg2, records),
-            report,
-            refusal,
-        ),
-        _ => refuse(refusal, plain(12)),
+        );
     }
+    refuse(refusal, plain(12))
 }

@@ -7,37 +7,34 @@ use crate::check::refuse;
 use bits::plain;
 use layout::REFUSAL_BYTES;
 use layout::REPORT_BYTES;
-use verify::VbvStandard;
-use verify::check_stream;
+use layout::is_mode;
+use layout::mode_for;
+use verify::check_in_mode;
 
 // The buffer report of a stream, or why it is refused, but never for want of record places: 0, or the refusal's number. A
 // stream has no more pictures than bytes.
 #[no_mangle]
 pub extern "C" fn vbv_report(
     stream: &[u8],
-    standard: u8,
+    mode: u8,
     report: &mut [u8],
     refusal: &mut [u8],
 ) -> u64
-    ensures { λ r. ⌜ r ≡ number (reportAloneIn stream standard report refusal) ⌝ }
-    ensures { λ r. ⌜ now (report .exit) ≡ reportAfter (reportAloneIn stream standard report refusal) (now (report .entry)) ⌝ }
-    ensures { λ r. ⌜ now (refusal .exit) ≡ refusalAfter (reportAloneIn stream standard report refusal) (now (refusal .entry)) ⌝ }
+    ensures { λ r. ⌜ r ≡ number (reportAloneIn stream mode report refusal) ⌝ }
+    ensures { λ r. ⌜ now (report .exit) ≡ reportAfter (reportAloneIn stream mode report refusal) (now (report .entry)) ⌝ }
+    ensures { λ r. ⌜ now (refusal .exit) ≡ refusalAfter (reportAloneIn stream mode report refusal) (now (refusal .entry)) ⌝ }
 {
     if (refusal.len() < REFUSAL_BYTES) | (report.len() < REPORT_BYTES) {
         return refuse(refusal, plain(19));
     }
     let places = stream.len();
-    match standard {
-        1 => answer(
-            check_stream(stream, VbvStandard::Mpeg1, places),
+    let number = mode as u64;
+    if is_mode(number) {
+        return answer(
+            check_in_mode(stream, mode_for(number), places),
             report,
             refusal,
-        ),
-        2 => answer(
-            check_stream(stream, VbvStandard::Mpeg2, places),
-            report,
-            refusal,
-        ),
-        _ => refuse(refusal, plain(12)),
+        );
     }
+    refuse(refusal, plain(12))
 }

@@ -7,9 +7,9 @@ use bits::plain;
 use layers::PictureKind;
 use layout::ANSWER_BYTES;
 use layout::CONFIG_BYTES;
-use layout::MPEG2;
 use layout::STATE_BYTES;
 use layout::create_from;
+use layout::is_mode;
 use layout::put_answer;
 use layout::put_refused;
 use layout::put_state;
@@ -21,6 +21,8 @@ use rate_control::CbrCreation;
 use rate_control::CbrWithdrawal;
 use rate_control::CbrWriter;
 use vbv::RemovalInterval;
+use verify::VbvMode;
+use verify::VbvStandard;
 use words::word_at;
 
 // A created writer's state in a place: 0, or the refusal's number.
@@ -38,7 +40,7 @@ fn put_created(state: &mut [u8], made: CbrCreated) -> u64
     }
 }
 
-// A new writer in the place for its state, its frame rate that of the code: 0, or the refusal's number.
+// A new plain MPEG-2 writer in the place for its state, its frame rate that of the code: 0, or the refusal's number.
 #[no_mangle]
 pub extern "C" fn cbr_create(
     bit_rate_value: u32,
@@ -56,6 +58,7 @@ pub extern "C" fn cbr_create(
         return 19;
     }
     let config = CbrConfig {
+        mode: VbvMode::plain(VbvStandard::Mpeg2),
         bit_rate_value,
         vbv_buffer_size_value,
         frame_rate_code,
@@ -81,7 +84,7 @@ pub extern "C" fn cbr_create_config(config: &[u8], state: &mut [u8]) -> u64
     if state.len() < STATE_BYTES {
         return 19;
     }
-    if word_at(config, 0) == MPEG2 {
+    if is_mode(word_at(config, 0)) {
         return put_created(state, create_from(config));
     }
     12

@@ -1,12 +1,12 @@
--- A picture layer that fits: picture header, extensions and slices of one coded picture (paper 01, 'A placed picture').
+-- A picture layer that fits: picture header, extensions and slices of one coded picture (paper 01, 'A placed picture'; paper 02, request 05); and the facts that its headers tell.
 -- Assumes nothing.
 use Prim.Native.Nat.{ℕ, _-_, _*_}
 use mathlib.Core.List.{List, [], _∷_}
 use mathlib.Core.Bool.{Bool, true, false, not, _&&_, _||_}
 use lib.Dec.{eqb, leb}
 use lib.ListN.{drop}
-use Rattle.vbv.specs.Model.{intervalOf}
-use Rattle.picture_header.specs.Facts.{isField}
+use Rattle.picture_header.specs.Facts.{isField, pictureTold}
+use Rattle.picture_header.specs.declared.PictureFacts.{PictureFacts}
 use Rattle.bits.specs.StartCodes.{userDataStartCode, extensionStartCode}
 use Rattle.bits.specs.Bits.{bitsAt}
 use Rattle.bits.specs.Refusals.{value, andThen, orElse}
@@ -22,7 +22,7 @@ use Rattle.picture_header.specs.declared.OptionCode.the-variants.{Some as SomeC
 use Rattle.picture_header.specs.declared.Mpeg2PictureHeader.{Mpeg2PictureHeader}
 use Rattle.picture_header.specs.declared.PictureCodingExtension.{PictureCodingExtension}
 use Rattle.vbv.specs.declared.RemovalInterval.{RemovalInterval}
-use Rattle.vbv.specs.declared.RemovalInterval.the-variants.{Frame, Field}
+use Rattle.vbv.specs.declared.RemovalInterval.the-variants.{Frame, Field, ThreeFields, TwoFrames, ThreeFrames}
 use Rattle.scan.specs.Codes.{Code, codes, every, endsPrefix}
 use Rattle.scan.specs.Pictures.{isSlice, skip}
 use Rattle.layers.specs.declared.PictureKind.{PictureKind}
@@ -43,12 +43,13 @@ sameKind B Predictive = false
 sameKind B Bidirectional = true
 sameKind B DcIntra = false
 
--- the structure agrees with the interval
-unfoldable pub sameInterval : RemovalInterval → RemovalInterval → Bool
-sameInterval Frame Frame = true
-sameInterval Frame Field = false
-sameInterval Field Frame = false
-sameInterval Field Field = true
+-- the structure agrees with the interval: an offer says frame or field, and any other agrees with none
+unfoldable pub agrees : RemovalInterval → Bool → Bool
+agrees Frame field = not field
+agrees Field field = field
+agrees ThreeFields field = false
+agrees TwoFrames field = false
+agrees ThreeFrames field = false
 
 -- a full-pel flag is 0 and its code 7, where the type has them (6.3.9)
 unfoldable pub flagClear : OptionFlag → Bool
@@ -63,12 +64,12 @@ codeSeven (SomeCode c) = eqb c 7
 unfoldable pub padding : List ℕ → Mpeg2PictureHeader → ℕ
 padding s h = bitsAt s (pictureHeaderBits h) (8 * pictureHeaderBytes h - pictureHeaderBits h)
 
--- what the two headers tell; two zero bytes after the picture header: the extension's prefix lies there, with only zeros between
-unfoldable pub headersTell : PictureKind → RemovalInterval → List ℕ → Mpeg2PictureHeader → PictureCodingExtension → Bool
-headersTell k i s h x =
+-- what the two headers tell: repeat_first_field is 0, but for a film writer (request 05); two zero bytes after the picture header: the extension's prefix lies there, with only zeros between
+unfoldable pub headersTell : Bool → PictureKind → RemovalInterval → List ℕ → Mpeg2PictureHeader → PictureCodingExtension → Bool
+headersTell film k i s h x =
     sameKind k (h .«picture_coding_type»)
-    && (sameInterval i (intervalOf (isField (x .«picture_structure»)))
-    && (not (x .«repeat_first_field»)
+    && (agrees i (isField (x .«picture_structure»))
+    && ((film || not (x .«repeat_first_field»))
     && (flagClear (h .«full_pel_forward_vector»)
     && (codeSeven (h .«fwd_f_code»)
     && (flagClear (h .«full_pel_backward_vector»)
@@ -77,8 +78,8 @@ headersTell k i s h x =
     && leb 2 (leadingZeros (drop (pictureHeaderBytes h) s)))))))))
 
 -- both headers parse, and tell this
-unfoldable pub headerFits : PictureKind → RemovalInterval → List ℕ → Bool
-headerFits k i s = orElse false (andThen (picture s) (λ p. value (headersTell k i s (p .0) (p .1))))
+unfoldable pub headerFits : Bool → PictureKind → RemovalInterval → List ℕ → Bool
+headerFits film k i s = orElse false (andThen (picture s) (λ p. value (headersTell film k i s (p .0) (p .1))))
 
 -- at least one slice and only slices
 unfoldable pub slices : List Code → Bool
@@ -94,5 +95,9 @@ unfoldable pub layerCodes : List Code → Bool
 layerCodes [] = false
 layerCodes (c ∷ cs) = eqb (c .offset) 0 && (eqb (c .code) 0 && slices (skip isExtension cs))
 
-unfoldable pub layerFits : PictureKind → RemovalInterval → List ℕ → Bool
-layerFits k i s = headerFits k i s && (layerCodes (codes s) && not (endsPrefix s))
+unfoldable pub layerFits : Bool → PictureKind → RemovalInterval → List ℕ → Bool
+layerFits film k i s = headerFits film k i s && (layerCodes (codes s) && not (endsPrefix s))
+
+-- the facts that its headers tell; a B frame's, without flags, where they do not parse
+unfoldable pub factsIn : List ℕ → PictureFacts
+factsIn s = orElse (record { anchor = false; field = false; repeat = false; top = false }) (andThen (pictureTold s) (λ t. value (t .1)))

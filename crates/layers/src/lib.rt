@@ -9,7 +9,7 @@ ghost use Rattle.picture_header.specs.PictureHeader.{pictureHeader, pictureHead
 ghost use Rattle.scan.specs.Codes.{codes, codesAt, every, endsPrefix, found};
 ghost use Rattle.scan.specs.Pictures.{skip};
 ghost use Rattle.layers.specs.Headers.{opensHeaders, declares as declaresThem, sequenceFirst, sequenceFits, headersFit};
-ghost use Rattle.layers.specs.Layer.{sameKind, sameInterval, flagClear, codeSeven, padding, headerFits, slices, isExtension, layerCodes, layerFits};
+ghost use Rattle.layers.specs.Layer.{sameKind, agrees as agreesWith, flagClear, codeSeven, padding, headerFits, slices, isExtension, layerCodes, layerFits, factsIn};
 ghost use Rattle.layers.specs.Steps.{inSet};
 use bits::Bits;
 use bits::start_codes::EXTENSION_START_CODE;
@@ -22,7 +22,9 @@ use picture_header::Mpeg2PictureHeader;
 use picture_header::OptionCode;
 use picture_header::OptionFlag;
 use picture_header::PictureCodingType;
+use picture_header::PictureFacts;
 use picture_header::PictureRead;
+use picture_header::PictureTold;
 use pictures::Declared;
 use pictures::VbvStandard;
 use pictures::declared_by;
@@ -183,18 +185,16 @@ fn same_kind(kind: PictureKind, coded: PictureCodingType) -> bool
     }
 }
 
-fn same_interval(offered: RemovalInterval, coded: RemovalInterval) -> bool
-    ensures { λ r. ⌜ r ≡ sameInterval offered coded ⌝ }
+// Whether a picture's structure agrees with the offered interval.
+fn agrees(offered: RemovalInterval, field: bool) -> bool
+    ensures { λ r. ⌜ r ≡ agreesWith offered field ⌝ }
 {
     match offered {
-        RemovalInterval::Frame => match coded {
-            RemovalInterval::Frame => true,
-            RemovalInterval::Field => false,
-        },
-        RemovalInterval::Field => match coded {
-            RemovalInterval::Frame => false,
-            RemovalInterval::Field => true,
-        },
+        RemovalInterval::Frame => !field,
+        RemovalInterval::Field => field,
+        RemovalInterval::ThreeFields => false,
+        RemovalInterval::TwoFrames => false,
+        RemovalInterval::ThreeFrames => false,
     }
 }
 
@@ -268,8 +268,8 @@ fn vectors_fit(header: Mpeg2PictureHeader) -> bool
 }
 
 // What the picture header and its extension tell.
-fn header_fits(layer: &[u8], kind: PictureKind, interval: RemovalInterval) -> bool
-    ensures { λ r. ⌜ r ≡ headerFits kind interval (now (layer .entry)) ⌝ }
+fn header_fits(layer: &[u8], film: bool, kind: PictureKind, interval: RemovalInterval) -> bool
+    ensures { λ r. ⌜ r ≡ headerFits film kind interval (now (layer .entry)) ⌝ }
 {
     match Mpeg2PictureHeader::parse_with_extension(layer) {
         PictureRead::Refused(_) => false,
@@ -277,8 +277,8 @@ fn header_fits(layer: &[u8], kind: PictureKind, interval: RemovalInterval) -> bo
             let coded = header.picture_coding_type;
             let structure = extension.picture_structure;
             same_kind(kind, coded)
-                & (same_interval(interval, vbv::interval(picture_header::is_field(structure)))
-                    & (!extension.repeat_first_field
+                & (agrees(interval, picture_header::is_field(structure))
+                    & ((film | !extension.repeat_first_field)
                         & (vectors_fit(header)
                             & (padding_clear(layer, header) & zeros_after(layer, header)))))
         }
@@ -309,9 +309,24 @@ fn layer_codes(layer: &[u8]) -> bool
     }
 }
 
-// Whether the layer of a picture of this kind and interval fits.
-pub fn layer_fits(layer: &[u8], kind: PictureKind, interval: RemovalInterval) -> bool
-    ensures { λ r. ⌜ r ≡ layerFits kind interval (now (layer .entry)) ⌝ }
+// Whether the layer of a picture of this kind and interval fits; a film writer takes repeat_first_field.
+pub fn layer_fits(layer: &[u8], film: bool, kind: PictureKind, interval: RemovalInterval) -> bool
+    ensures { λ r. ⌜ r ≡ layerFits film kind interval (now (layer .entry)) ⌝ }
 {
-    header_fits(layer, kind, interval) & (layer_codes(layer) & !ends_prefix(layer))
+    header_fits(layer, film, kind, interval) & (layer_codes(layer) & !ends_prefix(layer))
+}
+
+// The facts that a layer's headers tell; a B frame's, without flags, where they are refused.
+pub fn layer_facts(layer: &[u8]) -> PictureFacts
+    ensures { λ r. ⌜ r ≡ factsIn (now (layer .entry)) ⌝ }
+{
+    match picture_header::told_with_extension(layer) {
+        PictureTold::Told(_, facts) => facts,
+        PictureTold::Refused(_) => PictureFacts {
+            anchor: false,
+            field: false,
+            repeat: false,
+            top: false,
+        },
+    }
 }

@@ -3,20 +3,21 @@
 use Prim.Native.Nat.{ℕ}
 use mathlib.Core.List.{List}
 use mathlib.Core.Bool.{Bool}
-use lib.Dec.{eqb}
 use Rattle.rate_control.specs.declared.CbrConfig.{CbrConfig}
 use Rattle.words.specs.Words.{wordAt}
+use Rattle.layout.specs.Mode.{isMode, modeFor}
 
 -- nine words of 8 bytes
 abbrev pub configSize : ℕ
 configSize = 72
 
--- the mode: 2 is MPEG-2, and there is no other yet
+-- its mode is one (which of them are written, creation says)
 unfoldable pub modeFits : List ℕ → Bool
-modeFits s = eqb (wordAt s 0) 2
+modeFits s = isMode (wordAt s 0)
 
 unfoldable pub configIn : List ℕ → CbrConfig
 configIn s = record {
+  mode = modeFor (wordAt s 0);
   «bit_rate_value» = wordAt s 1;
   «vbv_buffer_size_value» = wordAt s 2;
   «frame_rate_code» = wordAt s 3;

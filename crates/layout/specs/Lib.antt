@@ -1,3 +1,4 @@
+pub mod Mode
 pub mod State
 pub mod Config
 pub mod Answers

@@ -3,23 +3,28 @@
 -- Assumes nothing.
 use Prim.Native.Nat.{ℕ, _+_}
 use mathlib.Core.List.{List, [], _∷_, _++_}
-use mathlib.Core.Bool.{Bool, true, false, _&&_}
+use mathlib.Core.Bool.{Bool, true, false, _&&_, _||_}
 use lib.Dec.{leb, eqb}
 use lib.ListN.{length}
 use Rattle.bits.specs.Bits.{pick}
 use Rattle.headers.specs.Answers.{flagOf}
 use Rattle.layers.specs.declared.PictureKind.the-variants.{I, P, B}
+use Rattle.cadence.specs.declared.OpenField.{OpenField}
+use Rattle.cadence.specs.declared.OpenField.the-variants.{Closed, LedByAnchor, LedByOther}
+use Rattle.cadence.specs.declared.VbvCadence.{VbvCadence}
+use Rattle.pictures.specs.declared.VbvStandard.the-variants.{Mpeg2}
 use Rattle.rate_control.specs.Create.{noWriter}
 use Rattle.rate_control.specs.Writer.{index, writerFits}
 use Rattle.rate_control.specs.declared.Pending.{Pending}
 use Rattle.rate_control.specs.declared.Pending.the-variants.{Nothing, Waits}
 use Rattle.rate_control.specs.declared.CbrWriter.{CbrWriter}
 use Rattle.words.specs.Words.{wordsBytes, wordAt}
+use Rattle.layout.specs.Mode.{modeNumber}
 use Rattle.layout.specs.declared.CbrState.{CbrState}
 
--- nineteen words of 8 bytes
+-- twenty-five words of 8 bytes
 abbrev pub stateSize : ℕ
-stateSize = 152
+stateSize = 200
 
 -- ---- written
 
@@ -33,6 +38,23 @@ unfoldable pub pendingQuantiser : Pending → ℕ
 pendingQuantiser Nothing = 0
 pendingQuantiser (Waits k q) = q
 
+-- the open field: 0 none, 1 led by I or P, 2 led by B
+unfoldable pub openCode : OpenField → ℕ
+openCode Closed = 0
+openCode LedByAnchor = 1
+openCode LedByOther = 2
+
+-- mode, progressive_sequence, low_delay, the previous anchor's repeat_first_field and top_field_first, the open field
+unfoldable pub cadenceWords : VbvCadence → List ℕ
+cadenceWords k =
+    modeNumber (record { standard = Mpeg2; film = k .film })
+    ∷ flagOf (k .progressive)
+    ∷ flagOf (k .«low_delay»)
+    ∷ flagOf (k .repeat)
+    ∷ flagOf (k .top)
+    ∷ openCode (k .waiting)
+    ∷ []
+
 unfoldable pub stateWords : CbrWriter → List ℕ
 stateWords w =
     w .model .params .«bit_rate»
@@ -45,7 +67,7 @@ stateWords w =
     ∷ w .model .removed
     ∷ flagOf (w .model .started)
     ∷ (w .«target_bits»
-    ++ (w .q ++ (pendingCode (w .pending) ∷ pendingQuantiser (w .pending) ∷ w .«stuffing_bytes» ∷ flagOf (w .finished) ∷ [])))
+    ++ (w .q ++ (pendingCode (w .pending) ∷ pendingQuantiser (w .pending) ∷ w .«stuffing_bytes» ∷ flagOf (w .finished) ∷ cadenceWords (w .cadence))))
 
 unfoldable pub stateBytes : CbrWriter → List ℕ
 stateBytes w = wordsBytes (stateWords w)
@@ -59,13 +81,37 @@ pendingOf code q =
     (pick (eqb code 2) (Waits P q)
     (Waits B q)))
 
--- the values that have no range in a writer: two flags, the pending code, and no quantiser where none is pending
+unfoldable pub openOf : ℕ → OpenField
+openOf code = pick (eqb code 0) Closed (pick (eqb code 1) LedByAnchor LedByOther)
+
+-- the mode of a writer, flags, an open field
+unfoldable pub cadenceCodesFit : List ℕ → Bool
+cadenceCodesFit s =
+    (eqb (wordAt s 19) 2 || eqb (wordAt s 19) 6)
+    && (leb (wordAt s 20) 1
+    && (leb (wordAt s 21) 1
+    && (leb (wordAt s 22) 1
+    && (leb (wordAt s 23) 1
+    && leb (wordAt s 24) 2))))
+
+-- the values that have no range in a writer: two flags, the pending code, and no quantiser where none is pending; and those of the cadence
 unfoldable pub codesFit : List ℕ → Bool
 codesFit s =
     leb (wordAt s 8) 1
     && (leb (wordAt s 15) 3
     && (pick (eqb (wordAt s 15) 0) (eqb (wordAt s 16) 0) true
-    && leb (wordAt s 18) 1))
+    && (leb (wordAt s 18) 1
+    && cadenceCodesFit s)))
+
+unfoldable pub cadenceIn : List ℕ → VbvCadence
+cadenceIn s = record {
+  film = eqb (wordAt s 19) 6;
+  progressive = eqb (wordAt s 20) 1;
+  «low_delay» = eqb (wordAt s 21) 1;
+  repeat = eqb (wordAt s 22) 1;
+  top = eqb (wordAt s 23) 1;
+  waiting = openOf (wordAt s 24);
+}
 
 unfoldable pub writerAt : List ℕ → CbrWriter
 writerAt s = record {
@@ -89,6 +135,7 @@ writerAt s = record {
   pending = pendingOf (wordAt s 15) (wordAt s 16);
   «stuffing_bytes» = wordAt s 17;
   finished = eqb (wordAt s 18) 1;
+  cadence = cadenceIn s;
 }
 
 unfoldable pub stateFits : List ℕ → Bool

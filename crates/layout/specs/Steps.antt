@@ -29,6 +29,7 @@ orOutside most outside v = pick (leb v most) v outside
 -- a configuration whose fields have few bits: for a value above its range one that is out of it too, and for a rate code above 8 the code 0, which is none either
 unfoldable pub narrowed : CbrConfig → CbrConfig
 narrowed c = record {
+  mode = c .mode;
   «bit_rate_value» = orOutside 262143 0 (c .«bit_rate_value»);
   «vbv_buffer_size_value» = orOutside 1023 0 (c .«vbv_buffer_size_value»);
   «frame_rate_code» = orOutside 8 0 (c .«frame_rate_code»);

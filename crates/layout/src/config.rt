@@ -5,6 +5,7 @@ ghost use Rattle.rate_control.specs.Answers.{createdAnswer};
 ghost use Rattle.rate_control.specs.Create.{create, noWriter};
 ghost use Rattle.layout.specs.Config.{configIn};
 ghost use Rattle.layout.specs.Steps.{orOutside, narrowed};
+use crate::mode::mode_for;
 use rate_control::CbrConfig;
 use rate_control::CbrCreated;
 use rate_control::CbrWriter;
@@ -17,11 +18,12 @@ fn or_outside(most: u64, outside: u64, value: u64) -> u64
     if value <= most { value } else { outside }
 }
 
-// The words from 1 on, in fields of few bits: no word that is out of its range comes into it.
+// The words of a configuration, in fields of few bits: no word that is out of its range comes into it.
 fn config_at(place: &[u8]) -> CbrConfig
     ensures { λ r. ⌜ r ≡ narrowed (configIn (now (place .entry))) ⌝ }
 {
     CbrConfig {
+        mode: mode_for(word_at(place, 0)),
         bit_rate_value: or_outside(262143, 0, word_at(place, 1)) as u32,
         vbv_buffer_size_value: or_outside(1023, 0, word_at(place, 2)) as u16,
         frame_rate_code: or_outside(8, 0, word_at(place, 3)) as u8,
@@ -33,7 +35,7 @@ fn config_at(place: &[u8]) -> CbrConfig
     }
 }
 
-// The writer of a configuration's words from 1 on, as creation answers to their values.
+// The writer of a configuration's words, as creation answers to their values.
 pub fn create_from(place: &[u8]) -> CbrCreated
     ensures { λ r. ⌜ createdAnswer r ≡ create (configIn (now (place .entry))) ⌝ }
     ensures { λ r. ⌜ r .writer ≡ orElse noWriter (create (configIn (now (place .entry)))) ⌝ }

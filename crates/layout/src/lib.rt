@@ -1,4 +1,5 @@
 // Report, refusal, answer, a configuration and a writer's state as bytes, laid out as docs/LAYOUT.md says.
+mod mode; // the numbers of the modes
 mod config; // a configuration
 mod state; // a writer's state
 mod answers; // report, refusal and answer
@@ -8,6 +9,8 @@ pub use crate::answers::put_refusal;
 pub use crate::answers::put_refused;
 pub use crate::answers::put_report;
 pub use crate::config::create_from;
+pub use crate::mode::is_mode;
+pub use crate::mode::mode_for;
 pub use crate::state::put_state;
 pub use crate::state::read_state;
 use rate_control::CbrWriter;
@@ -21,10 +24,7 @@ pub const ANSWER_BYTES: usize = 72;
 
 pub const CONFIG_BYTES: usize = 72;
 
-pub const STATE_BYTES: usize = 152;
-
-// The mode MPEG-2 in a configuration.
-pub const MPEG2: u64 = 2;
+pub const STATE_BYTES: usize = 200;
 
 // Whether a place holds a writer, and the writer.
 pub struct CbrState {

@@ -4,10 +4,16 @@ ghost use mathlib.Core.Bool.{false};
 ghost use Rattle.headers.specs.Answers.{flagOf};
 ghost use Rattle.rate_control.specs.Create.{noWriter};
 ghost use Rattle.words.specs.Words.{laid};
-ghost use Rattle.layout.specs.State.{pendingCode, pendingQuantiser, pendingOf, writerAt, stateBytes, stateAt};
+ghost use Rattle.pictures.specs.declared.VbvStandard.the-variants.{Mpeg2};
+ghost use Rattle.layout.specs.Mode.{modeNumber};
+ghost use Rattle.layout.specs.State.{pendingCode, pendingQuantiser, openCode, pendingOf, openOf, cadenceCodesFit, cadenceIn, writerAt, stateBytes, stateAt};
 ghost use Rattle.layout.specs.Steps.{Narrow, narrow};
 use crate::CbrState;
 use crate::STATE_BYTES;
+use crate::mode::MPEG2;
+use crate::mode::MPEG2_FILM;
+use cadence::OpenField;
+use cadence::VbvCadence;
 use layers::PictureKind;
 use rate_control::CbrWriter;
 use rate_control::Pending;
@@ -46,6 +52,24 @@ fn pending_quantiser(pending: Pending) -> u64
     }
 }
 
+// 0 where no field is open, 1 led by I or P, 2 by B.
+fn open_code(waiting: OpenField) -> u64
+    ensures { λ r. ⌜ r ≡ openCode waiting ⌝ }
+{
+    match waiting {
+        OpenField::Closed => 0,
+        OpenField::LedByAnchor => 1,
+        OpenField::LedByOther => 2,
+    }
+}
+
+// The mode of a writer.
+fn mode_word(film: bool) -> u64
+    ensures { λ r. ⌜ r ≡ modeNumber (record { standard = Mpeg2; film = film }) ⌝ }
+{
+    if film { MPEG2_FILM } else { MPEG2 }
+}
+
 // A writer's state over the first bytes of a place; a place that is too short is left alone.
 pub fn put_state(place: &mut [u8], writer: CbrWriter)
     ensures { λ r. ⌜ now (place .exit) ≡ laid (stateBytes writer) (now (place .entry)) ⌝ }
@@ -55,6 +79,8 @@ pub fn put_state(place: &mut [u8], writer: CbrWriter)
     let target_bits = writer.target_bits;
     let q = writer.q;
     let pending = writer.pending;
+    let cadence = writer.cadence;
+    let waiting = cadence.waiting;
     let words = [
         params.bit_rate,
         params.buffer_size_bits,
@@ -75,6 +101,12 @@ pub fn put_state(place: &mut [u8], writer: CbrWriter)
         pending_quantiser(pending),
         writer.stuffing_bytes,
         flag(writer.finished),
+        mode_word(cadence.film),
+        flag(cadence.progressive),
+        flag(cadence.low_delay),
+        flag(cadence.repeat),
+        flag(cadence.top),
+        open_code(waiting),
     ];
     put_words(place, &words);
 }
@@ -98,6 +130,18 @@ fn model_at(place: &[u8]) -> VbvCbrModel
     }
 }
 
+// The words of the cadence: a writer's mode, flags, an open field.
+fn cadence_fits(place: &[u8]) -> bool
+    ensures { λ r. ⌜ r ≡ cadenceCodesFit (now (place .entry)) ⌝ }
+{
+    let mode = word_at(place, 19);
+    ((mode == MPEG2) | (mode == MPEG2_FILM))
+        & ((word_at(place, 20) <= 1)
+            & ((word_at(place, 21) <= 1)
+                & ((word_at(place, 22) <= 1)
+                    & ((word_at(place, 23) <= 1) & (word_at(place, 24) <= 2)))))
+}
+
 // The words that a writer has in fewer bits: flags, the pending picture, quantisers up to 31.
 fn narrow(place: &[u8]) -> bool
     ensures { λ r. ⌜ r ≡ narrow (now (place .entry)) ⌝ }
@@ -105,7 +149,9 @@ fn narrow(place: &[u8]) -> bool
     let code = word_at(place, 15);
     let q = word_at(place, 16);
     let told = (code != 0) | (q == 0);
-    let codes = (word_at(place, 8) <= 1) & ((code <= 3) & (told & (word_at(place, 18) <= 1)));
+    let finished = word_at(place, 18) <= 1;
+    let codes = (word_at(place, 8) <= 1)
+        & ((code <= 3) & (told & (finished & cadence_fits(place))));
     let kinds = (word_at(place, 12) <= 31)
         & ((word_at(place, 13) <= 31) & (word_at(place, 14) <= 31));
     codes & (kinds & (q <= 31))
@@ -119,6 +165,29 @@ fn pending_at(code: u64, q: u8) -> Pending
         1 => Pending::Waits(PictureKind::I, q),
         2 => Pending::Waits(PictureKind::P, q),
         _ => Pending::Waits(PictureKind::B, q),
+    }
+}
+
+fn open_at(code: u64) -> OpenField
+    ensures { λ r. ⌜ r ≡ openOf code ⌝ }
+{
+    match code {
+        0 => OpenField::Closed,
+        1 => OpenField::LedByAnchor,
+        _ => OpenField::LedByOther,
+    }
+}
+
+fn cadence_at(place: &[u8]) -> VbvCadence
+    ensures { λ r. ⌜ r ≡ cadenceIn (now (place .entry)) ⌝ }
+{
+    VbvCadence {
+        film: word_at(place, 19) == MPEG2_FILM,
+        progressive: word_at(place, 20) == 1,
+        low_delay: word_at(place, 21) == 1,
+        repeat: word_at(place, 22) == 1,
+        top: word_at(place, 23) == 1,
+        waiting: open_at(word_at(place, 24)),
     }
 }
 
@@ -139,6 +208,7 @@ fn writer_at(place: &[u8]) -> CbrWriter
         pending: pending_at(word_at(place, 15), waits),
         stuffing_bytes: word_at(place, 17),
         finished: word_at(place, 18) == 1,
+        cadence: cadence_at(place),
     }
 }
 

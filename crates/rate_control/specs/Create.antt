@@ -1,8 +1,8 @@
--- Creation of a writer (paper 01, 'A placed picture'; request 02): 12 for a range, 6 for the rate code, 12 for the ratio.
+-- Creation of a writer (paper 01, 'A placed picture'; requests 02 and 05): 12 for a mode or a range, 6 for the rate code, 12 for the ratio.
 -- Assumes nothing.
 use Prim.Native.Nat.{ℕ}
 use mathlib.Core.List.{[], _∷_}
-use mathlib.Core.Bool.{Bool, false, not, _&&_}
+use mathlib.Core.Bool.{Bool, true, false, not, _&&_}
 use lib.Dec.{leb}
 use Rattle.bits.specs.Refusals.{Answer, value, refuse, andThen}
 use Rattle.vbv.specs.Params.{paramsOf}
@@ -10,6 +10,9 @@ use Rattle.vbv.specs.Answers.{frameRate}
 use Rattle.vbv.specs.Model.{newModel}
 use Rattle.vbv.specs.declared.VbvParams.{VbvParams}
 use Rattle.vbv.specs.declared.VbvCbrModel.{VbvCbrModel}
+use Rattle.cadence.specs.Cadence.{opened}
+use Rattle.pictures.specs.declared.VbvStandard.{VbvStandard}
+use Rattle.pictures.specs.declared.VbvStandard.the-variants.{Mpeg1, Mpeg2}
 use Rattle.rate_control.specs.Targets.{targets}
 use Rattle.rate_control.specs.declared.CbrConfig.{CbrConfig}
 use Rattle.rate_control.specs.declared.Pending.the-variants.{Nothing}
@@ -19,14 +22,20 @@ use Rattle.rate_control.specs.declared.CbrWriter.{CbrWriter}
 unfoldable pub within : ℕ → ℕ → ℕ → Bool
 within low high v = leb low v && leb v high
 
+-- a writer writes MPEG-2, plain or film
+unfoldable pub isWritten : VbvStandard → Bool
+isWritten Mpeg1 = false
+isWritten Mpeg2 = true
+
 unfoldable pub configFits : CbrConfig → Bool
 configFits c =
-    within 1 262143 (c .«bit_rate_value»)
+    isWritten (c .mode .standard)
+    && (within 1 262143 (c .«bit_rate_value»)
     && (within 1 1023 (c .«vbv_buffer_size_value»)
     && (within 0 3 (c .«frame_rate_extension_n»)
     && (within 0 31 (c .«frame_rate_extension_d»)
     && (within 1 31 (c .«initial_quantiser_scale_code»)
-    && (within 0 15 (c .«b_between») && within 1 255 (c .«anchors_per_gop»))))))
+    && (within 0 15 (c .«b_between») && within 1 255 (c .«anchors_per_gop»)))))))
 
 -- R and B by the fields, with the frame rate f
 abbrev pub writerParams : CbrConfig → ℕ × ℕ → VbvParams
@@ -41,6 +50,7 @@ freshWriter c m = record {
   pending = Nothing;
   «stuffing_bytes» = 0;
   finished = false;
+  cadence = opened (c .mode .film) false false;
 }
 
 unfoldable pub create : CbrConfig → Answer CbrWriter
@@ -59,4 +69,5 @@ noWriter = record {
   pending = Nothing;
   «stuffing_bytes» = 0;
   finished = false;
+  cadence = opened false false false;
 }

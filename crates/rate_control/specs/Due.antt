@@ -1,5 +1,5 @@
 -- Which answer is due to creation and to each offer (paper 01, 'A placed picture'), by conditions in ≤ and <, from creation, the calls and their answers: not from the writer's state,
--- nor from the tests, positions, stuffing or bytes of `offer`. The fit tests, `firstDelay`, `endCode`, `patched`, `coarser`, `steered`, `pendingOr`, `of`, `index`, `frameRate`, `writerParams`, `targets`, `periods` and
+-- nor from the tests, positions, stuffing or bytes of `offer`. The fit tests, `firstDelay`, `endCode`, `patched`, `coarser`, `steered`, `pendingOr`, `of`, `index`, `frameRate`, `writerParams`, `targets`, `periods`, `cadenceBy`, `factsIn`, `interval`, `after` and
 -- Annex C are the ones that `create` and `offer` compute with: they are to be read against the papers themselves. Assumes nothing.
 use Prim.Native.Nat.{ℕ, suc, _+_, _*_, _/_, _%_, _≤_, _<_}
 use mathlib.Core.Path.{_≡_}
@@ -16,7 +16,12 @@ use Rattle.vbv.specs.Patch.{patched}
 use Rattle.vbv.specs.Answers.{frameRate}
 use Rattle.vbv.specs.declared.VbvParams.{VbvParams}
 use Rattle.layers.specs.Headers.{headersFit}
-use Rattle.layers.specs.Layer.{layerFits}
+use Rattle.layers.specs.Layer.{layerFits, factsIn}
+use Rattle.cadence.specs.Cadence.{opened, interval, after}
+use Rattle.cadence.specs.declared.VbvCadence.{VbvCadence}
+use Rattle.pictures.specs.Cadence.{cadenceBy}
+use Rattle.pictures.specs.declared.VbvStandard.the-variants.{Mpeg2}
+use Rattle.vbv.specs.declared.RemovalInterval.{RemovalInterval}
 use Rattle.layers.specs.declared.PictureKind.{PictureKind}
 use Rattle.rate_control.specs.Answers.{Given, placed, again}
 use Rattle.rate_control.specs.Targets.{targets}
@@ -32,7 +37,7 @@ use Rattle.rate_control.specs.declared.CbrWriter.{CbrWriter}
 -- ---- what is known between two calls
 
 -- bytes handed out, the zeros among them, pictures placed, units delivered at the next removal (unread until a picture is placed), the quantisers of I, P and B, the picture to be
--- offered again, and whether the last picture is placed
+-- offered again, whether the last picture is placed, and the cadence (its flags unread until a picture is placed)
 pub record Known : Type 0 where
   pub bytes : ℕ
   pub stuffing : ℕ
@@ -41,6 +46,7 @@ pub record Known : Type 0 where
   pub q : List ℕ
   pub pending : Pending
   pub finished : Bool
+  pub cadence : VbvCadence
 
 -- after creation
 abbrev pub atFirst : CbrConfig → Known
@@ -52,6 +58,7 @@ atFirst c = record {
   q = c .«initial_quantiser_scale_code» ∷ c .«initial_quantiser_scale_code» ∷ c .«initial_quantiser_scale_code» ∷ [];
   pending = Nothing;
   finished = false;
+  cadence = opened (c .mode .film) false false;
 }
 
 abbrev pub anyPlaced : Known → Bool
@@ -60,6 +67,13 @@ anyPlaced x = ltb 0 (x .pictures)
 -- units delivered at this picture's removal: until a picture is placed, from the offer's own headers and the first delay
 abbrev pub deliveredFor : VbvParams → Known → Offer → ℕ
 deliveredFor p x o = pick (anyPlaced x) (x .delivered) (firstDelivered p (positionOf (x .bytes) o) (firstDelay p))
+
+-- how long it lasts: until a picture is placed, by the cadence that the offer's own headers open (request 05)
+abbrev pub cadenceFor : Known → Offer → VbvCadence
+cadenceFor x o = pick (anyPlaced x) (x .cadence) (cadenceBy (x .cadence .film) (o .headers))
+
+abbrev pub lastsIn : Known → Offer → RemovalInterval
+lastsIn x o = interval (cadenceFor x o) (factsIn (o .layer))
 
 -- the quantiser that its layer was to be encoded with
 abbrev pub askedFor : Known → Offer → ℕ
@@ -74,6 +88,7 @@ pendingNow x y = record {
   q = x .q;
   pending = y;
   finished = x .finished;
+  cadence = x .cadence;
 }
 
 -- after an offer's answer, the targets being t: of a refusal only 21 changes anything
@@ -82,10 +97,11 @@ knownAfterOffer p t x o (value (placed q delay bytes stuffing)) = record {
   bytes = x .bytes + bytes;
   stuffing = x .stuffing + stuffing;
   pictures = suc (x .pictures);
-  delivered = deliveredFor p x o + gain p (periods (o .interval));
+  delivered = deliveredFor p x o + gain p (periods (lastsIn x o));
   q = set (x .q) (index (o .kind)) (steered q (of (o .kind) t) (8 * length (o .layer)));
   pending = Nothing;
   finished = o .last;
+  cadence = after (cadenceFor x o) (factsIn (o .layer));
 }
 knownAfterOffer p t x o (value (again q)) = pendingNow x (Waits (o .kind) q)
 knownAfterOffer p t x o (refused n picture coded expected) = pick (eqb n 21) (pendingNow x Nothing) x
@@ -116,6 +132,7 @@ holding p t x = record {
   pending = x .pending;
   «stuffing_bytes» = x .stuffing;
   finished = x .finished;
+  cadence = x .cadence;
 }
 
 -- ---- the tests, in paper 01's order
@@ -129,12 +146,12 @@ pub data OutOfTurn (x : Known) (o : Offer) : Type 0 where
 pub record Fitting (p : VbvParams) (x : Known) (o : Offer) : Type 0 where
   pub in-turn : OutOfTurn x o → ⊥
   pub headers-fit : headersFit p (anyPlaced x) (o .headers) ≡ true
-  pub layer-fits : layerFits (o .kind) (o .interval) (o .layer) ≡ true
+  pub layer-fits : layerFits (x .cadence .film) (o .kind) (o .interval) (o .layer) ≡ true
 
 -- passed: 17, 18, 20, 14; z is the zero bytes due
 pub record Near (p : VbvParams) (x : Known) (o : Offer) (z : ℕ) : Type 0 where
   pub fitting : Fitting p x o
-  pub stuffs : Stuffs p (x .bytes) (deliveredFor p x o) o z
+  pub stuffs : Stuffs p (x .bytes) (deliveredFor p x o) (lastsIn x o) o z
   pub position-near : positionOf (x .bytes) o ≤ farthest
   pub end-near : contentOf (x .bytes) o + 8 * z ≤ farthest
 
@@ -162,9 +179,9 @@ pub data Due (p : VbvParams) (x : Known) (o : Offer) : Answer Given → Type 0 w
   out-of-turn : OutOfTurn x o → Due p x o (refused 17 0 0 0)
   bad-headers : (OutOfTurn x o → ⊥) → headersFit p (anyPlaced x) (o .headers) ≡ false → Due p x o (refused 18 0 0 0)
   bad-layer : (OutOfTurn x o → ⊥) → headersFit p (anyPlaced x) (o .headers) ≡ true
-      → layerFits (o .kind) (o .interval) (o .layer) ≡ false → Due p x o (refused 20 0 0 0)
+      → layerFits (x .cadence .film) (o .kind) (o .interval) (o .layer) ≡ false → Due p x o (refused 20 0 0 0)
   far-position : Fitting p x o → farthest < positionOf (x .bytes) o → Due p x o (refused 14 0 0 0)
-  far-end : {z : ℕ} → Fitting p x o → Stuffs p (x .bytes) (deliveredFor p x o) o z → farthest < contentOf (x .bytes) o + 8 * z
+  far-end : {z : ℕ} → Fitting p x o → Stuffs p (x .bytes) (deliveredFor p x o) (lastsIn x o) o z → farthest < contentOf (x .bytes) o + 8 * z
       → Due p x o (refused 14 0 0 0)
   -- the last condition of these two is added: it always holds where they arise, for before a placing the position is always delivered, and after one the stuffing keeps overflow away.
   -- So a 9 names picture 0, and no delay, since none was coded (docs/DECISIONS.md 40)
@@ -193,8 +210,9 @@ PartHolds o (refused n picture coded expected) out = out ≡ o .out
 
 -- ---- creation's answer
 
--- each field in the range of paper 01 or request 02, the rate code apart
+-- each field in the range of paper 01 or request 02, the rate code apart; of the modes MPEG-2's are written (request 05)
 pub record Ranges (c : CbrConfig) : Type 0 where
+  pub mode-written : c .mode .standard ≡ Mpeg2
   pub rate-low : 1 ≤ c .«bit_rate_value»
   pub rate-high : c .«bit_rate_value» ≤ 262143
   pub buffer-low : 1 ≤ c .«vbv_buffer_size_value»

@@ -1,4 +1,4 @@
--- An offer and a withdrawal (paper 01, 'A placed picture'): in this order 12 for the state, then 17, 18, 20, 14, 7, 9, size, 22, 19; else the picture is placed.
+-- An offer and a withdrawal (paper 01, 'A placed picture'; paper 02, request 05): in this order 12 for the state, then 17, 18, 20, 14, 7, 9, size, 22, 19; else the picture is placed.
 -- Assumes nothing.
 use Prim.Native.Nat.{ℕ, _+_, _-_, _*_, _/_}
 use mathlib.Core.List.{List, [], _++_}
@@ -16,14 +16,17 @@ use Rattle.vbv.specs.declared.VbvParams.{VbvParams}
 use Rattle.scan.specs.Codes.{sequenceEnd}
 use Rattle.layers.specs.declared.PictureKind.{PictureKind}
 use Rattle.layers.specs.Headers.{headersFit}
-use Rattle.layers.specs.Layer.{layerFits}
+use Rattle.layers.specs.Layer.{layerFits, factsIn}
+use Rattle.cadence.specs.Cadence.{interval, after}
+use Rattle.cadence.specs.declared.VbvCadence.{VbvCadence}
+use Rattle.pictures.specs.Cadence.{cadenceBy}
 use Rattle.rate_control.specs.Answers.{Given, placed, again}
 use Rattle.rate_control.specs.Writer.{writerFits, index, of, clashes, asked, coarser, steered}
 use Rattle.rate_control.specs.declared.Pending.{Pending}
 use Rattle.rate_control.specs.declared.Pending.the-variants.{Nothing, Waits}
 use Rattle.rate_control.specs.declared.CbrWriter.{CbrWriter}
 
--- headers, kind, interval up to the next removal, last flag, one layer and an output part
+-- headers, kind, interval (frame or field), last flag, one layer and an output part
 pub record Offer : Type 0 where
   pub headers : List ℕ
   pub kind : PictureKind
@@ -57,9 +60,17 @@ unfolding position
 deliveredAt w o =
     pick (w .model .started) (delivered (w .model)) (firstDelivered (w .model .params) (position w o) (firstDelay (w .model .params)))
 
+-- how long the picture lasts, by the cadence before it: until a picture is placed the one that the offer's own headers open
+unfoldable pub cadenceAt : CbrWriter → List ℕ → VbvCadence
+cadenceAt w headers = pick (w .model .started) (w .cadence) (cadenceBy (w .cadence .film) headers)
+
+unfoldable pub intervalAt : CbrWriter → Offer → RemovalInterval
+unfolding cadenceAt
+intervalAt w o = interval (cadenceAt w (o .headers)) (factsIn (o .layer))
+
 unfoldable pub deliveredNext : CbrWriter → Offer → ℕ
-unfolding deliveredAt
-deliveredNext w o = deliveredAt w o + gain (w .model .params) (periods (o .interval))
+unfolding deliveredAt intervalAt
+deliveredNext w o = deliveredAt w o + gain (w .model .params) (periods (intervalAt w o))
 
 -- zero bytes to the least byte edge at which the next removal does not overflow; none after the last
 unfoldable pub stuffing : CbrWriter → Offer → ℕ
@@ -91,7 +102,7 @@ offer w o =
     refuse 12 (not (writerFits w))
     (refuse 17 (w .finished || clashes (w .pending) (o .kind))
     (refuse 18 (not (headersFit (w .model .params) (w .model .started) (o .headers)))
-    (refuse 20 (not (layerFits (o .kind) (o .interval) (o .layer)))
+    (refuse 20 (not (layerFits (w .cadence .film) (o .kind) (o .interval) (o .layer)))
     (refuse 14 (ltb farthest (position w o) || ltb farthest (end w o))
     (refuse 7 (beyond (w .model .params) (position w o) (deliveredAt w o))
     (violate 9 (w .model .removed) 0 0 (overflows (w .model .params) (w .model .«prev_end_bits») (deliveredAt w o))
@@ -108,9 +119,10 @@ withPending w x = record {
   pending = x;
   «stuffing_bytes» = w .«stuffing_bytes»;
   finished = w .finished;
+  cadence = w .cadence;
 }
 
--- the writer that a placing leaves: the next removal's bits are delivered, the kind's quantiser is steered, nothing is pending
+-- the writer that a placing leaves: the next removal's bits are delivered, the kind's quantiser is steered, nothing is pending, the cadence has moved on
 unfoldable pub withPlaced : CbrWriter → Offer → CbrWriter
 withPlaced w o = record {
   model = afterRemoval (w .model) (end w o) (deliveredNext w o);
@@ -119,6 +131,7 @@ withPlaced w o = record {
   pending = Nothing;
   «stuffing_bytes» = w .«stuffing_bytes» + stuffing w o;
   finished = o .last;
+  cadence = after (cadenceAt w (o .headers)) (factsIn (o .layer));
 }
 
 -- the writer that an answer leaves: a refusal changes nothing, 21 excepted, which closes the pending picture

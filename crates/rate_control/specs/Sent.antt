@@ -1,9 +1,9 @@
 -- The pictures that a list of calls placed, as bytes, and what the receiver and the check make of them. All is taken from the calls and their answers, by Annex C's own formula
--- and not by the writer's state. Assumes nothing.
+-- and not by the writer's state; so is how long each picture lasts: by the cadence that the first placed headers open, and the pictures placed (request 05). Assumes nothing.
 use Prim.Native.Nat.{ℕ, _+_, _*_, _≤_}
 use mathlib.Core.Path.{_≡_}
 use mathlib.Core.List.{List, [], _∷_, _++_}
-use mathlib.Core.Bool.{true, false}
+use mathlib.Core.Bool.{Bool, true, false}
 use mathlib.Core.Logic.{_↔_}
 use lib.ListN.{length, take, replicate}
 use Rattle.bits.specs.Refusals.{Answer, value, refused}
@@ -11,10 +11,17 @@ use Rattle.vbv.specs.Annex.{unit, firstDelivered, gain, expectedDelay, occupanc
 use Rattle.vbv.specs.Model.{periods}
 use Rattle.vbv.specs.Params.{sameParams}
 use Rattle.vbv.specs.Patch.{patched}
+use Rattle.vbv.specs.declared.RemovalInterval.{RemovalInterval}
 use Rattle.vbv.specs.declared.VbvParams.{VbvParams}
+use Rattle.cadence.specs.Cadence.{interval, after}
+use Rattle.cadence.specs.declared.VbvCadence.{VbvCadence}
+use Rattle.picture_header.specs.declared.PictureFacts.{PictureFacts}
 use Rattle.verify.specs.Check.{Accepted, accepted, verdict, reported, records}
+use Rattle.layers.specs.Layer.{factsIn}
+use Rattle.pictures.specs.Cadence.{cadenceBy}
 use Rattle.pictures.specs.Sequence.{declaredBy}
 use Rattle.pictures.specs.declared.VbvStandard.the-variants.{Mpeg2}
+use Rattle.verify.specs.declared.VbvMode.{VbvMode}
 use Rattle.verify.specs.declared.VbvPictureRecord.{VbvPictureRecord}
 use Rattle.rate_control.specs.Answers.{Given, placed, again}
 use Rattle.rate_control.specs.Offer.{Offer, endCode}
@@ -30,10 +37,10 @@ positionOf n o = 8 * (n + length (o .headers) + 4)
 unfoldable pub contentOf : ℕ → Offer → ℕ
 contentOf n o = 8 * (n + length (o .headers) + length (o .layer) + length (endCode (o .last)))
 
--- d units being delivered at its removal: k zero bytes keep the next removal from overflow exactly if z ≤ k, so z is the least; after the last picture z is 0
-pub record Stuffs (p : VbvParams) (n d : ℕ) (o : Offer) (z : ℕ) : Type 0 where
+-- d units being delivered at its removal, which the interval i follows: k zero bytes keep the next removal from overflow exactly if z ≤ k, so z is the least; after the last picture z is 0
+pub record Stuffs (p : VbvParams) (n d : ℕ) (i : RemovalInterval) (o : Offer) (z : ℕ) : Type 0 where
   pub least : o .last ≡ false
-      → (k : ℕ) → (z ≤ k) ↔ (d + gain p (periods (o .interval)) ≤ (contentOf n o + 8 * k + p .«buffer_size_bits») * unit p)
+      → (k : ℕ) → (z ≤ k) ↔ (d + gain p (periods i) ≤ (contentOf n o + 8 * k + p .«buffer_size_bits») * unit p)
   pub after-last : o .last ≡ true → z ≡ 0
 
 -- ---- what was handed out
@@ -76,16 +83,24 @@ stuffingOf (x ∷ xs) = x .stuffing + stuffingOf xs
 
 -- ---- one removal after another
 
--- what holds of each picture as it is removed, with d units delivered and all before `previous` removed
-pub data Removals (p : VbvParams) (Holds : ℕ → ℕ → Sent → Type 0) : ℕ → ℕ → List Sent → Type 0 where
-  no-removal : {d previous : ℕ} → Removals p Holds d previous []
-  removal-then : {d previous : ℕ} {x : Sent} {xs : List Sent} → Holds d previous x
-      → Removals p Holds (d + gain p (periods (x .offer .interval))) (sentEnd x) xs → Removals p Holds d previous (x ∷ xs)
+-- what its headers tell of how long it lasts
+abbrev pub sentFacts : Sent → PictureFacts
+sentFacts x = factsIn (x .offer .layer)
 
--- C.3.1: the first picture's position and delay say what is delivered at its removal
-abbrev pub EachRemoval : VbvParams → (ℕ → ℕ → Sent → Type 0) → List Sent → Type 0
-EachRemoval p Holds [] = Unit {0}
-EachRemoval p Holds (x ∷ xs) = Removals p Holds (firstDelivered p (sentPosition x) (x .delay)) 0 (x ∷ xs)
+-- and how long it lasts, by the cadence before it
+abbrev pub lastsFor : VbvCadence → Sent → RemovalInterval
+lastsFor k x = interval k (sentFacts x)
+
+-- what holds of each picture and the interval after it, as it is removed with d units delivered and all before `previous` removed
+pub data Removals (p : VbvParams) (Holds : RemovalInterval → ℕ → ℕ → Sent → Type 0) : VbvCadence → ℕ → ℕ → List Sent → Type 0 where
+  no-removal : {k : VbvCadence} {d previous : ℕ} → Removals p Holds k d previous []
+  removal-then : {k : VbvCadence} {d previous : ℕ} {x : Sent} {xs : List Sent} → Holds (lastsFor k x) d previous x
+      → Removals p Holds (after k (sentFacts x)) (d + gain p (periods (lastsFor k x))) (sentEnd x) xs → Removals p Holds k d previous (x ∷ xs)
+
+-- C.3.1: the first picture's position and delay say what is delivered at its removal; and its headers open the cadence
+abbrev pub EachRemoval : Bool → VbvParams → (RemovalInterval → ℕ → ℕ → Sent → Type 0) → List Sent → Type 0
+EachRemoval film p Holds [] = Unit {0}
+EachRemoval film p Holds (x ∷ xs) = Removals p Holds (cadenceBy film (x .offer .headers)) (firstDelivered p (sentPosition x) (x .delay)) 0 (x ∷ xs)
 
 -- C.5, C.6: what is in the buffer is no more than it holds, and all of the picture is there
 pub record InBuffer (p : VbvParams) (d previous : ℕ) (x : Sent) : Type 0 where
@@ -100,25 +115,26 @@ pub record WellPlaced (p : VbvParams) (d previous : ℕ) (x : Sent) : Type 0 whe
   pub delay-told : x .delay ≤ 65534
 
 -- its zeros are the least
-abbrev pub LeastStuffing : VbvParams → ℕ → ℕ → Sent → Type 0
-LeastStuffing p d previous x = Stuffs p (x .before) d (x .offer) (x .stuffing)
+abbrev pub LeastStuffing : VbvParams → RemovalInterval → ℕ → ℕ → Sent → Type 0
+LeastStuffing p i d previous x = Stuffs p (x .before) d i (x .offer) (x .stuffing)
 
 -- ---- the check
 
--- coded equal to expected, data bits 8 × the bytes placed, field periods by the offer's interval
-unfoldable pub sentRecord : VbvParams → ℕ → ℕ → Sent → VbvPictureRecord
-sentRecord p d previous x = record {
+-- coded equal to expected, data bits 8 × the bytes placed, field periods of the interval after it
+unfoldable pub sentRecord : VbvParams → RemovalInterval → ℕ → ℕ → Sent → VbvPictureRecord
+sentRecord p i d previous x = record {
   «vbv_delay» = x .delay;
   «expected_delay» = x .delay;
   «data_bits» = 8 * length (x .bytes);
   «occupancy_before_bits» = occupancy p previous d;
-  periods = periods (x .offer .interval);
+  periods = periods i;
 }
 
 -- one record a picture, in order
-unfoldable pub sentRecords : VbvParams → ℕ → ℕ → List Sent → List VbvPictureRecord
-sentRecords p d previous [] = []
-sentRecords p d previous (x ∷ xs) = sentRecord p d previous x ∷ sentRecords p (d + gain p (periods (x .offer .interval))) (sentEnd x) xs
+unfoldable pub sentRecords : VbvParams → VbvCadence → ℕ → ℕ → List Sent → List VbvPictureRecord
+sentRecords p k d previous [] = []
+sentRecords p k d previous (x ∷ xs) =
+    sentRecord p (lastsFor k x) d previous x ∷ sentRecords p (after k (sentFacts x)) (d + gain p (periods (lastsFor k x))) (sentEnd x) xs
 
 -- a verdict that reports R and B of p, with these records. The first headers may show the frame rate by another code, n and d than p has it by, and then the check counts in their units:
 -- its parameters are what they declare, which is the same as p but for numerator and denominator (request 02)
@@ -128,9 +144,10 @@ pub record AcceptedFor (p : VbvParams) (headers : List ℕ) (rs : List VbvPictur
   pub by-headers : (a : Accepted) → v ≡ value a → declaredBy Mpeg2 headers ≡ value (a .params)
   pub same-value : (a : Accepted) → v ≡ value a → sameParams p (a .params) ≡ true
 
--- once a picture is placed the MPEG-2 check accepts the bytes with these records, given a place for each
-abbrev pub PassesCheck : VbvParams → List Sent → Type 0
-PassesCheck p [] = Unit {0}
-PassesCheck p (x ∷ xs) =
+-- once a picture is placed the check of the writer's mode accepts the bytes with these records, given a place for each
+abbrev pub PassesCheck : VbvMode → VbvParams → List Sent → Type 0
+PassesCheck m p [] = Unit {0}
+PassesCheck m p (x ∷ xs) =
     (places : ℕ) → length (x ∷ xs) ≤ places
-    → AcceptedFor p (x .offer .headers) (sentRecords p (firstDelivered p (sentPosition x) (x .delay)) 0 (x ∷ xs)) (verdict Mpeg2 (endToEnd (x ∷ xs)) places)
+    → AcceptedFor p (x .offer .headers) (sentRecords p (cadenceBy (m .film) (x .offer .headers)) (firstDelivered p (sentPosition x) (x .delay)) 0 (x ∷ xs))
+      (verdict m (endToEnd (x ∷ xs)) places)

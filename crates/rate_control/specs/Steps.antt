@@ -29,6 +29,7 @@ use Rattle.vbv.specs.declared.VbvBits.the-variants as bt
 use Rattle.layers.specs.declared.PictureKind.{PictureKind}
 use Rattle.layers.specs.Headers.{headersFit}
 use Rattle.layers.specs.Layer.{layerFits}
+use Rattle.cadence.specs.declared.VbvCadence.{VbvCadence}
 use Rattle.rate_control.specs.Answers.{createdAnswer}
 use Rattle.rate_control.specs.Create.{writerParams, freshWriter, noWriter}
 use Rattle.rate_control.specs.Writer.{writerFits, index, of, clashes, asked, coarser, steered}
@@ -143,13 +144,14 @@ measured m headers layer i last =
     (within14 (extentOf m headers layer last) i last (startedAt m (extentOf m headers layer last .position)))
 
 -- 12 for the state, 17, 18 and 20 before these
-unfoldable pub tested : CbrWriter → List ℕ → PictureKind → RemovalInterval → Bool → List ℕ → Tested
-tested w headers k i last layer =
+-- the picture lasts j
+unfoldable pub tested : CbrWriter → List ℕ → PictureKind → RemovalInterval → Bool → List ℕ → RemovalInterval → Tested
+tested w headers k i last layer j =
     pick (not (writerFits w)) (Refused (Model Params))
     (pick (w .finished || clashes (w .pending) k) (Refused Kind)
     (pick (not (headersFit (w .model .params) (w .model .started) headers)) (Refused Headers)
-    (pick (not (layerFits k i layer)) (Refused Layer)
-    (measured (w .model) (length headers) (length layer) i last))))
+    (pick (not (layerFits (w .cadence .film) k i layer)) (Refused Layer)
+    (measured (w .model) (length headers) (length layer) j last))))
 
 -- ---- the answer
 
@@ -159,8 +161,8 @@ pub record Placeable (w : CbrWriter) (k : PictureKind) (layer : ℕ) (p : Placem
   pub target-far : of k (w .«target_bits») ≤ farthest
   pub total-far : w .«stuffing_bytes» + p .«stuffing_bytes» ≤ farthest
 
-unfoldable pub placedBy : CbrWriter → PictureKind → ℕ → Bool → Placement → CbrOffered
-placedBy w k layer last p = record {
+unfoldable pub placedBy : CbrWriter → PictureKind → ℕ → Bool → Placement → VbvCadence → CbrOffered
+placedBy w k layer last p cadence = record {
   answer = Placed (asked w k) (p .«vbv_delay») (p .bytes) (p .«stuffing_bytes»);
   writer =
       record {
@@ -170,6 +172,7 @@ placedBy w k layer last p = record {
         pending = Nothing;
         «stuffing_bytes» = w .«stuffing_bytes» + p .«stuffing_bytes»;
         finished = last;
+        cadence = cadence;
       };
 }
 
@@ -196,7 +199,7 @@ offerInCode w o =
     pick (not (writerFits w)) (refusedInCode w (Model Params))
     (pick (w .finished || clashes (w .pending) (o .kind)) (refusedInCode w Kind)
     (pick (not (headersFit (w .model .params) (w .model .started) (o .headers))) (refusedInCode w Headers)
-    (pick (not (layerFits (o .kind) (o .interval) (o .layer))) (refusedInCode w Layer)
+    (pick (not (layerFits (w .cadence .film) (o .kind) (o .interval) (o .layer))) (refusedInCode w Layer)
     (pick (ltb farthest (position w o) || ltb farthest (end w o)) (refusedInCode w (Model Range))
     (pick (beyond (w .model .params) (position w o) (deliveredAt w o)) (refusedInCode w (Model Early))
     (pick (overflows (w .model .params) (w .model .«prev_end_bits») (deliveredAt w o)) (refusedInCode w (Violation (Overflow (w .model .removed) 0 0)))

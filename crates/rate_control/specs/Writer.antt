@@ -7,6 +7,7 @@ use lib.Dec.{leb, ltb, eqb}
 use lib.ListN.{getD}
 use Rattle.bits.specs.Bits.{pick}
 use Rattle.vbv.specs.Model.{farthest, modelFits}
+use Rattle.cadence.specs.Cadence.{cadenceFits}
 use Rattle.layers.specs.declared.PictureKind.{PictureKind}
 use Rattle.layers.specs.declared.PictureKind.the-variants.{I, P, B}
 use Rattle.rate_control.specs.Create.{within}
@@ -29,7 +30,7 @@ unfoldable pub pendingFits : Pending → Bool
 pendingFits Nothing = true
 pendingFits (Waits k n) = quantiserFits n
 
--- the model's ranges; the previous end is whole bytes, at least as many as pictures placed, and as bytes stuffed; targets up to 2^48, quantisers 1 to 31
+-- the model's ranges; the previous end is whole bytes, at least as many as pictures placed, and as bytes stuffed; targets up to 2^48, quantisers 1 to 31; outside film no cadence is kept
 unfoldable pub writerFits : CbrWriter → Bool
 writerFits w =
     modelFits (w .model)
@@ -37,7 +38,8 @@ writerFits w =
     && (leb (8 * w .model .removed) (w .model .«prev_end_bits»)
     && (leb (8 * w .«stuffing_bytes») (w .model .«prev_end_bits»)
     && (allFit (λ t. leb t farthest) (w .«target_bits»)
-    && (allFit quantiserFits (w .q) && pendingFits (w .pending))))))
+    && (allFit quantiserFits (w .q)
+    && (pendingFits (w .pending) && cadenceFits (w .cadence)))))))
 
 -- ---- by kind
 

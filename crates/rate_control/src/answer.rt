@@ -11,6 +11,7 @@ use crate::Placement;
 use crate::state::coarser;
 use crate::state::index;
 use crate::state::steered;
+use cadence::VbvCadence;
 use layers::PictureKind;
 
 impl CbrWriter {
@@ -42,16 +43,17 @@ impl CbrWriter {
         }
     }
 
-    // The kind's quantiser is steered by the layer's bytes.
+    // The kind's quantiser is steered by the layer's bytes, and the cadence is the one after the picture.
     pub(crate) fn placed(
         self,
         kind: PictureKind,
         layer: u64,
         last: bool,
         placement: Placement,
+        cadence: VbvCadence,
     ) -> CbrOffered
         requires { ⌜ Placeable self kind layer placement ⌝ }
-        ensures { λ r. ⌜ r ≡ placedBy self kind layer last placement ⌝ }
+        ensures { λ r. ⌜ r ≡ placedBy self kind layer last placement cadence ⌝ }
     {
         let q = self.asked(kind);
         let k = index(kind);
@@ -75,6 +77,7 @@ impl CbrWriter {
                 pending: Pending::Nothing,
                 stuffing_bytes: self.stuffing_bytes + stuffing_bytes,
                 finished: last,
+                cadence,
             },
         }
     }

@@ -2,7 +2,7 @@
 ghost use mathlib.Core.Path.{_≡_};
 ghost use Rattle.bits.specs.Refusals.{orElse};
 ghost use Rattle.rate_control.specs.Answers.{createdAnswer};
-ghost use Rattle.rate_control.specs.Create.{within, configFits, freshWriter, noWriter, create};
+ghost use Rattle.rate_control.specs.Create.{within, isWritten, configFits, freshWriter, noWriter, create};
 ghost use Rattle.rate_control.specs.Due.{Ranges};
 ghost use Rattle.rate_control.specs.Steps.{TargetsFit, notCreated, Creates, withRate};
 ghost use Rattle.rate_control.specs.Targets.{targets};
@@ -11,6 +11,8 @@ use crate::CbrCreated;
 use crate::CbrCreation;
 use crate::CbrWriter;
 use crate::Pending;
+use cadence::VbvCadence;
+use pictures::VbvStandard;
 use vbv::FrameRate;
 use vbv::VbvCbrModel;
 use vbv::VbvError;
@@ -21,6 +23,16 @@ fn within(low: u64, high: u64, value: u64) -> bool
     ensures { λ r. ⌜ r ≡ within low high value ⌝ }
 {
     (low <= value) & (value <= high)
+}
+
+// Of the standards MPEG-2 is written.
+fn is_written(standard: VbvStandard) -> bool
+    ensures { λ r. ⌜ r ≡ isWritten standard ⌝ }
+{
+    match standard {
+        VbvStandard::Mpeg1 => false,
+        VbvStandard::Mpeg2 => true,
+    }
 }
 
 // The bits of a group of pictures, shared out by weight.
@@ -61,6 +73,7 @@ pub fn no_writer() -> CbrWriter
         pending: Pending::Nothing,
         stuffing_bytes: 0,
         finished: false,
+        cadence: VbvCadence::opened(false, false, false),
     }
 }
 
@@ -78,6 +91,8 @@ impl CbrConfig {
     fn fits(self) -> bool
         ensures { λ r. ⌜ r ≡ configFits self ⌝ }
     {
+        let mode = self.mode;
+        let standard = mode.standard;
         let rate = self.bit_rate_value as u64;
         let size = self.vbv_buffer_size_value as u64;
         let n = self.frame_rate_extension_n as u64;
@@ -85,11 +100,12 @@ impl CbrConfig {
         let q = self.initial_quantiser_scale_code as u64;
         let between = self.b_between as u64;
         let anchors = self.anchors_per_gop as u64;
-        within(1, 262143, rate)
+        let ranges = within(1, 262143, rate)
             & (within(1, 1023, size)
                 & (within(0, 3, n)
                     & (within(0, 31, d)
-                        & (within(1, 31, q) & (within(0, 15, between) & within(1, 255, anchors))))))
+                        & (within(1, 31, q) & (within(0, 15, between) & within(1, 255, anchors))))));
+        is_written(standard) & ranges
     }
 
     // Nothing placed, nothing pending, every kind at the given quantiser.
@@ -102,6 +118,7 @@ impl CbrConfig {
         let anchors = self.anchors_per_gop as u64;
         let target_bits = type_target_bits(params, between, anchors);
         let q = self.initial_quantiser_scale_code;
+        let mode = self.mode;
         CbrWriter {
             model,
             target_bits,
@@ -109,6 +126,7 @@ impl CbrConfig {
             pending: Pending::Nothing,
             stuffing_bytes: 0,
             finished: false,
+            cadence: VbvCadence::opened(mode.film, false, false),
         }
     }
 

@@ -13,14 +13,17 @@ mod offer; // an offer: its tests and its answer
 pub use crate::create::no_writer;
 use bits::VbvRefusal;
 use bits::plain;
+use cadence::VbvCadence;
 use layers::PictureKind;
 use vbv::VbvCbrModel;
 use vbv::VbvError;
 use vbv::VbvViolation;
+use verify::VbvMode;
 
-// What a writer is created with: the sequence header's fields, the quantiser that every kind starts from, B pictures between
+// What a writer is created with: MPEG-2, plain or film; the sequence header's fields, the quantiser that every kind starts from, B pictures between
 // anchors and anchors in a group.
 pub struct CbrConfig {
+    pub mode: VbvMode,
     pub bit_rate_value: u32,
     pub vbv_buffer_size_value: u16,
     pub frame_rate_code: u8,
@@ -38,7 +41,7 @@ pub enum Pending {
 }
 
 // The model is started once a picture is placed; its previous end is the end of what was handed out. Targets and quantisers are
-// those of I, P and B.
+// those of I, P and B. The cadence is that of the pictures placed.
 pub struct CbrWriter {
     pub model: VbvCbrModel,
     pub target_bits: [u64; 3],
@@ -46,6 +49,7 @@ pub struct CbrWriter {
     pub pending: Pending,
     pub stuffing_bytes: u64,
     pub finished: bool,
+    pub cadence: VbvCadence,
 }
 
 pub enum CbrCreation {

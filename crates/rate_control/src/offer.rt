@@ -1,7 +1,7 @@
 // An offer: its tests in paper 01's order, and its answer.
 ghost use mathlib.Core.Path.{_≡_};
 ghost use Rattle.rate_control.specs.Answers.{offerAnswer};
-ghost use Rattle.rate_control.specs.Offer.{offer, left, outAfter};
+ghost use Rattle.rate_control.specs.Offer.{cadenceAt, offer, left, outAfter};
 ghost use Rattle.rate_control.specs.Steps.{tested};
 use crate::CbrError;
 use crate::CbrOffered;
@@ -10,12 +10,26 @@ use crate::Tested;
 use crate::measure::measured;
 use crate::output::put_placed;
 use crate::state::clashes;
+use cadence::VbvCadence;
 use layers::PictureKind;
+use pictures::cadence_by;
 use vbv::RemovalInterval;
 use vbv::VbvError;
 
 impl CbrWriter {
-    // 12 for the state, 17, 18 and 20, then what lengths and model say.
+    // The cadence before the picture: until one is placed, that which its own headers open.
+    fn cadence_at(self, headers: &[u8]) -> VbvCadence
+        ensures { λ r. ⌜ r ≡ cadenceAt self (now (headers .entry)) ⌝ }
+    {
+        let model = self.model;
+        let cadence = self.cadence;
+        if model.started {
+            return cadence;
+        }
+        cadence_by(headers, cadence.film)
+    }
+
+    // 12 for the state, 17, 18 and 20, then what lengths and model say to a picture that lasts so long.
     fn tested(
         self,
         headers: &[u8],
@@ -23,21 +37,23 @@ impl CbrWriter {
         interval: RemovalInterval,
         last: bool,
         layer: &[u8],
+        lasts: RemovalInterval,
     ) -> Tested
-        ensures { λ r. ⌜ r ≡ tested self (now (headers .entry)) kind interval last (now (layer .entry)) ⌝ }
+        ensures { λ r. ⌜ r ≡ tested self (now (headers .entry)) kind interval last (now (layer .entry)) lasts ⌝ }
     {
         if self.fits() {
             let model = self.model;
             let pending = self.pending;
+            let cadence = self.cadence;
             if self.finished | clashes(pending, kind) {
                 return Tested::Refused(CbrError::Kind);
             }
             let params = model.params;
             if layers::headers_fit(headers, params, model.started) {
-                if layers::layer_fits(layer, kind, interval) {
+                if layers::layer_fits(layer, cadence.film, kind, interval) {
                     let ahead = headers.len() as u64;
                     let bytes = layer.len() as u64;
-                    return measured(model, ahead, bytes, interval, last);
+                    return measured(model, ahead, bytes, lasts, last);
                 }
                 return Tested::Refused(CbrError::Layer);
             }
@@ -60,7 +76,16 @@ impl CbrWriter {
         ensures { λ r. ⌜ r .writer ≡ left self (record { headers = now (headers .entry); kind = kind; interval = interval; last = last; layer = now (layer .entry); out = now (out .entry) }) ⌝ }
         ensures { λ r. ⌜ now (out .exit) ≡ outAfter self (record { headers = now (headers .entry); kind = kind; interval = interval; last = last; layer = now (layer .entry); out = now (out .entry) }) ⌝ }
     {
-        match self.tested(headers, kind, interval, last, layer) {
+        let facts = layers::layer_facts(layer);
+        let cadence = self.cadence_at(headers);
+        match self.tested(
+            headers,
+            kind,
+            interval,
+            last,
+            layer,
+            cadence.interval(facts),
+        ) {
             Tested::Refused(error) => self.refused(error),
             Tested::TooLarge => self.too_large(kind),
             Tested::Ready(placement) => {
@@ -72,7 +97,13 @@ impl CbrWriter {
                 let zeros = placement.stuffing_bytes as usize;
                 put_placed(out, headers, layer, placement.vbv_delay, zeros, last);
                 let layer_bytes = layer.len() as u64;
-                self.placed(kind, layer_bytes, last, placement)
+                self.placed(
+                    kind,
+                    layer_bytes,
+                    last,
+                    placement,
+                    cadence.after(facts),
+                )
             }
         }
     }

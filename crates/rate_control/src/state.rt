@@ -123,6 +123,7 @@ impl CbrWriter {
         let target_bits = self.target_bits;
         let q = self.q;
         let pending = self.pending;
+        let cadence = self.cadence;
         let bits = model.prev_end_bits;
         let bytes = bits / 8;
         model.fits()
@@ -130,6 +131,6 @@ impl CbrWriter {
                 & ((model.removed <= bytes)
                     & ((self.stuffing_bytes <= bytes)
                         & (all_targets(target_bits)
-                            & (all_quantisers(q) & pending_fits(pending))))))
+                            & (all_quantisers(q) & (pending_fits(pending) & cadence.fits()))))))
     }
 }

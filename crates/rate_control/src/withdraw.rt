@@ -16,6 +16,7 @@ impl CbrWriter {
         let model = self.model;
         let target_bits = self.target_bits;
         let q = self.q;
+        let cadence = self.cadence;
         CbrWriter {
             model,
             target_bits,
@@ -23,6 +24,7 @@ impl CbrWriter {
             pending,
             stuffing_bytes: self.stuffing_bytes,
             finished: self.finished,
+            cadence,
         }
     }
 

@@ -1,0 +1,35 @@
+// The numbers of the modes.
+ghost use mathlib.Core.Path.{_≡_};
+ghost use Rattle.layout.specs.Mode.{isMode, modeFor};
+use verify::VbvMode;
+use verify::VbvStandard;
+
+// The modes: MPEG-1, MPEG-2 and MPEG-2 film.
+pub const MPEG1: u64 = 1;
+
+pub const MPEG2: u64 = 2;
+
+pub const MPEG2_FILM: u64 = 6;
+
+// Whether a number is a mode's.
+pub fn is_mode(number: u64) -> bool
+    ensures { λ r. ⌜ r ≡ isMode number ⌝ }
+{
+    (number == MPEG1) | ((number == MPEG2) | (number == MPEG2_FILM))
+}
+
+// The mode of a number.
+pub fn mode_for(number: u64) -> VbvMode
+    ensures { λ r. ⌜ r ≡ modeFor number ⌝ }
+{
+    if number == MPEG1 {
+        return VbvMode::plain(VbvStandard::Mpeg1);
+    }
+    if number == MPEG2 {
+        return VbvMode::plain(VbvStandard::Mpeg2);
+    }
+    VbvMode {
+        standard: VbvStandard::Mpeg2,
+        film: true,
+    }
+}
