@@ -38,10 +38,7 @@ pub(crate) fn check_in_mode(s: &[u8], mode: VbvMode, out: &mut [u8]) -> usize {
     put_verified(out, verified);
     let places = (end - 41) / RECORD_BYTES;
     let mut alone = [0u8; 41];
-    put_verified(
-        &mut alone,
-        verify::check_in_mode(&s[2..], mode, places),
-    );
+    put_verified(&mut alone, verify::check_in_mode(&s[2..], mode, places));
     if check::same(&alone, &out[0..41]) {
         return end;
     }
