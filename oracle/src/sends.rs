@@ -8,10 +8,10 @@ use crate::model::{BUFFER_UNIT, FAR, RATE_UNIT};
 use crate::streams::{frame_rate, least_rate};
 use crate::writer::{Config, FIELD, FRAME, Offer, Told, Writer};
 
-/// Bytes that a layer, a part, and headers, layers and parts of a list have at most: what it hands out is checked twice.
+/// Bytes that a layer, a part, and a list with its answer have at most; what it hands out is checked twice, and so is in it twice.
 const MOST_LAYER: u64 = 6_000;
 const MOST_PART: u64 = 9_000;
-const MOST_LIST: usize = 30_000;
+const MOST_LIST: usize = 60_000;
 
 /// A code, n and d: of the table, of 25/1, near the table's, or any.
 fn a_rate(d: &mut Draw) -> [u64; 3] {
@@ -323,8 +323,8 @@ pub fn drawn(d: &mut Draw) -> Vec<u8> {
         }
         let o = an_offer(&w, &c, before.as_ref(), n + 2 >= calls, d);
         let part = a_part(&w, &o, d);
-        size += o.headers.len() + o.layer.len() + part + 100;
-        if MOST_LIST < size {
+        size += o.headers.len() + o.layer.len() + part + 200;
+        if MOST_LIST < size + 2 * (handed_out.len() + part) {
             break;
         }
         let mut out = vec![0; part];

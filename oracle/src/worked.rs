@@ -121,7 +121,7 @@ fn layer(kind: usize, facts: Facts) -> Vec<u8> {
     let hints = vec![(4, 7); kind];
     let padding = if kind == 0 { 2 } else { 8 - (61 + 4 * kind as u32 + 1) % 8 };
     let header = [&[(32, 0x100), (10, 0), (3, kind as u64 + 1), (16, 0)][..], &hints, &[(1, 0), (padding, 0)]].concat();
-    let flags = [(1, facts.top.into()), (5, 0), (1, facts.repeat.into()), (3, 3)];
+    let flags = [(1, facts.top.into()), (5, 0x10), (1, facts.repeat.into()), (3, 6)];
     let extension = [&[(32, 0x1B5), (4, 8), (16, 0xFFFF), (2, 0), (2, 3)][..], &flags].concat();
     let mut layer = [pack(&header), pack(&extension), vec![0, 0, 1, 1]].concat();
     layer.resize(if kind == 0 { 4021 } else { 4022 }, 0x55);
