@@ -32,13 +32,15 @@ const WITH_FLAG: u8 = 163;
 const SAME_REPORT: u8 = 164;
 const FILM_OFFERED: u8 = 165;
 const NOT_PASSED: u8 = 166;
+/// And the number of a film writer's refusal, or 30 for Again.
+const TO_FILM: u8 = 200;
 
 /// All codes, n and d whose rate is 25/1.
 pub const ALL_25: [[u64; 3]; 8] =
     [[3, 0, 0], [3, 1, 1], [3, 2, 2], [3, 3, 3], [6, 0, 1], [6, 1, 3], [6, 2, 5], [6, 3, 7]];
 
 /// What the answers are called.
-const REASONS: [Met; 36] = [
+const REASONS: [Met; 47] = [
     ACCEPTED,
     (6, "rate code not 1 to 8"),
     (7, "position beyond delivered bits"),
@@ -75,6 +77,17 @@ const REASONS: [Met; 36] = [
     (WITH_FLAG, "pictures placed by a film writer with repeat_first_field 1"),
     (SAME_REPORT, "lists of a plain writer with a picture, reported alike by the film check"),
     (FILM_OFFERED, "pictures placed by a film writer after a layer of theirs was sent back"),
+    (TO_FILM, "offers to a film writer placed"),
+    (TO_FILM + 7, "offers to a film writer refused 7"),
+    (TO_FILM + 9, "offers to a film writer refused 9"),
+    (TO_FILM + 14, "offers to a film writer refused 14"),
+    (TO_FILM + 17, "offers to a film writer refused 17"),
+    (TO_FILM + 18, "offers to a film writer refused 18"),
+    (TO_FILM + 19, "offers to a film writer refused 19"),
+    (TO_FILM + 20, "offers to a film writer refused 20"),
+    (TO_FILM + 21, "offers to a film writer refused 21"),
+    (TO_FILM + 22, "offers to a film writer refused 22"),
+    (TO_FILM + 30, "offers to a film writer asked for again"),
 ];
 
 /// All of them have to be met.
@@ -410,6 +423,9 @@ pub fn answer(input: &[u8]) -> Answer {
         let (number, told) = called(&call, &mut w, &mut beside, &mut part);
         let refused = matches!(call, Call::Check(..)) && number != PASSED;
         answer.met.push(met(if refused { NOT_PASSED } else { number }));
+        if w.film && matches!(call, Call::Offer(..)) {
+            answer.met.push(met(TO_FILM + if number == AGAIN { 30 } else { number }));
+        }
         answer.bytes.push(number);
         words(&mut answer.bytes, &told);
         state(&mut answer.bytes, &w);

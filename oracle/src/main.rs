@@ -22,9 +22,7 @@ use std::io::{BufWriter, Stdout, Write, stdout};
 use std::process::exit;
 
 /// How often each kind is drawn.
-const WEIGHTS: [usize; 20] = [12, 8, 16, 12, 8, 16, 6, 10, 2, 6, 3, 1, 1, 2, 24, 4, 40, 60, 1, 40];
-/// Drawn cases from which on every setting of the flags in every row of the table of film periods has to be met.
-const MANY: u64 = 200_000;
+const WEIGHTS: [usize; 20] = [12, 8, 16, 12, 8, 16, 6, 10, 2, 6, 3, 1, 1, 2, 24, 4, 40, 60, 1, 20];
 
 struct Cases {
     out: BufWriter<Stdout>,
@@ -83,7 +81,7 @@ impl Cases {
     }
 
     /// Says what was made; false where a refusal that a kind can give is missing, or what else it has to meet.
-    fn report(&self, kinds: &[u8], large: bool) -> bool {
+    fn report(&self, kinds: &[u8]) -> bool {
         let mut complete = true;
         let others = if kinds.contains(&20) { 21..24 } else { 0..0 };
         for kind in kinds.iter().copied().chain(others) {
@@ -102,8 +100,7 @@ impl Cases {
             complete &= kind == 23 || of(0).next().is_some();
         }
         if kinds.iter().any(|&kind| 19 <= kind) {
-            eprintln!("pictures that lasted by the film rule:");
-            complete &= self.rows.report(large);
+            complete &= self.rows.report();
         }
         eprintln!("cases {}", self.count);
         complete
@@ -202,7 +199,7 @@ fn main() {
         exit(2);
     };
     worked::hold();
-    if !write(&asked).report(&asked.kinds, MANY <= asked.count) {
+    if !write(&asked).report(&asked.kinds) {
         exit(1);
     }
 }

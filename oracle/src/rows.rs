@@ -2,6 +2,10 @@
 
 use crate::cadence::{Facts, ROWS, SEQUENCES, SETTINGS, Sequence, last_periods, place};
 
+/// Pictures from which on every row has to be met in every sequence, and from which on in every setting of the flags.
+const SOME: u64 = 5_000;
+const MANY: u64 = 250_000;
+
 #[derive(Clone, Default)]
 pub struct Rows {
     met: [[[u64; SETTINGS]; SEQUENCES.len()]; ROWS.len()],
@@ -19,18 +23,18 @@ impl Rows {
         }
     }
 
-    /// Says what was met; false where a row was not, in some sequence, or, in a large run, in some setting of the flags.
-    pub fn report(&self, large: bool) -> bool {
+    /// Says what was met; false where of some pictures a row was not, in some sequence, or of many in some setting of the flags.
+    pub fn report(&self) -> bool {
+        let all: u64 = self.met.as_flattened().as_flattened().iter().sum();
+        eprintln!("pictures that lasted by the film rule: {all}");
         let mut complete = true;
         for (row, name) in ROWS.iter().enumerate() {
             for (column, sequence) in SEQUENCES.iter().enumerate() {
                 let met = &self.met[row][column];
-                let (all, least) = (met.iter().sum::<u64>(), *met.iter().min().unwrap());
+                let (count, least) = (met.iter().sum::<u64>(), *met.iter().min().unwrap());
                 let periods: Vec<_> = (1..7).filter(|&n| self.periods[row][column][n]).collect();
-                eprintln!(
-                    "    {all} {name}; {sequence}: periods {periods:?}, each setting of the flags {least} or more"
-                );
-                complete &= 0 < all && (!large || 0 < least);
+                eprintln!("    {count} {name}; {sequence}: periods {periods:?}, in each setting {least} or more");
+                complete &= (all < SOME || 0 < count) && (all < MANY || 0 < least);
             }
         }
         complete
