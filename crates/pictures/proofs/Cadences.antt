@@ -4,6 +4,7 @@ use mathlib.Core.Path.{_≡_, refl, _∙_}
 use mathlib.Core.Bool.{Bool, true, false}
 use Prim.Native.Nat.{ℕ}
 use mathlib.Core.List.{List, _∷_, _++_}
+use lib.ListN.{drop}
 use Rattle.bits.specs.StartCodes.{sequenceHeaderCode}
 use Rattle.bits.specs.Refusals.{Answer, value, refused, andThen, orElse}
 use Rattle.headers.specs.Sequence.{sequence}
@@ -14,10 +15,12 @@ use Rattle.scan.specs.Codes.{Code, codes, found}
 use Rattle.scan.specs.Pictures.{skip, notSequence}
 use Rattle.scan.specs.declared.Found.{Found}
 use Rattle.scan.specs.declared.Found.the-variants.{At, Nothing}
-use Rattle.cadence.specs.Cadence.{opened}
-use Rattle.cadence.proofs.Plain.{opened-plain}
+use Rattle.cadence.specs.Cadence.{opened, cadenceFits}
+use Rattle.cadence.specs.declared.VbvCadence.{VbvCadence}
+use Rattle.cadence.proofs.Keeping.{opened-film, opened-plain, opened-fits}
 use Rattle.pictures.specs.Cadence.{cadenceBy, cadenceAt, cadenceOf}
 use Rattle.pictures.specs.Sequence.{declaredBy}
+use Rattle.pictures.specs.Due.{SequenceOpens}
 use Rattle.pictures.specs.declared.VbvStandard.the-variants.{Mpeg2}
 use Rattle.pictures.proofs.Showing.{declared-from, first-sequence}
 
@@ -53,3 +56,64 @@ unfolding cadenceBy
 cadence-append film s t p e =
     let a = declared-from s p e in
     rw (a .parsed, sequence-append s t (a .read) (a .parsed))
+
+-- film or not is kept, and it fits
+pub by-film : (film : Bool) (s : List ℕ) → cadenceBy film s .film ≡ film
+unfolding cadenceBy
+by-film film s = case (sequence s)
+  where
+    case : (r : Answer Mpeg2Sequence)
+        → orElse (opened film false false) (andThen r (λ q. value (opened film (q .extension .«progressive_sequence») (q .extension .«low_delay»)))) .film ≡ film
+    case (value q) = opened-film film _ _
+    case (refused n k c e) = opened-film film false false
+
+pub by-fits : (film : Bool) (s : List ℕ) → cadenceFits (cadenceBy film s) ≡ true
+unfolding cadenceBy
+by-fits film s = case (sequence s)
+  where
+    case : (r : Answer Mpeg2Sequence)
+        → cadenceFits (orElse (opened film false false) (andThen r (λ q. value (opened film (q .extension .«progressive_sequence») (q .extension .«low_delay»))))) ≡ true
+    case (value q) = opened-fits film _ _
+    case (refused n k c e) = opened-fits film false false
+
+-- of a stream
+stream-opens : (film : Bool) (s : List ℕ) (at code : ℕ) → found (skip notSequence (codes s)) ≡ At at code → cadenceOf film s ≡ cadenceBy film (drop at s)
+unfolding cadenceOf cadenceAt
+stream-opens film s o c e = rw e
+
+pub of-film : (film : Bool) (s : List ℕ) → cadenceOf film s .film ≡ film
+unfolding cadenceOf cadenceAt
+of-film film s = case (found (skip notSequence (codes s)))
+  where
+    case : (f : Found) → cadenceAt film s f .film ≡ film
+    case (At o c) = by-film film (drop o s)
+    case Nothing = opened-film film false false
+
+-- before its first picture a film stream has what its sequence has, and nothing else
+by-first : (s : List ℕ) → cadenceBy true s ≡ opened true (cadenceBy true s .progressive) (cadenceBy true s .«low_delay»)
+unfolding cadenceBy opened
+by-first s = case (sequence s)
+  where
+    abbrev of : Answer Mpeg2Sequence → VbvCadence
+    of r = orElse (opened true false false) (andThen r (λ q. value (opened true (q .extension .«progressive_sequence») (q .extension .«low_delay»))))
+
+    case : (r : Answer Mpeg2Sequence) → of r ≡ opened true (of r .progressive) (of r .«low_delay»)
+    case (value q) = refl
+    case (refused n k c e) = refl
+
+pub first-cadence : (s : List ℕ) → cadenceOf true s ≡ opened true (cadenceOf true s .progressive) (cadenceOf true s .«low_delay»)
+unfolding cadenceOf cadenceAt opened
+first-cadence s = case (found (skip notSequence (codes s)))
+  where
+    case : (f : Found) → cadenceAt true s f ≡ opened true (cadenceAt true s f .progressive) (cadenceAt true s f .«low_delay»)
+    case (At o c) = by-first (drop o s)
+    case Nothing = refl
+
+-- what the fields say
+pub sequence-opens : SequenceOpens
+unfolding cadenceBy opened
+sequence-opens = record {
+  in-film = λ s q e. rw e;
+  outside-film = λ s. plain-by s;
+  of-stream = λ film s o c e. stream-opens film s o c e;
+}

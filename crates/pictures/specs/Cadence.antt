@@ -13,7 +13,7 @@ use Rattle.scan.specs.declared.Found.the-variants.{At, Nothing}
 use Rattle.cadence.specs.Cadence.{opened}
 use Rattle.cadence.specs.declared.VbvCadence.{VbvCadence}
 
--- by the sequence header that s begins with; both flags 0 where it or its extension is refused (the report and the writer then refuse too)
+-- by the sequence header that s begins with; both flags 0 where it or its extension is refused (in film mode report and writer then refuse too)
 unfoldable pub cadenceBy : Bool → List ℕ → VbvCadence
 cadenceBy film s =
     orElse (opened film false false)

@@ -1,7 +1,7 @@
 -- The check accepts exactly the streams that pass, and no difference in their records is cut off.
 -- Assumes nothing.
-use mathlib.Core.Path.{_≡_, refl}
-use mathlib.Core.Bool.{true}
+use mathlib.Core.Path.{_≡_, refl, sym, _∙_}
+use mathlib.Core.Bool.{Bool, true, false}
 use mathlib.Core.List.{List, [], _∷_}
 use Prim.Native.Nat.{ℕ, suc, _+_, _*_, _≤_}
 use native.Mathlib.Omega.{arith}
@@ -17,6 +17,8 @@ use Rattle.bits.proofs.Flags.{was-no, was-held}
 use Rattle.bits.proofs.Following.{refused-value}
 use Rattle.vbv.proofs.Laws.{units-beyond, occupancy-least}
 use Rattle.pictures.specs.Front.{Front, front}
+use Rattle.pictures.specs.Cadence.{cadenceOf}
+use Rattle.cadence.specs.declared.VbvCadence.{VbvCadence}
 use Rattle.pictures.specs.Due as fr
 use Rattle.pictures.specs.Due.{Read, FrontDue}
 use Rattle.pictures.specs.Order.{Placed}
@@ -26,12 +28,15 @@ use Rattle.pictures.proofs.Due.{front-due, front-read}
 use Rattle.pictures.proofs.Order.{seen-rising}
 use Rattle.verify.specs.declared.CodedPicture.{CodedPicture}
 use Rattle.verify.specs.declared.VbvPictureRecord.{VbvPictureRecord}
+use Rattle.verify.specs.Mode.{modeFits}
 use Rattle.verify.specs.Coded.{timed}
+use Rattle.verify.specs.declared.VbvMode.{VbvMode}
 use Rattle.verify.specs.Run.{recordOf, removal, run}
-use Rattle.verify.specs.Check.{Accepted, accepted, withPictures, verdict}
+use Rattle.verify.specs.Check.{Accepted, accepted, withPictures, verdictBy, verdict}
 use Rattle.verify.specs.Accepted.{Conforms, Along, none, more, Passes, AcceptedExactly, Uncut, NothingCut}
 use Rattle.verify.proofs.Rising.{Rising, last, next, timed-rising, timed-length}
 use Rattle.verify.proofs.Conforming.{conforms, conforming}
+use Rattle.verify.proofs.Modes.{verdict-in, verdict-none}
 
 -- ---- a run, both ways
 
@@ -58,23 +63,33 @@ unfolding run
 along-run n none = refl
 along-run n (more h t) = rw (conforming n h, along-run (suc n) t)
 
--- ---- a stream that passes
+-- ---- a stream that passes, by a cadence before its first picture
 
-module _ {standard : VbvStandard} {s : List ℕ} {places : ℕ} {p : VbvParams} {r : VbvPictureRecord} {rs : List VbvPictureRecord} (a : Passes standard s places p (r ∷ rs)) where
-  pub judged-is : withPictures places p (a .first) (timed (a .first ∷ a .others)) ≡ value (record { params = p; first = r; others = rs })
+pub record PassesBy (standard : VbvStandard) (k : VbvCadence) (s : List ℕ) (places : ℕ) (p : VbvParams) (rs : List VbvPictureRecord) : Type 0 where
+  pub first : SeenPicture
+  pub others : List SeenPicture
+  pub is-read : Read standard s p first others
+  pub constant-rate : first .«vbv_delay» ≡ 0xFFFF → ⊥
+  pub params-fit : paramsFit p ≡ true
+  pub places-suffice : length (first ∷ others) ≤ places
+  pub removals : Along p (Conforms p) 0 (firstDelivered p (first .«pos_bits») (first .«vbv_delay»)) (timed k (first ∷ others)) rs
+
+module _ {standard : VbvStandard} {k : VbvCadence} {s : List ℕ} {places : ℕ} {p : VbvParams} {r : VbvPictureRecord} {rs : List VbvPictureRecord}
+    (a : PassesBy standard k s places p (r ∷ rs)) where
+  pub judged-is : withPictures places p (a .first) (timed k (a .first ∷ a .others)) ≡ value (record { params = p; first = r; others = rs })
   unfolding withPictures pick
   judged-is =
-      let l : length (timed (a .first ∷ a .others)) ≤ places = omega (arith, timed-length (a .first ∷ a .others), a .places-suffice) in
+      let l : length (timed k (a .first ∷ a .others)) ≤ places = omega (arith, timed-length k (a .first ∷ a .others), a .places-suffice) in
       rw (
         ne-eqb (a .first .«vbv_delay») 0xFFFF (a .constant-rate),
         a .params-fit,
-        le-ltb places (length (timed (a .first ∷ a .others))) l,
+        le-ltb places (length (timed k (a .first ∷ a .others))) l,
         along-run 0 (a .removals),
       )
 
-  passing : verdict standard s places ≡ value (record { params = p; first = r; others = rs })
-  unfolding verdict
-  passing = rw (front-read (a .is-read)) judged-is
+  passing-by : verdictBy standard k s places ≡ value (record { params = p; first = r; others = rs })
+  unfolding verdictBy
+  passing-by = rw (front-read (a .is-read)) judged-is
 
 -- ---- and back
 
@@ -84,15 +99,15 @@ was-ran (refused n k x y) h = absurd (refused-value h)
 was-ran (value []) h = absurd (refused-value h)
 was-ran {p} {v} (value (r ∷ rs)) h = let e : record { params = p; first = r; others = rs } ≡ v = cc in (rw (← e), rw (← e))
 
-module _ (standard : VbvStandard) (s : List ℕ) (places : ℕ) {v : Accepted} where
+module _ (standard : VbvStandard) (k : VbvCadence) (s : List ℕ) (places : ℕ) {v : Accepted} where
   by-pictures : {q : VbvParams} {x : SeenPicture} {xs : List SeenPicture} → Read standard s q x xs
-      → withPictures places q x (timed (x ∷ xs)) ≡ value v → Passes standard s places (v .params) (v .first ∷ v .others)
+      → withPictures places q x (timed k (x ∷ xs)) ≡ value v → PassesBy standard k s places (v .params) (v .first ∷ v .others)
   unfolding withPictures
   by-pictures {q} {x} {xs} g h =
       let a = was-no _ _ _ refused-value h in
       let b = was-held (paramsFit q) _ _ refused-value (a .1) in
       let e = was-no _ _ _ refused-value (b .1) in
-      let f = was-ran (run q 0 0 (firstDelivered q (x .«pos_bits») (x .«vbv_delay»)) (timed (x ∷ xs))) (e .1) in
+      let f = was-ran (run q 0 0 (firstDelivered q (x .«pos_bits») (x .«vbv_delay»)) (timed k (x ∷ xs))) (e .1) in
       rw (← f .0)
       record {
         first = x;
@@ -100,28 +115,69 @@ module _ (standard : VbvStandard) (s : List ℕ) (places : ℕ) {v : Accepted} w
         is-read = g;
         constant-rate = eqb-false (x .«vbv_delay») 0xFFFF (a .0);
         params-fit = b .0;
-        places-suffice = omega (arith, timed-length (x ∷ xs), ltb-false places (length (timed (x ∷ xs))) (e .0));
-        removals = run-along q 0 0 _ (timed (x ∷ xs)) (v .first ∷ v .others) (f .1);
+        places-suffice = omega (arith, timed-length k (x ∷ xs), ltb-false places (length (timed k (x ∷ xs))) (e .0));
+        removals = run-along q 0 0 _ (timed k (x ∷ xs)) (v .first ∷ v .others) (f .1);
       }
 
   by-front : (a : Answer Front) → FrontDue standard s a
-      → andThen a (λ f. withPictures places (f .params) (f .first) (timed (f .first ∷ f .others))) ≡ value v
-      → Passes standard s places (v .params) (v .first ∷ v .others)
-  by-front (refused n k i j) d h = absurd (refused-value h)
+      → andThen a (λ f. withPictures places (f .params) (f .first) (timed k (f .first ∷ f .others))) ≡ value v
+      → PassesBy standard k s places (v .params) (v .first ∷ v .others)
+  by-front (refused n i c j) d h = absurd (refused-value h)
   by-front (value f) (fr.all-read g) h = by-pictures g h
 
-  pub passed : verdict standard s places ≡ value v → Passes standard s places (v .params) (v .first ∷ v .others)
-  unfolding verdict
-  passed h = by-front (front standard s) (front-due standard s) h
+  pub passed-by : verdictBy standard k s places ≡ value v → PassesBy standard k s places (v .params) (v .first ∷ v .others)
+  unfolding verdictBy
+  passed-by h = by-front (front standard s) (front-due standard s) h
+
+-- ---- in a mode
+
+pub in-mode : {m : VbvMode} {s : List ℕ} {places : ℕ} {p : VbvParams} {rs : List VbvPictureRecord} → Passes m s places p rs → PassesBy (m .standard) (cadenceOf (m .film) s) s places p rs
+in-mode a = record {
+  first = a .first;
+  others = a .others;
+  is-read = a .is-read .is-read;
+  constant-rate = a .constant-rate;
+  params-fit = a .params-fit;
+  places-suffice = a .places-suffice;
+  removals = a .removals;
+}
+
+of-mode : {m : VbvMode} {s : List ℕ} {places : ℕ} {p : VbvParams} {rs : List VbvPictureRecord} → modeFits m ≡ true → PassesBy (m .standard) (cadenceOf (m .film) s) s places p rs
+    → Passes m s places p rs
+of-mode h a = record {
+  first = a .first;
+  others = a .others;
+  is-read = record { mode-fits = h; is-read = a .is-read };
+  constant-rate = a .constant-rate;
+  params-fit = a .params-fit;
+  places-suffice = a .places-suffice;
+  removals = a .removals;
+}
+
+module _ (m : VbvMode) (s : List ℕ) (places : ℕ) where
+  pub passed : {v : Accepted} → verdict m s places ≡ value v → Passes m s places (v .params) (v .first ∷ v .others)
+  passed {v} h = go (modeFits m) refl
+    where
+      go : (b : Bool) → modeFits m ≡ b → Passes m s places (v .params) (v .first ∷ v .others)
+      go true e = of-mode e (passed-by (m .standard) (cadenceOf (m .film) s) s places (sym (verdict-in m s places e) ∙ h))
+      go false e = absurd (refused-value (sym (verdict-none m s places e) ∙ h))
+
+  passing : {p : VbvParams} {r : VbvPictureRecord} {rs : List VbvPictureRecord} → Passes m s places p (r ∷ rs)
+      → verdict m s places ≡ value (record { params = p; first = r; others = rs })
+  passing a = verdict-in m s places (a .is-read .mode-fits) ∙ passing-by (in-mode a)
 
 pub accepted-exactly : AcceptedExactly
-accepted-exactly standard s places a = (passed standard s places, passing)
+accepted-exactly m s places a = (passed m s places, passing m s places)
 
 -- ---- where the pictures of such a stream lie
 
-pub are-rising : {standard : VbvStandard} {s : List ℕ} {places : ℕ} {p : VbvParams} {rs : List VbvPictureRecord} (a : Passes standard s places p rs)
-    → Rising 0 (timed (a .first ∷ a .others))
-are-rising {standard} {s} a = timed-rising (seen-rising standard s (a .first ∷ a .others) (a .is-read .short) (a .is-read .pictures-are))
+pub rising-by : {standard : VbvStandard} {k : VbvCadence} {s : List ℕ} {places : ℕ} {p : VbvParams} {rs : List VbvPictureRecord} (a : PassesBy standard k s places p rs)
+    → Rising 0 (timed k (a .first ∷ a .others))
+rising-by {standard} {k} {s} a = timed-rising k (seen-rising standard s (a .first ∷ a .others) (a .is-read .short) (a .is-read .pictures-are))
+
+pub are-rising : {m : VbvMode} {s : List ℕ} {places : ℕ} {p : VbvParams} {rs : List VbvPictureRecord} (a : Passes m s places p rs)
+    → Rising 0 (timed (cadenceOf (m .film) s) (a .first ∷ a .others))
+are-rising {m} {s} a = timed-rising (cadenceOf (m .film) s) (seen-rising (m .standard) s (a .first ∷ a .others) (a .is-read .is-read .short) (a .is-read .is-read .pictures-are))
 
 -- ---- no difference is cut off
 
@@ -143,4 +199,4 @@ module _ {p : VbvParams} (f : paramsFit p ≡ true) where
   along-uncut (next q t) (more w u) = more (removal-uncut q w) (along-uncut t u)
 
 pub nothing-cut : NothingCut
-nothing-cut standard s places p rs a = along-uncut (a .params-fit) (are-rising a) (a .removals)
+nothing-cut m s places p rs a = along-uncut (a .params-fit) (are-rising a) (a .removals)

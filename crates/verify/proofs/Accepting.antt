@@ -13,13 +13,13 @@ use Rattle.vbv.specs.declared.VbvParams.{VbvParams}
 use Rattle.vbv.proofs.Laws.{over-units, beyond-units}
 use Rattle.verify.specs.declared.CodedPicture.{CodedPicture}
 use Rattle.verify.specs.declared.VbvPictureRecord.{VbvPictureRecord}
-use Rattle.pictures.specs.Due.{Read}
-use Rattle.pictures.specs.declared.VbvStandard.{VbvStandard}
+use Rattle.pictures.specs.Cadence.{cadenceOf}
 use Rattle.pictures.specs.declared.SeenPicture.{SeenPicture}
 use Rattle.verify.specs.Coded.{timed}
+use Rattle.verify.specs.declared.VbvMode.{VbvMode}
 use Rattle.verify.specs.Run.{recordOf, run}
 use Rattle.verify.specs.Check.{verdict}
-use Rattle.verify.specs.Accepted.{Conforms}
+use Rattle.verify.specs.Accepted.{Conforms, ReadIn}
 use Rattle.verify.proofs.Conforming.{conforming}
 use Rattle.verify.proofs.Accepted.{run-along, accepted-exactly}
 
@@ -65,18 +65,18 @@ pub run-passed : {p : VbvParams} {previous d : ℕ} {c : CodedPicture} (n : ℕ)
 unfolding run
 run-passed n cs h e = rw (conforming n (passed-conforms h), e)
 
-pub accepted : {standard : VbvStandard} {s : List ℕ} {p : VbvParams} {x : SeenPicture} {xs : List SeenPicture} {r : VbvPictureRecord} {rs : List VbvPictureRecord}
-    (places : ℕ) → Read standard s p x xs → x .«vbv_delay» ≤ 65534 → paramsFit p ≡ true → length (x ∷ xs) ≤ places
-    → run p 0 0 (firstDelivered p (x .«pos_bits») (x .«vbv_delay»)) (timed (x ∷ xs)) ≡ value (r ∷ rs)
-    → verdict standard s places ≡ value (record { params = p; first = r; others = rs })
-accepted {standard} {s} {p} {x} {xs} {r} {rs} places g e f m t =
-    accepted-exactly standard s places (record { params = p; first = r; others = rs }) .1
+pub accepted : {m : VbvMode} {s : List ℕ} {p : VbvParams} {x : SeenPicture} {xs : List SeenPicture} {r : VbvPictureRecord} {rs : List VbvPictureRecord}
+    (places : ℕ) → ReadIn m s p x xs → x .«vbv_delay» ≤ 65534 → paramsFit p ≡ true → length (x ∷ xs) ≤ places
+    → run p 0 0 (firstDelivered p (x .«pos_bits») (x .«vbv_delay»)) (timed (cadenceOf (m .film) s) (x ∷ xs)) ≡ value (r ∷ rs)
+    → verdict m s places ≡ value (record { params = p; first = r; others = rs })
+accepted {m} {s} {p} {x} {xs} {r} {rs} places g e f l t =
+    accepted-exactly m s places (record { params = p; first = r; others = rs }) .1
     (record {
       first = x;
       others = xs;
       is-read = g;
       constant-rate = λ z. omega arith;
       params-fit = f;
-      places-suffice = m;
-      removals = run-along p 0 0 _ (timed (x ∷ xs)) (r ∷ rs) t;
+      places-suffice = l;
+      removals = run-along p 0 0 _ (timed (cadenceOf (m .film) s) (x ∷ xs)) (r ∷ rs) t;
     })

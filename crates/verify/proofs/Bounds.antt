@@ -53,8 +53,8 @@ module _ {p : VbvParams} (f : paramsFit p ≡ true) where
   along-small (next q t) (ac.more w u) = some (removal-small q w) (along-small t u)
 
 pub records-small : RecordsSmall
-records-small standard s places = go (verdict standard s places) refl
+records-small m s places = go (verdict m s places) refl
   where
-    go : (v : Answer Accepted) → verdict standard s places ≡ v → AllSmall (records v)
+    go : (v : Answer Accepted) → verdict m s places ≡ v → AllSmall (records v)
     go (refused n k x y) h = none
-    go (value v) h = let a = passed standard s places h in along-small (a .params-fit) (are-rising a) (a .removals)
+    go (value v) h = let a = passed m s places h in along-small (a .params-fit) (are-rising a) (a .removals)

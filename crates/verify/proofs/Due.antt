@@ -16,16 +16,19 @@ use Rattle.vbv.specs.declared.VbvParams.{VbvParams}
 use Rattle.vbv.proofs.Laws.{over-units, over-full, beyond-units, beyond-there}
 use Rattle.pictures.specs.Front.{Front, front}
 use Rattle.pictures.specs.Due as fr
-use Rattle.pictures.specs.Due.{Read, FrontDue}
-use Rattle.pictures.specs.declared.VbvStandard.{VbvStandard}
+use Rattle.pictures.specs.Due.{FrontDue}
+use Rattle.pictures.specs.Cadence.{cadenceOf}
 use Rattle.pictures.specs.declared.SeenPicture.{SeenPicture}
 use Rattle.pictures.proofs.Due.{front-due}
-use Rattle.verify.specs.Coded.{timed}
+use Rattle.verify.specs.Mode.{modeFits}
+use Rattle.verify.specs.Accepted.{ReadIn, timedIn}
 use Rattle.verify.specs.Run.{apart, removal, run}
-use Rattle.verify.specs.Check.{Accepted, accepted, withPictures, verdict}
+use Rattle.verify.specs.Check.{Accepted, accepted, withPictures, verdictBy, verdict}
 use Rattle.verify.specs.Due as due
 use Rattle.verify.specs.Due.{expectedAt, AsExpected, RemovalDue, RunDue, Modelled, VerdictDue, CheckDue}
+use Rattle.verify.specs.declared.VbvMode.{VbvMode}
 use Rattle.verify.specs.declared.CodedPicture.{CodedPicture}
+use Rattle.verify.proofs.Modes.{unfit-mode}
 use Rattle.verify.proofs.Rising.{timed-first, timed-length}
 use Rattle.verify.specs.declared.VbvPictureRecord.{VbvPictureRecord}
 
@@ -81,36 +84,39 @@ run-due p n previous d (c ∷ cs) = run-step _ (removal-due p n previous d c) _ 
 
 -- ---- the verdict
 
-module _ (standard : VbvStandard) (s : List ℕ) (places : ℕ) where
+module _ (m : VbvMode) (s : List ℕ) (places : ℕ) where
   abbrev J : Answer Accepted → Type 0
-  J a = VerdictDue standard s places a
+  J a = VerdictDue m s places a
 
-  ran : {p : VbvParams} {x : SeenPicture} {xs : List SeenPicture} → Modelled standard s places p x xs → (a : Answer (List VbvPictureRecord))
-      → RunDue p 0 0 (firstDelivered p (x .«pos_bits») (x .«vbv_delay»)) (timed (x ∷ xs)) a → J (andThen a (accepted p))
+  ran : {p : VbvParams} {x : SeenPicture} {xs : List SeenPicture} → Modelled m s places p x xs → (a : Answer (List VbvPictureRecord))
+      → RunDue p 0 0 (firstDelivered p (x .«pos_bits») (x .«vbv_delay»)) (timedIn m s (x ∷ xs)) a → J (andThen a (accepted p))
   ran {p} {x} {xs} g (refused n k i j) h = due.stopped {p = p} {x = x} {xs = xs} {n = n} {k = k} {i = i} {j = j} g h
   ran {p} {x} {xs} g (value (r ∷ rs)) h = due.accepted {p = p} {x = x} {xs = xs} {r = r} {rs = rs} g h
-  ran {x = x} {xs} g (value []) h = absurd (none (rw (timed-first x xs) at h))
+  ran {x = x} {xs} g (value []) h = absurd (none (rw (timed-first (cadenceOf (m .film) s) x xs) at h))
     where
       none : {p : VbvParams} {n previous d : ℕ} {c : CodedPicture} {cs : List CodedPicture} → RunDue p n previous d (c ∷ cs) (value []) → ⊥
       none = elim [ ]
 
-  with-pictures : {p : VbvParams} {x : SeenPicture} {xs : List SeenPicture} → Read standard s p x xs → J (withPictures places p x (timed (x ∷ xs)))
+  with-pictures : {p : VbvParams} {x : SeenPicture} {xs : List SeenPicture} → ReadIn m s p x xs → J (withPictures places p x (timedIn m s (x ∷ xs)))
   unfolding withPictures
   with-pictures {p} {x} {xs} g =
-      let l = timed-length (x ∷ xs) in
+      let l = timed-length (cadenceOf (m .film) s) (x ∷ xs) in
       pick-elim J _ (λ z. due.variable-rate g (eqb-true _ _ z)) λ h5.
       pick-elim J _ (λ z. due.unfit g (eqb-false _ _ h5) (not-true _ z)) λ h12.
-      pick-elim J _ (λ z. due.few-places g (eqb-false _ _ h5) (not-false _ h12) (omega (arith, ltb-true places (length (timed (x ∷ xs))) z))) λ h15.
-      ran (record { is-read = g; constant-rate = eqb-false _ _ h5; params-fit = not-false _ h12; places-suffice = omega (arith, ltb-false places (length (timed (x ∷ xs))) h15) }) _
-      (run-due p 0 0 (firstDelivered p (x .«pos_bits») (x .«vbv_delay»)) (timed (x ∷ xs)))
+      pick-elim J _ (λ z. due.few-places g (eqb-false _ _ h5) (not-false _ h12) (omega (arith, ltb-true places (length (timedIn m s (x ∷ xs))) z))) λ h15.
+      ran (record { is-read = g; constant-rate = eqb-false _ _ h5; params-fit = not-false _ h12; places-suffice = omega (arith, ltb-false places (length (timedIn m s (x ∷ xs))) h15) }) _
+      (run-due p 0 0 (firstDelivered p (x .«pos_bits») (x .«vbv_delay»)) (timedIn m s (x ∷ xs)))
 
-  by-front : (a : Answer Front) → FrontDue standard s a → J (andThen a (λ f. withPictures places (f .params) (f .first) (timed (f .first ∷ f .others))))
-  by-front (refused n k i j) d = due.by-front d
-  by-front (value f) (fr.all-read g) = with-pictures g
+  by-front : modeFits m ≡ true → (a : Answer Front) → FrontDue (m .standard) s a
+      → J (andThen a (λ f. withPictures places (f .params) (f .first) (timedIn m s (f .first ∷ f .others))))
+  by-front e (refused n k i j) d = due.by-front e d
+  by-front e (value f) (fr.all-read g) = with-pictures (record { mode-fits = e; is-read = g })
 
-  verdict-due : J (verdict standard s places)
-  unfolding verdict
-  verdict-due = by-front (front standard s) (front-due standard s)
+  verdict-due : J (verdict m s places)
+  unfolding verdict verdictBy
+  verdict-due =
+      pick-elim J _ (λ z. let u = unfit-mode m (not-true _ z) in due.no-film (u .0) (u .1)) λ h.
+      by-front (not-false _ h) (front (m .standard) s) (front-due (m .standard) s)
 
 pub check-due : CheckDue
-check-due standard s places = verdict-due standard s places
+check-due m s places = verdict-due m s places

@@ -9,7 +9,11 @@ use lib.ListN.{length, set, length-set}
 use lib.Seq.{sets}
 use Rattle.bits.specs.Answers.{over}
 use Rattle.bits.proofs.Over.{over-sets}
+use mathlib.Core.Bool.{false}
+use Rattle.cadence.specs.Cadence.{opened}
 use Rattle.pictures.specs.Front.{opening}
+use Rattle.pictures.proofs.Cadences.{plain-of}
+use Rattle.verify.specs.Mode.{plain}
 use Rattle.pictures.specs.declared.VbvStandard.{VbvStandard}
 use Rattle.verify.specs.Answers.{verifiedAnswer}
 use Rattle.verify.specs.Check.{verdict, reported, records}
@@ -47,14 +51,14 @@ laid-over : (s : List ℕ) (w : VbvRecorder) (i j : ℕ) (ys : List VbvPictureRe
 laid-over s w zero j ys = rw (records-none s w)
 laid-over s w (suc i) j ys = rw (records-front s w i) (stored-front s w j i ys ∙ laid-over s (nextRecord s w .recorder) i (suc j) (set ys j (nextRecord s w .last)))
 
--- as many as the answer has
-pub stored-is : (standard : VbvStandard) (s : List ℕ) (ys : List VbvPictureRecord) (r : VbvVerified) → verifiedAnswer r ≡ reported (verdict standard s (length ys))
-    → storedOf s (recorderOf standard (opening standard s)) (recordCount r) ys ≡ over (records (verdict standard s (length ys))) ys
+-- as many as the answer has, outside film
+pub stored-is : (standard : VbvStandard) (s : List ℕ) (ys : List VbvPictureRecord) (r : VbvVerified) → verifiedAnswer r ≡ reported (verdict (plain standard) s (length ys))
+    → storedOf s (recorderOf standard (opened false false false) (opening standard s)) (recordCount r) ys ≡ over (records (verdict (plain standard) s (length ys))) ys
 stored-is standard s ys r h =
-    let w = recorderOf standard (opening standard s) in
-    let k = recorded standard s (length ys) r h in
-    from-first s w (recordCount r) ys ∙ laid-over s w (recordCount r) 0 ys ∙ rw (k .each) (over-sets (records (verdict standard s (length ys))) ys (omega (arith, k .few, k .count)))
+    let w = recorderOf standard (opened false false false) (opening standard s) in
+    let k = rw (plain-of s) at (recorded (plain standard) s (length ys) r h) in
+    from-first s w (recordCount r) ys ∙ laid-over s w (recordCount r) 0 ys ∙ rw (k .each) (over-sets (records (verdict (plain standard) s (length ys))) ys (omega (arith, k .few, k .count)))
 
-pub count-few : (standard : VbvStandard) (s : List ℕ) (places : ℕ) (r : VbvVerified) → verifiedAnswer r ≡ reported (verdict standard s places)
+pub count-few : (standard : VbvStandard) (s : List ℕ) (places : ℕ) (r : VbvVerified) → verifiedAnswer r ≡ reported (verdict (plain standard) s places)
     → recordCount r ≤ places
-count-few standard s places r h = recorded standard s places r h .few
+count-few standard s places r h = recorded (plain standard) s places r h .few

@@ -1,3 +1,4 @@
+pub mod Modes
 pub mod Rising
 pub mod Walking
 pub mod Removal

@@ -12,13 +12,14 @@ use Rattle.bits.specs.Numbers.{Numbered, a-value, by-number, by-all}
 use Rattle.vbv.specs.declared.VbvParams.{VbvParams}
 use Rattle.bits.proofs.Numbering.{and-then, wider}
 use Rattle.scan.specs.Pictures.{pictures}
-use Rattle.pictures.specs.declared.VbvStandard.{VbvStandard}
+use Rattle.pictures.specs.Cadence.{cadenceOf}
 use Rattle.pictures.specs.declared.SeenPicture.{SeenPicture}
 use Rattle.pictures.proofs.Numbering.{front-numbers}
 use Rattle.verify.specs.Coded.{timed}
 use Rattle.verify.specs.Run.{removal, run}
-use Rattle.verify.specs.Check.{accepted, verdict}
+use Rattle.verify.specs.Check.{Accepted, accepted, verdictBy, verdict}
 use Rattle.verify.specs.Numbers.{CheckNumbers}
+use Rattle.verify.specs.declared.VbvMode.{VbvMode}
 use Rattle.verify.specs.declared.CodedPicture.{CodedPicture}
 use Rattle.verify.specs.declared.VbvPictureRecord.{VbvPictureRecord}
 use Rattle.verify.proofs.Places.{unplaced, placed-or-15, none-asked}
@@ -61,17 +62,23 @@ unplaced-numbered p x cs =
     pick-elim Of _ (λ e. by-number refl) λ e.
     and-then (accepted p) (run-numbered p 0 0 _ cs) (accepted-numbered p)
 
+abbrev All : Answer Accepted → Type 0
+All a = Numbered (12 ∷ 14 ∷ 3 ∷ 1 ∷ 2 ∷ 6 ∷ 4 ∷ 5 ∷ 12 ∷ 15 ∷ 7 ∷ 8 ∷ []) [] (11 ∷ 9 ∷ 10 ∷ []) a
+
 pub check-numbers : CheckNumbers
-unfolding verdict
-check-numbers standard s places =
-    and-then _ (wider refl refl refl (front-numbers .front-has standard s)) λ f.
-    placed-or-15 (Numbered (14 ∷ 3 ∷ 1 ∷ 2 ∷ 6 ∷ 4 ∷ 5 ∷ 12 ∷ 15 ∷ 7 ∷ 8 ∷ []) [] (11 ∷ 9 ∷ 10 ∷ [])) places (f .params) (f .first) (timed (f .first ∷ f .others))
-    (by-number refl) (wider refl refl refl (unplaced-numbered (f .params) (f .first) (timed (f .first ∷ f .others))))
+unfolding verdict verdictBy
+check-numbers m s places =
+    pick-elim All _ (λ e. by-number refl) λ e.
+    and-then _ (wider refl refl refl (front-numbers .front-has (m .standard) s)) λ f.
+    placed-or-15 All places (f .params) (f .first) (timed (cadenceOf (m .film) s) (f .first ∷ f .others))
+    (by-number refl) (wider refl refl refl (unplaced-numbered (f .params) (f .first) (timed (cadenceOf (m .film) s) (f .first ∷ f .others))))
 
 -- no 15 where each picture has a place
-pub enough-numbers : (standard : VbvStandard) (s : List ℕ) (places : ℕ) → length (pictures s) ≤ places
-    → Numbered (14 ∷ 3 ∷ 1 ∷ 2 ∷ 6 ∷ 4 ∷ 5 ∷ 12 ∷ 7 ∷ 8 ∷ []) [] (11 ∷ 9 ∷ 10 ∷ []) (verdict standard s places)
-enough-numbers standard s places l =
-    rw (none-asked standard s places l)
-    (and-then _ (wider refl refl refl (front-numbers .front-has standard s)) λ f.
-    unplaced-numbered (f .params) (f .first) (timed (f .first ∷ f .others)))
+pub enough-numbers : (m : VbvMode) (s : List ℕ) (places : ℕ) → length (pictures s) ≤ places
+    → Numbered (14 ∷ 3 ∷ 1 ∷ 2 ∷ 6 ∷ 4 ∷ 5 ∷ 12 ∷ 7 ∷ 8 ∷ []) [] (11 ∷ 9 ∷ 10 ∷ []) (verdict m s places)
+unfolding verdict
+enough-numbers m s places l =
+    pick-elim Of _ (λ e. by-number refl) λ e.
+    rw (none-asked (m .standard) (cadenceOf (m .film) s) s places l)
+    (and-then _ (wider refl refl refl (front-numbers .front-has (m .standard) s)) λ f.
+    unplaced-numbered (f .params) (f .first) (timed (cadenceOf (m .film) s) (f .first ∷ f .others)))

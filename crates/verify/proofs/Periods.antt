@@ -1,13 +1,22 @@
 -- The periods in the records are those of the gain, and go by the pictures' structure.
 -- Assumes nothing.
 use mathlib.Core.Path.{_≡_, ap, _∙_}
-use mathlib.Core.Bool.{false}
+use mathlib.Core.Bool.{Bool, true, false}
 use mathlib.Core.List.{List, [], _∷_}
 use Prim.Native.Nat.{ℕ}
 use Rattle.bits.specs.Refusals.{value}
 use Rattle.vbv.specs.Model.{periods, intervalOf}
 use Rattle.vbv.specs.declared.VbvParams.{VbvParams}
 use Rattle.vbv.proofs.Fitting.{field-lasts, frame-lasts}
+use Rattle.picture_header.specs.declared.PictureFacts.{PictureFacts}
+use Rattle.cadence.specs.Cadence.{after}
+use Rattle.cadence.specs.History.{cadenceAfter}
+use Rattle.cadence.specs.declared.VbvCadence.{VbvCadence}
+use Rattle.cadence.proofs.Plain.{outside-film}
+use Rattle.cadence.proofs.Keeping.{film-kept}
+use Rattle.cadence.proofs.History.{after-more, by-history}
+use Rattle.pictures.specs.Cadence.{cadenceOf}
+use Rattle.pictures.proofs.Cadences.{of-film, first-cadence}
 use Rattle.pictures.specs.Seen.{seenPictures}
 use Rattle.pictures.specs.declared.SeenPicture.{SeenPicture}
 use Rattle.pictures.specs.declared.VbvStandard.{VbvStandard}
@@ -17,7 +26,7 @@ use Rattle.verify.specs.Coded.{timed}
 use Rattle.verify.specs.Run.{recordOf}
 use Rattle.verify.specs.Accepted as ac
 use Rattle.verify.specs.Accepted.{Conforms, Along}
-use Rattle.verify.specs.Periods.{Counted, no-more, one-more, Lasts, Paired, none, more, PeriodsTold}
+use Rattle.verify.specs.Periods.{Counted, no-more, one-more, Lasts, Paired, none, more, FilmPaired, no-picture, picture-then, PeriodsTold}
 use Rattle.verify.specs.declared.CodedPicture.{CodedPicture}
 use Rattle.verify.specs.declared.VbvPictureRecord.{VbvPictureRecord}
 
@@ -33,17 +42,31 @@ lasts : {standard : VbvStandard} {x : SeenPicture} {r : VbvPictureRecord} → (s
     → r .periods ≡ periods (intervalOf (x .facts .field)) → Lasts standard x r
 lasts f h = record { a-field = λ e. h ∙ rw e field-lasts; a-frame = λ e. h ∙ rw e frame-lasts; in-mpeg-1 = λ e. h ∙ rw (f e) frame-lasts }
 
-paired : {p : VbvParams} {previous d : ℕ} {standard : VbvStandard} (xs : List SeenPicture) {rs : List VbvPictureRecord} → (standard ≡ Mpeg1 → Frames xs)
-    → Along p (Conforms p) previous d (timed xs) rs → Paired standard xs rs
+paired : {p : VbvParams} {previous d : ℕ} {standard : VbvStandard} (k : VbvCadence) (xs : List SeenPicture) {rs : List VbvPictureRecord} → k .film ≡ false → (standard ≡ Mpeg1 → Frames xs)
+    → Along p (Conforms p) previous d (timed k xs) rs → Paired standard xs rs
 unfolding timed
-paired [] f ac.none = none
-paired (x ∷ xs) f (ac.more w t) = more (lasts (λ e. first-frame (f e)) (periods-are w)) (paired xs (λ e. other-frames (f e)) t)
+paired k [] z f ac.none = none
+paired k (x ∷ xs) z f (ac.more w t) =
+    more (lasts (λ e. first-frame (f e)) (periods-are w ∙ ap periods (outside-film .as-before k (x .facts) z)))
+    (paired (after k (x .facts)) xs (rw (film-kept k (x .facts)) z) (λ e. other-frames (f e)) t)
 
 frames-in : (standard : VbvStandard) (s : List ℕ) (xs : List SeenPicture) → seenPictures standard s ≡ value xs → standard ≡ Mpeg1 → Frames xs
 frames-in standard s xs h e = all-frames s xs (rw e at h)
 
+-- in film mode, by the pictures before
+film-paired : {p : VbvParams} {previous d : ℕ} (progressive low : Bool) (before : List PictureFacts) (xs : List SeenPicture) {rs : List VbvPictureRecord}
+    → Along p (Conforms p) previous d (timed (cadenceAfter progressive low before) xs) rs → FilmPaired progressive low before xs rs
+unfolding timed
+film-paired progressive low before [] ac.none = no-picture
+film-paired progressive low before (x ∷ xs) (ac.more w t) =
+    picture-then (periods-are w ∙ by-history progressive low before (x .facts))
+    (film-paired progressive low (x .facts ∷ before) xs (rw (after-more progressive low before (x .facts)) t))
+
 pub periods-told : PeriodsTold
 periods-told = record {
-  up-to-next = λ standard s places p rs a. counted (a .removals);
-  by-structure = λ standard s places p rs a. paired (a .first ∷ a .others) (frames-in standard s (a .first ∷ a .others) (a .is-read .pictures-are)) (a .removals);
+  up-to-next = λ m s places p rs a. counted (a .removals);
+  by-structure = λ m s places p rs a z.
+      paired (cadenceOf (m .film) s) (a .first ∷ a .others) (rw (of-film (m .film) s) z) (frames-in (m .standard) s (a .first ∷ a .others) (a .is-read .is-read .pictures-are)) (a .removals);
+  by-film = λ m s places p rs a z.
+      film-paired (cadenceOf true s .progressive) (cadenceOf true s .«low_delay») [] (a .first ∷ a .others) (rw (← first-cadence s, ← z) (a .removals));
 }

@@ -18,15 +18,18 @@ use Rattle.scan.specs.Pictures.{pictures}
 use Rattle.pictures.specs.Front.{Front, front}
 use Rattle.pictures.specs.Due as fr
 use Rattle.pictures.specs.Due.{FrontDue}
+use Rattle.pictures.specs.Cadence.{cadenceOf}
 use Rattle.pictures.specs.declared.VbvStandard.{VbvStandard}
+use Rattle.cadence.specs.declared.VbvCadence.{VbvCadence}
 use Rattle.pictures.specs.declared.SeenPicture.{SeenPicture}
 use Rattle.pictures.proofs.Due.{front-due}
 use Rattle.pictures.proofs.Order.{seen-length}
+use Rattle.verify.specs.declared.VbvMode.{VbvMode}
 use Rattle.verify.specs.declared.CodedPicture.{CodedPicture}
 use Rattle.verify.specs.declared.VbvPictureRecord.{VbvPictureRecord}
 use Rattle.verify.specs.Coded.{timed}
 use Rattle.verify.specs.Run.{run}
-use Rattle.verify.specs.Check.{Accepted, accepted, withPictures, verdict}
+use Rattle.verify.specs.Check.{Accepted, accepted, withPictures, verdictBy, verdict}
 use Rattle.verify.specs.Accepted.{Along, none, more}
 use Rattle.verify.proofs.Rising.{timed-length}
 use Rattle.verify.proofs.Accepted.{passed}
@@ -55,46 +58,57 @@ placed-or-15 P places p x cs few =
 
 -- ---- a stream
 
-module _ (standard : VbvStandard) (s : List ℕ) where
+module _ (standard : VbvStandard) (k : VbvCadence) (s : List ℕ) where
   -- by what the front answers
   abbrev asked : ℕ → Answer Front → Answer Accepted
-  asked places a = andThen a (λ f. withPictures places (f .params) (f .first) (timed (f .first ∷ f .others)))
+  asked places a = andThen a (λ f. withPictures places (f .params) (f .first) (timed k (f .first ∷ f .others)))
 
   abbrev pub unasked : Answer Front → Answer Accepted
-  unasked a = andThen a (λ f. unplaced (f .params) (f .first) (timed (f .first ∷ f .others)))
+  unasked a = andThen a (λ f. unplaced (f .params) (f .first) (timed k (f .first ∷ f .others)))
 
   all-placed : (places : ℕ) → length (pictures s) ≤ places → (a : Answer Front) → FrontDue standard s a → asked places a ≡ unasked a
-  all-placed places l (refused n k i j) d = refl
+  all-placed places l (refused n c i j) d = refl
   all-placed places l (value f) (fr.all-read {p} {x} {xs} r) =
-      placed places p x (timed (x ∷ xs)) (omega (arith, timed-length (x ∷ xs), seen-length standard s (x ∷ xs) (r .pictures-are)))
+      placed places p x (timed k (x ∷ xs)) (omega (arith, timed-length k (x ∷ xs), seen-length standard s (x ∷ xs) (r .pictures-are)))
 
-  pub none-asked : (places : ℕ) → length (pictures s) ≤ places → verdict standard s places ≡ unasked (front standard s)
-  unfolding verdict
+  pub none-asked : (places : ℕ) → length (pictures s) ≤ places → verdictBy standard k s places ≡ unasked (front standard s)
+  unfolding verdictBy
   none-asked places l = all-placed places l (front standard s) (front-due standard s)
 
   not-15 : (places : ℕ) (a : Answer Front) → (number (asked places a) ≡ 15 → ⊥) → asked places a ≡ unasked a
-  not-15 places (refused n k i j) h = refl
+  not-15 places (refused n c i j) h = refl
   not-15 places (value f) h =
-      placed-or-15 (λ a. (number a ≡ 15 → ⊥) → a ≡ unasked (value f)) places (f .params) (f .first) (timed (f .first ∷ f .others)) (λ n. absurd (n refl)) (λ n. refl) h
+      placed-or-15 (λ a. (number a ≡ 15 → ⊥) → a ≡ unasked (value f)) places (f .params) (f .first) (timed k (f .first ∷ f .others)) (λ n. absurd (n refl)) (λ n. refl) h
 
-  pub enough-places : (places : ℕ) → length (pictures s) ≤ places → verdict standard s places ≡ verdict standard s (length (pictures s))
-  enough-places places l = none-asked places l ∙ sym (none-asked (length (pictures s)) (omega arith))
+  enough-by : (places : ℕ) → length (pictures s) ≤ places → verdictBy standard k s places ≡ verdictBy standard k s (length (pictures s))
+  enough-by places l = none-asked places l ∙ sym (none-asked (length (pictures s)) (omega arith))
 
-  pub other-than-15 : (places : ℕ) → (number (verdict standard s places) ≡ 15 → ⊥) → verdict standard s places ≡ verdict standard s (length (pictures s))
+  other-by : (places : ℕ) → (number (verdictBy standard k s places) ≡ 15 → ⊥) → verdictBy standard k s places ≡ verdictBy standard k s (length (pictures s))
+  unfolding verdictBy
+  other-by places h = not-15 places (front standard s) h ∙ sym (none-asked (length (pictures s)) (omega arith))
+
+along-length : {p : VbvParams} {Each : ℕ → ℕ → CodedPicture → VbvPictureRecord → Type 0} {previous d : ℕ} {cs : List CodedPicture} {rs : List VbvPictureRecord}
+    → Along p Each previous d cs rs → length rs ≡ length cs
+along-length none = refl
+along-length (more h t) = ap suc (along-length t)
+
+-- ---- in a mode
+
+module _ (m : VbvMode) (s : List ℕ) where
+  pub enough-places : (places : ℕ) → length (pictures s) ≤ places → verdict m s places ≡ verdict m s (length (pictures s))
   unfolding verdict
-  other-than-15 places h = not-15 places (front standard s) h ∙ sym (none-asked (length (pictures s)) (omega arith))
+  enough-places places l = rw (enough-by (m .standard) (cadenceOf (m .film) s) s places l)
 
-  -- ---- a stream that is accepted
+  pub other-than-15 : (places : ℕ) → (number (verdict m s places) ≡ 15 → ⊥) → verdict m s places ≡ verdict m s (length (pictures s))
+  unfolding verdict
+  other-than-15 places =
+      pick-alike (λ a b. (number a ≡ 15 → ⊥) → a ≡ b) _ (λ h. refl) λ e.
+      other-by (m .standard) (cadenceOf (m .film) s) s places
 
-  along-length : {p : VbvParams} {Each : ℕ → ℕ → CodedPicture → VbvPictureRecord → Type 0} {previous d : ℕ} {cs : List CodedPicture} {rs : List VbvPictureRecord}
-      → Along p Each previous d cs rs → length rs ≡ length cs
-  along-length none = refl
-  along-length (more h t) = ap suc (along-length t)
-
-  -- has a record for each picture, and a place for each record
-  pub all-recorded : (places : ℕ) {a : Accepted} → verdict standard s places ≡ value a
+  -- a stream that is accepted has a record for each picture, and a place for each record
+  pub all-recorded : (places : ℕ) {a : Accepted} → verdict m s places ≡ value a
       → (length (a .first ∷ a .others) ≡ length (pictures s)) × (length (pictures s) ≤ places)
   all-recorded places h =
-      let w = passed standard s places h in
-      let l = seen-length standard s (w .first ∷ w .others) (w .is-read .pictures-are) in
-      (along-length (w .removals) ∙ timed-length (w .first ∷ w .others) ∙ l, omega (arith, l, w .places-suffice))
+      let w = passed m s places h in
+      let l = seen-length (m .standard) s (w .first ∷ w .others) (w .is-read .is-read .pictures-are) in
+      (along-length (w .removals) ∙ timed-length (cadenceOf (m .film) s) (w .first ∷ w .others) ∙ l, omega (arith, l, w .places-suffice))

@@ -6,6 +6,7 @@ use mathlib.Core.List.{List, [], _∷_}
 use Prim.Native.Nat.{ℕ, suc, _+_}
 use Rattle.bits.specs.Bits.{pick}
 use Rattle.bits.specs.Refusals.{Answer, value, refused, andThen}
+use Rattle.bits.proofs.Flags.{pick-alike}
 use Rattle.vbv.specs.Annex.{firstDelivered, gain}
 use Rattle.vbv.specs.Model.{periods}
 use Rattle.vbv.specs.Params.{sameParams}
@@ -13,11 +14,12 @@ use Rattle.vbv.specs.Rates.{SameBits, SameTold}
 use Rattle.vbv.specs.declared.VbvParams.{VbvParams}
 use Rattle.vbv.proofs.Scale.{SameValue, same-value, same-told}
 use Rattle.pictures.specs.Front.{Front, front}
-use Rattle.pictures.specs.declared.VbvStandard.{VbvStandard}
+use Rattle.pictures.specs.Cadence.{cadenceOf}
 use Rattle.pictures.specs.declared.SeenPicture.{SeenPicture}
 use Rattle.verify.specs.Run.{recordOf, removal, run}
-use Rattle.verify.specs.Check.{Accepted, accepted, withPictures, verdict, reported, records}
+use Rattle.verify.specs.Check.{Accepted, accepted, withPictures, verdictBy, verdict, reported, records}
 use Rattle.verify.specs.Rates.{SameAnswer, ValueReports}
+use Rattle.verify.specs.declared.VbvMode.{VbvMode}
 use Rattle.verify.specs.declared.CodedPicture.{CodedPicture}
 use Rattle.verify.specs.declared.VbvPictureRecord.{VbvPictureRecord}
 
@@ -80,11 +82,13 @@ same-pictures : (p q : VbvParams) → sameParams p q ≡ true → (places : ℕ)
 same-pictures p q h places x cs =
     (through p q h places x cs reported (same-reported (same-value p q h)), through p q h places x cs records (same-records (same-value p q h)))
 
-same-streams : (standard : VbvStandard) (s t : List ℕ) (places : ℕ) (f g : Front) → front standard s ≡ value f → front standard t ≡ value g
-    → sameParams (f .params) (g .params) ≡ true → f .first ≡ g .first → f .others ≡ g .others
-    → SameAnswer (verdict standard s places) (verdict standard t places)
-unfolding verdict
-same-streams standard s t places f g a b h e k = rw (a, b, e, k) (same-pictures (f .params) (g .params) h places (g .first) _)
+same-streams : (m : VbvMode) (s t : List ℕ) (places : ℕ) (f g : Front) → front (m .standard) s ≡ value f → front (m .standard) t ≡ value g
+    → sameParams (f .params) (g .params) ≡ true → f .first ≡ g .first → f .others ≡ g .others → cadenceOf (m .film) s ≡ cadenceOf (m .film) t
+    → SameAnswer (verdict m s places) (verdict m t places)
+unfolding verdict verdictBy
+same-streams m s t places f g a b h e k c =
+    rw (a, b, c, e, k)
+    (pick-alike SameAnswer _ (refl, refl) λ z. same-pictures (f .params) (g .params) h places (g .first) _)
 
 pub value-reports : ValueReports
 value-reports = record { of-pictures = same-pictures; of-streams = same-streams }

@@ -17,7 +17,8 @@ use Rattle.words.specs.Words.{wordsBytes, laid}
 use Rattle.words.proofs.Bytes.{length-words}
 use Rattle.words.proofs.Laying.{laid-part}
 use Rattle.pictures.specs.Front.{opening}
-use Rattle.pictures.specs.declared.VbvStandard.{VbvStandard}
+use Rattle.pictures.specs.Cadence.{cadenceOf}
+use Rattle.verify.specs.declared.VbvMode.{VbvMode}
 use Rattle.verify.specs.Layout.{recordSize, recordBytes, recordsBytes}
 use Rattle.verify.specs.Answers.{verifiedAnswer}
 use Rattle.verify.specs.Check.{verdict, reported, records}
@@ -28,6 +29,8 @@ use Rattle.verify.specs.declared.recorder.VbvRecorded.{VbvRecorded}
 use Rattle.verify.specs.declared.Progress.{Progress}
 use Rattle.pictures.specs.Seen.{nextSeen, one}
 use Rattle.pictures.specs.declared.SeenPicture.{SeenPicture}
+use Rattle.cadence.specs.Cadence.{interval, after}
+use Rattle.cadence.specs.declared.VbvCadence.{VbvCadence}
 use Rattle.verify.specs.Coded.{codedOf}
 use Rattle.bits.specs.Refusals.{value}
 use Rattle.verify.proofs.Recording.{stateOf, records-last, records-none, records-length, record-one, recorded}
@@ -109,15 +112,16 @@ module _ {s : List ℕ} {w₀ : VbvRecorder} {count : ℕ} {out₀ out : List �
   put-next false e er n = (rw n, n ∙ put-none (ltb-false i count e))
 
   -- by what a step has shown
-  pub stored-more : {x : SeenPicture} {k : ℕ} → nextSeen (w .standard) s (w .at) ≡ value (one x k) → {st : Progress} → st ≡ advanced (w .params) (w .progress) (codedOf x)
+  pub stored-more : {x : SeenPicture} {n : ℕ} → nextSeen (w .standard) s (w .at) ≡ value (one x n)
+      → {st : Progress} → st ≡ advanced (w .params) (w .progress) (codedOf (interval (w .cadence) (x .facts)) x) → {k : VbvCadence} → k ≡ after (w .cadence) (x .facts)
       → {new : List ℕ} → new ≡ storedNext count i st out
-      → Stored s w₀ count out₀ new (record { standard = w .standard; params = w .params; at = k; progress = st }) (i + 1)
+      → Stored s w₀ count out₀ new (record { standard = w .standard; params = w .params; at = n; cadence = k; progress = st }) (i + 1)
   unfolding wentOn storedNext
-  stored-more {x} {k} e {st} f {new} n =
-      let q = record-one s w x k (sym e) in
+  stored-more {x} {n} e {st} f {k} g {new} b =
+      let q = record-one s w x n (sym e) in
       let last : lastOf st ≡ nextRecord s w .last = rw f (ap (λ (y : VbvRecorded). y .last) q) in
-      let next : (record { standard = w .standard; params = w .params; at = k; progress = st }) ≡ nextRecord s w .recorder = rw f (ap (λ (y : VbvRecorded). y .recorder) q) in
-      let both = put-next (ltb i count) refl last n in
+      let next : (record { standard = w .standard; params = w .params; at = n; cadence = k; progress = st }) ≡ nextRecord s w .recorder = rw (f, g) (ap (λ (y : VbvRecorded). y .recorder) q) in
+      let both = put-next (ltb i count) refl last b in
       record { as-long = both .0 ∙ h .as-long; stands = rw (add-one i) (next ∙ rw (h .stands)); bytes = both .1 }
 
   -- and at the end all are
@@ -126,12 +130,12 @@ module _ {s : List ℕ} {w₀ : VbvRecorder} {count : ℕ} {out₀ out : List �
 
 -- ---- the check with records
 
-module _ (standard : VbvStandard) (s out : List ℕ) (r : VbvVerified) (h : verifiedAnswer r ≡ reported (verdict standard s (length out / recordSize))) where
+module _ (m : VbvMode) (s out : List ℕ) (r : VbvVerified) (h : verifiedAnswer r ≡ reported (verdict m s (length out / recordSize))) where
   pub count-fits : recordSize * recordCount r ≤ length out
-  count-fits = omega (arith, recorded standard s (length out / recordSize) r h .few)
+  count-fits = omega (arith, recorded m s (length out / recordSize) r h .few)
 
-  pub stored-is : {last : List ℕ} → last ≡ sets out 0 (recordsBytes (recordsOf s (recorderOf standard (opening standard s)) (recordCount r)))
-      → last ≡ over (recordsBytes (records (verdict standard s (length out / recordSize)))) out
+  pub stored-is : {last : List ℕ} → last ≡ sets out 0 (recordsBytes (recordsOf s (recorderOf (m .standard) (cadenceOf (m .film) s) (opening (m .standard) s)) (recordCount r)))
+      → last ≡ over (recordsBytes (records (verdict m s (length out / recordSize)))) out
   stored-is e =
-      let k = recorded standard s (length out / recordSize) r h in
-      e ∙ rw (k .each) (records-over out (records (verdict standard s (length out / recordSize))) (omega (arith, k .few, k .count)))
+      let k = recorded m s (length out / recordSize) r h in
+      e ∙ rw (k .each) (records-over out (records (verdict m s (length out / recordSize))) (omega (arith, k .few, k .count)))

@@ -31,6 +31,9 @@ use Rattle.verify.specs.declared.CodedPicture.{CodedPicture}
 use Rattle.verify.specs.declared.Walked.{Walked}
 use Rattle.verify.specs.declared.Walked.the-variants as wk
 use Rattle.verify.specs.Coded.{codedOf, timed}
+use Rattle.vbv.specs.declared.RemovalInterval.{RemovalInterval}
+use Rattle.cadence.specs.Cadence.{interval, after}
+use Rattle.cadence.specs.declared.VbvCadence.{VbvCadence}
 use Rattle.pictures.specs.Front.{Front, front}
 use Rattle.pictures.specs.Answers.{unread}
 use Rattle.pictures.specs.Due as fr
@@ -43,7 +46,7 @@ use Rattle.pictures.proofs.Due.{front-due}
 use Rattle.verify.specs.declared.Progress.{Progress}
 use Rattle.verify.specs.declared.Progress.the-variants.{Fresh, Unmodelled, Running, Stopped}
 use Rattle.verify.specs.Run.{run, occupancyAfter, leastAfter, greatestBefore}
-use Rattle.verify.specs.Check.{Accepted, accepted, withPictures, verdict, reportOf, reported, records}
+use Rattle.verify.specs.Check.{Accepted, accepted, withPictures, verdictBy, reportOf, reported, records}
 use Rattle.verify.specs.Answers.{refusal, refusalOf, verifiedAnswer}
 use Rattle.verify.specs.Steps.{removed, progressed, firstStarted, firstMade, firstRemoved, advanced, advancedAll, walkedAnswer, walkedOver, walkedCount, unreadError, ifPlaced, judgedAs, judgement, recordCount, noRecord, lastOf}
 use Rattle.pictures.specs.Order.{Placed}
@@ -171,15 +174,15 @@ begins p c v f q =
 
 -- ---- a list of coded pictures
 
-pub record Judged (p : VbvParams) (places : ℕ) (pic : SeenPicture) (cs : List CodedPicture) : Type 0 where
-  pub answer : verifiedAnswer (judgedAs p places (length (codedOf pic ∷ cs)) (advancedAll p Fresh (codedOf pic ∷ cs))) ≡ reported (withPictures places p pic (codedOf pic ∷ cs))
-  pub few : length (records (withPictures places p pic (codedOf pic ∷ cs))) ≤ places
-  pub lasts : (r : VbvPictureRecord) (rs : List VbvPictureRecord) → withPictures places p pic (codedOf pic ∷ cs) ≡ value (record { params = p; first = r; others = rs })
-      → lastsAll p Fresh (codedOf pic ∷ cs) ≡ r ∷ rs
+pub record Judged (p : VbvParams) (places : ℕ) (j : RemovalInterval) (pic : SeenPicture) (cs : List CodedPicture) : Type 0 where
+  pub answer : verifiedAnswer (judgedAs p places (length (codedOf j pic ∷ cs)) (advancedAll p Fresh (codedOf j pic ∷ cs))) ≡ reported (withPictures places p pic (codedOf j pic ∷ cs))
+  pub few : length (records (withPictures places p pic (codedOf j pic ∷ cs))) ≤ places
+  pub lasts : (r : VbvPictureRecord) (rs : List VbvPictureRecord) → withPictures places p pic (codedOf j pic ∷ cs) ≡ value (record { params = p; first = r; others = rs })
+      → lastsAll p Fresh (codedOf j pic ∷ cs) ≡ r ∷ rs
 
-refusing : {p : VbvParams} {places : ℕ} {pic : SeenPicture} {cs : List CodedPicture} (e : VbvVerifyError)
-    → judgedAs p places (length (codedOf pic ∷ cs)) (advancedAll p Fresh (codedOf pic ∷ cs)) ≡ vf.Refused e → withPictures places p pic (codedOf pic ∷ cs) ≡ refusal e → Judged p places pic cs
-refusing {p} {places} {pic} {cs} e a b =
+refusing : {p : VbvParams} {places : ℕ} {j : RemovalInterval} {pic : SeenPicture} {cs : List CodedPicture} (e : VbvVerifyError)
+    → judgedAs p places (length (codedOf j pic ∷ cs)) (advancedAll p Fresh (codedOf j pic ∷ cs)) ≡ vf.Refused e → withPictures places p pic (codedOf j pic ∷ cs) ≡ refusal e → Judged p places j pic cs
+refusing {p} {places} {j} {pic} {cs} e a b =
     record {
       answer = rw (a, b);
       few = rw b (omega arith);
@@ -189,10 +192,10 @@ refusing {p} {places} {pic} {cs} e a b =
 same-records : {a b : Accepted} → _≡_ {A = Answer Accepted} (value a) (value b) → a .first ∷ a .others ≡ b .first ∷ b .others
 same-records {a} {b} h = let e : a ≡ b = cc in rw e
 
-reporting : {p : VbvParams} {places : ℕ} {pic : SeenPicture} {cs : List CodedPicture} (r : VbvPictureRecord) (rs : List VbvPictureRecord)
-    → judgedAs p places (length (codedOf pic ∷ cs)) (advancedAll p Fresh (codedOf pic ∷ cs)) ≡ vf.Report (reportOf (record { params = p; first = r; others = rs }))
-    → withPictures places p pic (codedOf pic ∷ cs) ≡ value (record { params = p; first = r; others = rs })
-    → length (r ∷ rs) ≤ places → lastsAll p Fresh (codedOf pic ∷ cs) ≡ r ∷ rs → Judged p places pic cs
+reporting : {p : VbvParams} {places : ℕ} {j : RemovalInterval} {pic : SeenPicture} {cs : List CodedPicture} (r : VbvPictureRecord) (rs : List VbvPictureRecord)
+    → judgedAs p places (length (codedOf j pic ∷ cs)) (advancedAll p Fresh (codedOf j pic ∷ cs)) ≡ vf.Report (reportOf (record { params = p; first = r; others = rs }))
+    → withPictures places p pic (codedOf j pic ∷ cs) ≡ value (record { params = p; first = r; others = rs })
+    → length (r ∷ rs) ≤ places → lastsAll p Fresh (codedOf j pic ∷ cs) ≡ r ∷ rs → Judged p places j pic cs
 reporting {p} r rs a b l k =
     record {
       answer = rw (a, b);
@@ -231,63 +234,63 @@ module _ {p : VbvParams} {c : CodedPicture} (b : Begun p c) (cs : List CodedPict
       subst (λ (o : Answer (List VbvPictureRecord)). Course p (b .model) (c ∷ cs) o) e (course (b .ready) (b .at-zero) t)
 
 -- the verdict where the model runs
-verdict-run : (p : VbvParams) (places : ℕ) (pic : SeenPicture) (cs : List CodedPicture) (o : Answer (List VbvPictureRecord))
-    → eqb (pic .«vbv_delay») 0xFFFF ≡ false → paramsFit p ≡ true → run p 0 0 (firstDelivered p (pic .«pos_bits») (pic .«vbv_delay»)) (codedOf pic ∷ cs) ≡ o
-    → withPictures places p pic (codedOf pic ∷ cs) ≡ refuse 15 (ltb places (length (codedOf pic ∷ cs))) (andThen o (accepted p))
+verdict-run : (p : VbvParams) (places : ℕ) (j : RemovalInterval) (pic : SeenPicture) (cs : List CodedPicture) (o : Answer (List VbvPictureRecord))
+    → eqb (pic .«vbv_delay») 0xFFFF ≡ false → paramsFit p ≡ true → run p 0 0 (firstDelivered p (pic .«pos_bits») (pic .«vbv_delay»)) (codedOf j pic ∷ cs) ≡ o
+    → withPictures places p pic (codedOf j pic ∷ cs) ≡ refuse 15 (ltb places (length (codedOf j pic ∷ cs))) (andThen o (accepted p))
 unfolding withPictures pick
-verdict-run p places pic cs o v f h = rw (v, f, h)
+verdict-run p places j pic cs o v f h = rw (v, f, h)
 
 -- a refusal by its number and values
 as-told : {X : Type 0} {n k x y : ℕ} (e : VbvVerifyError) → refusalOf e ≡ record { number = n; picture = k; coded = x; expected = y }
     → _≡_ {A = Answer X} (refused n k x y) (refusal e)
 as-told e h = rw h
 
-runs : (p : VbvParams) (places : ℕ) (pic : SeenPicture) (cs : List CodedPicture) (b : Begun p (codedOf pic)) (o : Answer (List VbvPictureRecord))
-    → withPictures places p pic (codedOf pic ∷ cs) ≡ refuse 15 (ltb places (length (codedOf pic ∷ cs))) (andThen o (accepted p))
-    → Course p (b .model) (codedOf pic ∷ cs) o → (t : Bool) → ltb places (length (codedOf pic ∷ cs)) ≡ t → Judged p places pic cs
+runs : (p : VbvParams) (places : ℕ) (j : RemovalInterval) (pic : SeenPicture) (cs : List CodedPicture) (b : Begun p (codedOf j pic)) (o : Answer (List VbvPictureRecord))
+    → withPictures places p pic (codedOf j pic ∷ cs) ≡ refuse 15 (ltb places (length (codedOf j pic ∷ cs))) (andThen o (accepted p))
+    → Course p (b .model) (codedOf j pic ∷ cs) o → (t : Bool) → ltb places (length (codedOf j pic ∷ cs)) ≡ t → Judged p places j pic cs
 unfolding judgedAs ifPlaced report pick
-runs p places pic cs b (refused n i x y) w k false l =
+runs p places j pic cs b (refused n i x y) w k false l =
     let u = stopped-course k noRecord (p .«buffer_size_bits») 0 in
-    refusing (u .error) (rw (as-running b cs, u .is-stopped, le-leb (length (codedOf pic ∷ cs)) places (ltb-false places (length (codedOf pic ∷ cs)) l))) (w ∙ rw l (as-told (u .error) (u .told)))
-runs p places pic cs b (refused n i x y) w k true l =
+    refusing (u .error) (rw (as-running b cs, u .is-stopped, le-leb (length (codedOf j pic ∷ cs)) places (ltb-false places (length (codedOf j pic ∷ cs)) l))) (w ∙ rw l (as-told (u .error) (u .told)))
+runs p places j pic cs b (refused n i x y) w k true l =
     let u = stopped-course k noRecord (p .«buffer_size_bits») 0 in
-    refusing RecordPlaces (rw (as-running b cs, u .is-stopped, lt-leb (length (codedOf pic ∷ cs)) places (ltb-true places (length (codedOf pic ∷ cs)) l))) (w ∙ rw l)
-runs p places pic cs b (value rs) w k true l =
+    refusing RecordPlaces (rw (as-running b cs, u .is-stopped, lt-leb (length (codedOf j pic ∷ cs)) places (ltb-true places (length (codedOf j pic ∷ cs)) l))) (w ∙ rw l)
+runs p places j pic cs b (value rs) w k true l =
     refusing RecordPlaces
-    (rw (as-running b cs, ran-course k places (length (codedOf pic ∷ cs)) noRecord (p .«buffer_size_bits») 0, lt-leb (length (codedOf pic ∷ cs)) places (ltb-true places (length (codedOf pic ∷ cs)) l)))
+    (rw (as-running b cs, ran-course k places (length (codedOf j pic ∷ cs)) noRecord (p .«buffer_size_bits») 0, lt-leb (length (codedOf j pic ∷ cs)) places (ltb-true places (length (codedOf j pic ∷ cs)) l)))
     (w ∙ rw l)
-runs p places pic cs b (value []) w k false l = absurd (omega (arith, ran-length k))
-runs p places pic cs b (value (r ∷ rs)) w k false l =
+runs p places j pic cs b (value []) w k false l = absurd (omega (arith, ran-length k))
+runs p places j pic cs b (value (r ∷ rs)) w k false l =
     let g : greatestOf 0 (r ∷ rs) ≡ greatestBefore (r ∷ rs) = greatest-is 0 (r ∷ rs) ∙ omega arith in
-    let m = ltb-false places (length (codedOf pic ∷ cs)) l in
+    let m = ltb-false places (length (codedOf j pic ∷ cs)) l in
     reporting r rs
-    (rw (as-running b cs, ran-course k places (length (codedOf pic ∷ cs)) noRecord (p .«buffer_size_bits») 0, le-leb (length (codedOf pic ∷ cs)) places m, ran-least k, g, ← ran-length k))
+    (rw (as-running b cs, ran-course k places (length (codedOf j pic ∷ cs)) noRecord (p .«buffer_size_bits») 0, le-leb (length (codedOf j pic ∷ cs)) places m, ran-least k, g, ← ran-length k))
     (w ∙ rw l)
     (omega (arith, m, ran-length k))
     (as-lasts b cs ∙ ran-lasts k noRecord (p .«buffer_size_bits») 0)
 
-verdict-variable : (p : VbvParams) (places : ℕ) (pic : SeenPicture) (cs : List CodedPicture) → eqb (pic .«vbv_delay») 0xFFFF ≡ true
-    → withPictures places p pic (codedOf pic ∷ cs) ≡ refused 5 0 0 0
+verdict-variable : (p : VbvParams) (places : ℕ) (j : RemovalInterval) (pic : SeenPicture) (cs : List CodedPicture) → eqb (pic .«vbv_delay») 0xFFFF ≡ true
+    → withPictures places p pic (codedOf j pic ∷ cs) ≡ refused 5 0 0 0
 unfolding withPictures pick
-verdict-variable p places pic cs v = rw v
+verdict-variable p places j pic cs v = rw v
 
-verdict-unfit : (p : VbvParams) (places : ℕ) (pic : SeenPicture) (cs : List CodedPicture) → eqb (pic .«vbv_delay») 0xFFFF ≡ false → paramsFit p ≡ false
-    → withPictures places p pic (codedOf pic ∷ cs) ≡ refused 12 0 0 0
+verdict-unfit : (p : VbvParams) (places : ℕ) (j : RemovalInterval) (pic : SeenPicture) (cs : List CodedPicture) → eqb (pic .«vbv_delay») 0xFFFF ≡ false → paramsFit p ≡ false
+    → withPictures places p pic (codedOf j pic ∷ cs) ≡ refused 12 0 0 0
 unfolding withPictures pick
-verdict-unfit p places pic cs v f = rw (v, f)
+verdict-unfit p places j pic cs v f = rw (v, f)
 
-pub judges : (p : VbvParams) (places : ℕ) (pic : SeenPicture) (cs : List CodedPicture) → Rising 0 (codedOf pic ∷ cs) → Judged p places pic cs
-judges p places pic cs (next q t) = by-delay (eqb (pic .«vbv_delay») 0xFFFF) refl
+pub judges : (p : VbvParams) (places : ℕ) (j : RemovalInterval) (pic : SeenPicture) (cs : List CodedPicture) → Rising 0 (codedOf j pic ∷ cs) → Judged p places j pic cs
+judges p places j pic cs (next q t) = by-delay (eqb (pic .«vbv_delay») 0xFFFF) refl
   where
-    by-params : eqb (pic .«vbv_delay») 0xFFFF ≡ false → (b : Bool) → paramsFit p ≡ b → Judged p places pic cs
+    by-params : eqb (pic .«vbv_delay») 0xFFFF ≡ false → (b : Bool) → paramsFit p ≡ b → Judged p places j pic cs
     by-params v false f =
-        refusing (Model ParamsError) (unmodelled p places _ (codedOf pic) cs _ (first-unfit p (codedOf pic) v f)) (verdict-unfit p places pic cs v f)
+        refusing (Model ParamsError) (unmodelled p places _ (codedOf j pic) cs _ (first-unfit p (codedOf j pic) v f)) (verdict-unfit p places j pic cs v f)
     by-params v true f =
-        let b = begins p (codedOf pic) v f q in
-        runs p places pic cs b _ (verdict-run p places pic cs _ v f refl) (first-course b cs (next q t)) (ltb places (length (codedOf pic ∷ cs))) refl
+        let b = begins p (codedOf j pic) v f q in
+        runs p places j pic cs b _ (verdict-run p places j pic cs _ v f refl) (first-course b cs (next q t)) (ltb places (length (codedOf j pic ∷ cs))) refl
 
-    by-delay : (b : Bool) → eqb (pic .«vbv_delay») 0xFFFF ≡ b → Judged p places pic cs
-    by-delay true v = refusing VariableRate (unmodelled p places _ (codedOf pic) cs _ (first-variable p (codedOf pic) v)) (verdict-variable p places pic cs v)
+    by-delay : (b : Bool) → eqb (pic .«vbv_delay») 0xFFFF ≡ b → Judged p places j pic cs
+    by-delay true v = refusing VariableRate (unmodelled p places _ (codedOf j pic) cs _ (first-variable p (codedOf j pic) v)) (verdict-variable p places j pic cs v)
     by-delay false v = by-params v (paramsFit p) refl
 
 -- ---- a stream
@@ -300,7 +303,7 @@ same-refusal (un.Model e) = refl
 same-refusal un.NoSequenceHeader = refl
 same-refusal un.NoPictures = refl
 
-module _ (standard : VbvStandard) (s : List ℕ) (places : ℕ) where
+module _ (standard : VbvStandard) (k : VbvCadence) (s : List ℕ) (places : ℕ) where
   -- by what a walk answers
   abbrev judgedBy : Answer (VbvParams × (ℕ × Progress)) → Answer VbvStreamReport
   judgedBy a = andThen a (λ z. verifiedAnswer (judgedAs (z .0) places (z .1 .0) (z .1 .1)))
@@ -310,19 +313,19 @@ module _ (standard : VbvStandard) (s : List ℕ) (places : ℕ) where
   judged-by (wk.Refused e) = same-refusal e
   judged-by (wk.Read p n st) = refl
 
-  by-front : (a : Answer Front) → FrontDue standard s a → judgedBy (andThen a (λ f. walkedOver (f .params) 0 Fresh (f .first ∷ f .others)))
-      ≡ reported (andThen a (λ f. withPictures places (f .params) (f .first) (timed (f .first ∷ f .others))))
+  by-front : (a : Answer Front) → FrontDue standard s a → judgedBy (andThen a (λ f. walkedOver (f .params) k 0 Fresh (f .first ∷ f .others)))
+      ≡ reported (andThen a (λ f. withPictures places (f .params) (f .first) (timed k (f .first ∷ f .others))))
   unfolding walkedOver pick
-  by-front (refused n k x y) d = refl
+  by-front (refused n i x y) d = refl
   by-front (value f) (fr.all-read {p} {x} {xs} r) =
-      let e : 0 + suc (length xs) ≡ suc (length (timed xs)) = omega (arith, timed-length xs) in
-      let z : eqb (suc (length (timed xs))) 0 ≡ false = ne-eqb (suc (length (timed xs))) 0 (λ (h : suc (length (timed xs)) ≡ 0). omega arith) in
-      let t = timed-rising (seen-rising standard s (x ∷ xs) (r .short) (r .pictures-are)) in
-      rw (e, z, timed-first x xs) (judges p places x (timed xs) (rw (timed-first x xs) at t) .answer)
+      let e : 0 + suc (length xs) ≡ suc (length (timed (after k (x .facts)) xs)) = omega (arith, timed-length (after k (x .facts)) xs) in
+      let z : eqb (suc (length (timed (after k (x .facts)) xs))) 0 ≡ false = ne-eqb (suc (length (timed (after k (x .facts)) xs))) 0 (λ (h : suc (length (timed (after k (x .facts)) xs)) ≡ 0). omega arith) in
+      let t = timed-rising k (seen-rising standard s (x ∷ xs) (r .short) (r .pictures-are)) in
+      rw (e, z, timed-first k x xs) (judges p places (interval k (x .facts)) x (timed (after k (x .facts)) xs) (rw (timed-first k x xs) at t) .answer)
 
-  pub judgement-is : (w : Walked) → walkedAnswer w ≡ andThen (front standard s) (λ f. walkedOver (f .params) 0 Fresh (f .first ∷ f .others))
-      → verifiedAnswer (judgement places w) ≡ reported (verdict standard s places)
-  unfolding verdict
+  pub judgement-is : (w : Walked) → walkedAnswer w ≡ andThen (front standard s) (λ f. walkedOver (f .params) k 0 Fresh (f .first ∷ f .others))
+      → verifiedAnswer (judgement places w) ≡ reported (verdictBy standard k s places)
+  unfolding verdictBy
   judgement-is w t = judged-by w ∙ ap judgedBy t ∙ by-front (front standard s) (front-due standard s)
 
 -- no more records than pictures were walked over

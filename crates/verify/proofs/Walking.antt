@@ -10,6 +10,8 @@ use Rattle.vbv.specs.Model.{farthest}
 use Rattle.bits.specs.Bits.{pick}
 use Rattle.bits.specs.Refusals.{Answer, value, refused, andThen}
 use Rattle.vbv.specs.declared.VbvParams.{VbvParams}
+use Rattle.cadence.specs.Cadence.{interval, after}
+use Rattle.cadence.specs.declared.VbvCadence.{VbvCadence}
 use Rattle.pictures.specs.Seen.{seenPictures, nextSeen, nothing, one}
 use Rattle.pictures.specs.Front.{Front, opening, front, withFirst}
 use Rattle.pictures.specs.Answers.{unread, declaredAnswer}
@@ -27,53 +29,55 @@ use Rattle.verify.specs.Steps.{advanced, advancedAll, walkedOver, walked
 
 -- ---- what is still to come
 
-over-none : (p : VbvParams) (st : Progress) → walkedOver p 0 st [] ≡ refused 4 0 0 0
+over-none : (p : VbvParams) (k : VbvCadence) (st : Progress) → walkedOver p k 0 st [] ≡ refused 4 0 0 0
 unfolding walkedOver pick
-over-none p st = refl
+over-none p k st = refl
 
-over-done : (p : VbvParams) (n : ℕ) (st : Progress) → (n ≡ 0 → ⊥) → walkedOver p n st [] ≡ value (p, (n, st))
+over-done : (p : VbvParams) (k : VbvCadence) (n : ℕ) (st : Progress) → (n ≡ 0 → ⊥) → walkedOver p k n st [] ≡ value (p, (n, st))
 unfolding walkedOver advancedAll timed pick
-over-done p n st h = let e : n + 0 ≡ n = omega arith in rw (e, ne-eqb n 0 h)
+over-done p k n st h = let e : n + 0 ≡ n = omega arith in rw (e, ne-eqb n 0 h)
 
-over-more : (p : VbvParams) (n : ℕ) (st : Progress) (x : SeenPicture) (xs : List SeenPicture)
-    → walkedOver p n st (x ∷ xs) ≡ walkedOver p (n + 1) (advanced p st (codedOf x)) xs
+over-more : (p : VbvParams) (k : VbvCadence) (n : ℕ) (st : Progress) (x : SeenPicture) (xs : List SeenPicture)
+    → walkedOver p k n st (x ∷ xs) ≡ walkedOver p (after k (x .facts)) (n + 1) (advanced p st (codedOf (interval k (x .facts)) x)) xs
 unfolding walkedOver advancedAll timed
-over-more p n st x xs = let e : n + suc (length xs) ≡ n + 1 + length xs = omega arith in rw e
+over-more p k n st x xs = let e : n + suc (length xs) ≡ n + 1 + length xs = omega arith in rw e
 
-over-before : (p : VbvParams) (n : ℕ) (st : Progress) (x : SeenPicture) (a : Answer (List SeenPicture))
-    → andThen (before x a) (walkedOver p n st) ≡ andThen a (walkedOver p (n + 1) (advanced p st (codedOf x)))
-over-before p n st x (value xs) = over-more p n st x xs
-over-before p n st x (refused m k c e) = refl
+over-before : (p : VbvParams) (k : VbvCadence) (n : ℕ) (st : Progress) (x : SeenPicture) (a : Answer (List SeenPicture))
+    → andThen (before x a) (walkedOver p k n st) ≡ andThen a (walkedOver p (after k (x .facts)) (n + 1) (advanced p st (codedOf (interval k (x .facts)) x)))
+over-before p k n st x (value xs) = over-more p k n st x xs
+over-before p k n st x (refused m i c e) = refl
 
 -- ---- the loop
 
-pub record Walking (standard : VbvStandard) (s : List ℕ) (p : VbvParams) (i n : ℕ) (st : Progress) : Type 0 where
+-- with k before the first picture and j before the next
+pub record Walking (standard : VbvStandard) (s : List ℕ) (p : VbvParams) (k : VbvCadence) (i n : ℕ) (j : VbvCadence) (st : Progress) : Type 0 where
   pub few : n ≤ i
   pub inside : i ≤ length s
-  pub answer : andThen (seenFrom standard s i) (walkedOver p n st) ≡ andThen (seenPictures standard s) (walkedOver p 0 Fresh)
+  pub answer : andThen (seenFrom standard s i) (walkedOver p j n st) ≡ andThen (seenPictures standard s) (walkedOver p k 0 Fresh)
 
-pub walking-none : (standard : VbvStandard) (s : List ℕ) (p : VbvParams) → Walking standard s p 0 0 Fresh
-walking-none standard s p = record { few = omega arith; inside = omega arith; answer = rw (seen-from-first standard s) }
+pub walking-none : (standard : VbvStandard) (s : List ℕ) (p : VbvParams) (k : VbvCadence) → Walking standard s p k 0 0 k Fresh
+walking-none standard s p k = record { few = omega arith; inside = omega arith; answer = rw (seen-from-first standard s) }
 
-module _ {standard : VbvStandard} {s : List ℕ} (short : 8 * length s ≤ farthest) {p : VbvParams} {i n : ℕ} {st : Progress} (w : Walking standard s p i n st) where
-  pub walking-empty : nextSeen standard s i ≡ value nothing → n ≡ 0 → refused 4 0 0 0 ≡ andThen (seenPictures standard s) (walkedOver p 0 Fresh)
-  walking-empty e z = sym (over-none p st) ∙ rw (seen-end standard s short i e, z) at (w .answer)
+module _ {standard : VbvStandard} {s : List ℕ} (short : 8 * length s ≤ farthest) {p : VbvParams} {k : VbvCadence} {i n : ℕ} {j : VbvCadence} {st : Progress} (w : Walking standard s p k i n j st) where
+  pub walking-empty : nextSeen standard s i ≡ value nothing → n ≡ 0 → refused 4 0 0 0 ≡ andThen (seenPictures standard s) (walkedOver p k 0 Fresh)
+  walking-empty e z = sym (over-none p j st) ∙ rw (seen-end standard s short i e, z) at (w .answer)
 
-  pub walking-done : nextSeen standard s i ≡ value nothing → (n ≡ 0 → ⊥) → value (p, (n, st)) ≡ andThen (seenPictures standard s) (walkedOver p 0 Fresh)
-  walking-done e z = sym (over-done p n st z) ∙ rw (seen-end standard s short i e) at (w .answer)
+  pub walking-done : nextSeen standard s i ≡ value nothing → (n ≡ 0 → ⊥) → value (p, (n, st)) ≡ andThen (seenPictures standard s) (walkedOver p k 0 Fresh)
+  walking-done e z = sym (over-done p j n st z) ∙ rw (seen-end standard s short i e) at (w .answer)
 
-  pub walking-refused : {m : ℕ} → nextSeen standard s i ≡ refused m 0 0 0 → refused m 0 0 0 ≡ andThen (seenPictures standard s) (walkedOver p 0 Fresh)
+  pub walking-refused : {m : ℕ} → nextSeen standard s i ≡ refused m 0 0 0 → refused m 0 0 0 ≡ andThen (seenPictures standard s) (walkedOver p k 0 Fresh)
   walking-refused e = rw (seen-refused standard s short i e) at (w .answer)
 
   pub walking-more : {x : SeenPicture} {next : ℕ} → nextSeen standard s i ≡ value (one x next)
-      → {after : Progress} → after ≡ advanced p st (codedOf x) → Walking standard s p next (n + 1) after
-  walking-more {x} {next} e {after} h =
+      → {new : Progress} → new ≡ advanced p st (codedOf (interval j (x .facts)) x) → {moved : VbvCadence} → moved ≡ after j (x .facts)
+      → Walking standard s p k next (n + 1) moved new
+  walking-more {x} {next} e h m =
       let q = seen-one standard s short i e in
-      rw h
+      rw (h, m)
       (record {
         few = omega (arith, q .0, w .few);
         inside = q .1;
-        answer = sym (over-before p n st x (seenFrom standard s next)) ∙ rw (q .2) at (w .answer);
+        answer = sym (over-before p j n st x (seenFrom standard s next)) ∙ rw (q .2) at (w .answer);
       })
 
 -- how many pictures there are to record, by what the walk comes to
@@ -88,25 +92,25 @@ count-refused h e = rw (← e) at h
 -- ---- the front
 
 -- its pictures walked over
-abbrev walkedFront : Front → Answer (VbvParams × (ℕ × Progress))
-walkedFront f = walkedOver (f .params) 0 Fresh (f .first ∷ f .others)
+abbrev walkedFront : VbvCadence → Front → Answer (VbvParams × (ℕ × Progress))
+walkedFront k f = walkedOver (f .params) k 0 Fresh (f .first ∷ f .others)
 
-over-first : (p : VbvParams) (a : Answer (List SeenPicture)) → andThen a (walkedOver p 0 Fresh) ≡ andThen (andThen a (λ xs. withFirst p xs)) walkedFront
-over-first p (value []) = over-none p Fresh ∙ rw (first-none p)
-over-first p (value (x ∷ xs)) = rw (first-some p x xs)
-over-first p (refused n k c e) = refl
+over-first : (k : VbvCadence) (p : VbvParams) (a : Answer (List SeenPicture)) → andThen a (walkedOver p k 0 Fresh) ≡ andThen (andThen a (λ xs. withFirst p xs)) (walkedFront k)
+over-first k p (value []) = over-none p k Fresh ∙ rw (first-none p)
+over-first k p (value (x ∷ xs)) = rw (first-some p x xs)
+over-first k p (refused n i c e) = refl
 
-module _ (standard : VbvStandard) (s : List ℕ) where
-  pub walked-refused : {r : Declared} {e : Unread} → r ≡ NotDeclared e → declaredAnswer r ≡ opening standard s → unread e ≡ andThen (front standard s) walkedFront
+module _ (standard : VbvStandard) (k : VbvCadence) (s : List ℕ) where
+  pub walked-refused : {r : Declared} {e : Unread} → r ≡ NotDeclared e → declaredAnswer r ≡ opening standard s → unread e ≡ andThen (front standard s) (walkedFront k)
   walked-refused {r} {e} q d = rw (front-unopened standard s (sym d ∙ ap declaredAnswer q))
 
-  pub opened : {r : Declared} {p : VbvParams} → r ≡ Params p → declaredAnswer r ≡ opening standard s → opening standard s ≡ value p
-  opened q d = sym d ∙ ap declaredAnswer q
+  pub walked-opened : {p : VbvParams} → opening standard s ≡ value p → {a : Answer (VbvParams × (ℕ × Progress))} → a ≡ andThen (seenPictures standard s) (walkedOver p k 0 Fresh)
+      → a ≡ andThen (front standard s) (walkedFront k)
+  walked-opened {p} e w = w ∙ rw (front-opened standard s e) (over-first k p (seenPictures standard s))
 
-  pub walked-opened : {p : VbvParams} → opening standard s ≡ value p → {a : Answer (VbvParams × (ℕ × Progress))} → a ≡ andThen (seenPictures standard s) (walkedOver p 0 Fresh)
-      → a ≡ andThen (front standard s) walkedFront
-  walked-opened {p} e w = w ∙ rw (front-opened standard s e) (over-first p (seenPictures standard s))
-
-  pub count-opened : {p : VbvParams} → opening standard s ≡ value p → {count : ℕ} → count ≤ walkedCount (andThen (front standard s) walkedFront)
-      → count ≤ walkedCount (andThen (seenPictures standard s) (walkedOver p 0 Fresh))
+  pub count-opened : {p : VbvParams} → opening standard s ≡ value p → {count : ℕ} → count ≤ walkedCount (andThen (front standard s) (walkedFront k))
+      → count ≤ walkedCount (andThen (seenPictures standard s) (walkedOver p k 0 Fresh))
   count-opened e h = rw (walked-opened e refl) h
+
+pub opened : (standard : VbvStandard) (s : List ℕ) {r : Declared} {p : VbvParams} → r ≡ Params p → declaredAnswer r ≡ opening standard s → opening standard s ≡ value p
+opened standard s q d = sym d ∙ ap declaredAnswer q

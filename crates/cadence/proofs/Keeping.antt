@@ -1,0 +1,56 @@
+-- What a cadence keeps: film or not, always; outside film nothing else.
+-- Assumes nothing.
+use mathlib.Core.Path.{_≡_, refl}
+use mathlib.Core.Bool.{Bool, true, false}
+use Rattle.bits.specs.Bits.{pick}
+use Rattle.picture_header.specs.declared.PictureFacts.{PictureFacts}
+use Rattle.cadence.specs.Cadence.{opened, isClosed, cadenceFits, with, closed, afterField, afterFrame, after}
+use Rattle.cadence.specs.declared.OpenField.{OpenField}
+use Rattle.cadence.specs.declared.VbvCadence.{VbvCadence}
+
+pub opened-film : (film progressive low : Bool) → opened film progressive low .film ≡ film
+unfolding opened
+opened-film film progressive low = refl
+
+pub opened-plain : (progressive low : Bool) → opened false progressive low ≡ opened false false false
+unfolding opened
+opened-plain progressive low = refl
+
+pub opened-fits : (film progressive low : Bool) → cadenceFits (opened film progressive low) ≡ true
+unfolding cadenceFits opened isClosed pick
+opened-fits true progressive low = refl
+opened-fits false progressive low = refl
+
+with-film : (k : VbvCadence) (r t : Bool) (o : OpenField) → with k r t o .film ≡ k .film
+unfolding with
+with-film k r t o = refl
+
+-- a choice of two that both keep it
+either : (b : Bool) (j k : VbvCadence) {f : Bool} → j .film ≡ f → k .film ≡ f → pick b j k .film ≡ f
+unfolding pick
+either true j k p q = p
+either false j k p q = q
+
+pub film-kept : (k : VbvCadence) (x : PictureFacts) → after k x .film ≡ k .film
+unfolding after afterField afterFrame closed
+film-kept k x =
+    either (k .film) _ k
+    (either (x .field) _ _
+    (either (isClosed (k .waiting)) _ _ (with-film k _ _ _) (with-film k _ _ _))
+    (either (x .anchor) _ _ (with-film k _ _ _) (with-film k _ _ _)))
+    refl
+
+pub unmoved : (k : VbvCadence) (x : PictureFacts) → k .film ≡ false → after k x ≡ k
+unfolding after pick
+unmoved k x e = rw e
+
+film-fits : (k : VbvCadence) → k .film ≡ true → cadenceFits k ≡ true
+unfolding cadenceFits pick
+film-fits k e = rw e
+
+pub after-fits : (k : VbvCadence) (x : PictureFacts) → cadenceFits k ≡ true → cadenceFits (after k x) ≡ true
+after-fits k x h = go (k .film) refl
+  where
+    go : (m : Bool) → k .film ≡ m → cadenceFits (after k x) ≡ true
+    go true e = film-fits (after k x) (rw (film-kept k x) e)
+    go false e = rw (unmoved k x e) h
