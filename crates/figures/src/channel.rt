@@ -14,9 +14,6 @@ use verify::VbvRefusal;
 use verify::VbvStandard;
 use verify::VbvVerified;
 
-// The pictures, each with what stands after it.
-const PICTURES: [u8; 16] = *b"I'P B'B P'B B'P ";
-
 // 16 by 16, square; interlaced 4:2:0; a closed group at 0.
 const HEADERS: [u8; 30] =
     *b"\x00\x00\x01\xB3\x01\x00\x10\x14\x02\x71\x20\xA0\x00\x00\x01\xB5\x14\x82\x00\x01\x00\x00\x00\x00\x01\xB8\x00\x08\x00\x40";
@@ -138,34 +135,32 @@ fn print_pair(a: u64, b: u64) {
     io::write_all(STDOUT_FILENO, b"\n");
 }
 
-// Offers the picture at a place, unless one was refused.
-fn step(sent: Sent, k: usize, stream: &mut [u8]) -> Sent {
+// Offers the next picture, unless one was refused.
+fn step(sent: Sent, letter: u8, mark: u8, stream: &mut [u8]) -> Sent {
     let at = sent.at;
     if sent.refused || stream.len() < at {
         return sent;
     }
-    offer(
-        sent,
-        byte(&PICTURES, k),
-        byte(&PICTURES, k + 1),
-        &mut stream[at..],
-    )
+    offer(sent, letter, mark, &mut stream[at..])
 }
 
 // Sends the channel by a writer: how many bytes it handed out.
 fn send(film: bool, stream: &mut [u8]) -> usize {
     let created = CbrWriter::create(config(film));
-    let mut sent = Sent {
+    let fresh = Sent {
         writer: created.writer,
         at: 0,
         refused: false,
     };
-    let mut k: usize = 0;
-    while k < 16 {
-        sent = step(sent, k, stream);
-        k += 2;
-    }
-    sent.at
+    let first = step(fresh, b'I', b'\'', stream);
+    let second = step(first, b'P', b' ', stream);
+    let third = step(second, b'B', b'\'', stream);
+    let fourth = step(third, b'B', b' ', stream);
+    let fifth = step(fourth, b'P', b'\'', stream);
+    let sixth = step(fifth, b'B', b' ', stream);
+    let seventh = step(sixth, b'B', b'\'', stream);
+    let eighth = step(seventh, b'P', b' ', stream);
+    eighth.at
 }
 
 fn print_refusal(r: VbvRefusal) {
@@ -185,14 +180,11 @@ fn print_verified(verified: VbvVerified) {
     }
 }
 
-// Prints the periods of eight records.
-fn print_records(records: &[u8]) {
-    let mut at: usize = 32;
-    while at < records.len() {
-        io::print_decimal(STDOUT_FILENO, records[at] as u64);
-        io::write_all(STDOUT_FILENO, b"\n");
-        at += 40;
-    }
+// Prints the periods of two records, which begin at a place.
+fn print_records(records: &[u8], at: u16) {
+    let first = 32 + at as usize;
+    let second = 72 + at as usize;
+    print_pair(byte(records, first) as u64, byte(records, second) as u64);
 }
 
 fn print_checks(stream: &[u8]) {
@@ -202,7 +194,10 @@ fn print_checks(stream: &[u8]) {
         b"film check: least after, greatest before; periods\n",
     );
     print_verified(verify::verify_in_mode(stream, mode(true), &mut records));
-    print_records(&records);
+    print_records(&records, 0);
+    print_records(&records, 80);
+    print_records(&records, 160);
+    print_records(&records, 240);
     io::write_all(STDOUT_FILENO, b"plain check: picture; coded and expected\n");
     print_verified(verify::check_in_mode(stream, mode(false), 8));
 }
