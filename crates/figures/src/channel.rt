@@ -75,29 +75,34 @@ fn put_layer(layer: &mut [u8], kind: PictureKind, repeat: bool) {
     put_bytes(layer, slice, b"\x00\x00\x01\x01");
 }
 
-// Offers the picture of a letter, with the first headers where nothing has been handed out.
+// Offers the picture of a letter: the first, an I, with the headers.
 fn offer(sent: Sent, letter: u8, mark: u8, stream: &mut [u8]) -> Sent {
     let mut layer = io::large_buffer();
     let kind = kind(letter);
-    let facts = facts(letter, mark);
-    put_layer(&mut layer, kind, facts.repeat);
-    let length: usize = if letter == b'I' { 4021 } else { 4022 };
-    let headers: usize = if sent.at == 0 { 30 } else { 0 };
+    let shown = facts(letter, mark);
+    put_layer(&mut layer, kind, shown.repeat);
+    if sent.at == 0 {
+        return offer_layer(sent, &HEADERS, kind, &layer[0..4021], stream);
+    }
+    offer_layer(sent, b"", kind, &layer[0..4022], stream)
+}
+
+fn offer_layer(
+    sent: Sent,
+    headers: &[u8],
+    kind: PictureKind,
+    layer: &[u8],
+    stream: &mut [u8],
+) -> Sent {
     let writer = sent.writer;
-    let offered = writer.offer(
-        &HEADERS[0..headers],
-        kind,
-        RemovalInterval::Frame,
-        false,
-        &layer[0..length],
-        stream,
-    );
+    let offered = writer.offer(headers, kind, RemovalInterval::Frame, false, layer, stream);
+    let after = offered.writer;
     let answer = offered.answer;
-    told(sent, offered.writer, answer)
+    told(sent.at, after, answer)
 }
 
 // Prints an answer: delay and stuffing of a placed picture.
-fn told(before: Sent, after: CbrWriter, answer: CbrAnswer) -> Sent {
+fn told(before: usize, after: CbrWriter, answer: CbrAnswer) -> Sent {
     match answer {
         CbrAnswer::Placed {
             q: _,
@@ -108,12 +113,15 @@ fn told(before: Sent, after: CbrWriter, answer: CbrAnswer) -> Sent {
             print_pair(vbv_delay as u64, stuffing_bytes);
             Sent {
                 writer: after,
-                at: std::num::wrapping_add_usize(before.at, bytes as usize),
+                at: std::num::wrapping_add_usize(before, bytes as usize),
                 refused: false,
             }
         }
         CbrAnswer::Again(q) => refused(after, q),
-        CbrAnswer::Refused(e) => refused(after, e.refusal().number),
+        CbrAnswer::Refused(e) => {
+            let refusal = e.refusal();
+            refused(after, refusal.number)
+        }
     }
 }
 
