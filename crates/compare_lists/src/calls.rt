@@ -331,6 +331,7 @@ fn set(writer: CbrWriter, far: &[u8], at: usize, out: &mut [u8], next: usize) ->
     let target_bits = writer.target_bits;
     let q = writer.q;
     let pending = writer.pending;
+    let cadence = writer.cadence;
     let after = CbrWriter {
         model: VbvCbrModel {
             params,
@@ -345,7 +346,7 @@ fn set(writer: CbrWriter, far: &[u8], at: usize, out: &mut [u8], next: usize) ->
         pending,
         stuffing_bytes: writer.stuffing_bytes,
         finished: writer.finished,
-        cadence: writer.cadence,
+        cadence,
     };
     let told = Told {
         number: SET,
@@ -394,10 +395,11 @@ fn put_writer(out: &mut [u8], at: usize, w: CbrWriter) -> usize {
     let q = w.q;
     let waiting = w.pending;
     let model = w.model;
+    let cadence = w.cadence;
     let pending = put_bytes(out, at, &q);
     let finished = put_pending(out, pending, waiting);
     let mode = put(out, finished, w.finished as u8);
-    let next = put_cadence(out, mode, w.cadence);
+    let next = put_cadence(out, mode, cadence);
     let words = [
         w.stuffing_bytes,
         model.whole,
@@ -410,15 +412,23 @@ fn put_writer(out: &mut [u8], at: usize, w: CbrWriter) -> usize {
 
 // The mode's number, the sequence's flags, the previous anchor's, and the open field.
 fn put_cadence(out: &mut [u8], at: usize, k: VbvCadence) -> usize {
+    let waiting = k.waiting;
     let bytes = [
-        2 + 4 * (k.film as u8),
+        mode_number(k.film),
         k.progressive as u8,
         k.low_delay as u8,
         k.repeat as u8,
         k.top as u8,
-        open_code(k.waiting),
+        open_code(waiting),
     ];
     put_bytes(out, at, &bytes)
+}
+
+fn mode_number(film: bool) -> u8 {
+    if film {
+        return 6;
+    }
+    2
 }
 
 fn open_code(waiting: OpenField) -> u8 {

@@ -39,10 +39,18 @@ pub(crate) fn check_in_mode(s: &[u8], mode: VbvMode, out: &mut [u8]) -> usize {
     let places = (end - 41) / RECORD_BYTES;
     let mut alone = [0u8; 41];
     put_verified(&mut alone, verify::check_in_mode(&s[2..], mode, places));
-    if check::same(&alone, &out[0..41]) {
+    if begins(out, &alone) {
         return end;
     }
     1
+}
+
+fn begins(out: &[u8], with: &[u8]) -> bool {
+    let n = with.len();
+    if out.len() < n {
+        return false;
+    }
+    check::same(with, &out[0..n])
 }
 
 fn put_verified(out: &mut [u8], verified: VbvVerified) -> usize {
