@@ -63,15 +63,19 @@ fn put_header(layer: &mut [u8], kind: PictureKind) -> usize {
     }
 }
 
+// Puts the last two bytes of the coding extension; the place after them.
+fn put_flags(layer: &mut [u8], at: usize, repeat: bool) -> usize {
+    if repeat {
+        return put_bytes(layer, at, b"\x43\x80");
+    }
+    put_bytes(layer, at, b"\x41\x80")
+}
+
 // Puts a picture's headers and the code of a slice, in which zeros follow.
 fn put_layer(layer: &mut [u8], kind: PictureKind, repeat: bool) {
     let extension = put_header(layer, kind);
     let flags = put_bytes(layer, extension, b"\x00\x00\x01\xB5\x8F\xFF\xF3");
-    let slice = if repeat {
-        put_bytes(layer, flags, b"\x43\x80")
-    } else {
-        put_bytes(layer, flags, b"\x41\x80")
-    };
+    let slice = put_flags(layer, flags, repeat);
     put_bytes(layer, slice, b"\x00\x00\x01\x01");
 }
 
@@ -152,23 +156,32 @@ fn step(sent: Sent, letter: u8, mark: u8, stream: &mut [u8]) -> Sent {
     offer(sent, letter, mark, &mut stream[at..])
 }
 
-// Sends the channel by a writer: how many bytes it handed out.
-fn send(film: bool, stream: &mut [u8]) -> usize {
-    let created = CbrWriter::create(config(film));
-    let fresh = Sent {
-        writer: created.writer,
-        at: 0,
-        refused: false,
-    };
+fn first_half(fresh: Sent, stream: &mut [u8]) -> Sent {
     let first = step(fresh, b'I', b'\'', stream);
     let second = step(first, b'P', b' ', stream);
     let third = step(second, b'B', b'\'', stream);
-    let fourth = step(third, b'B', b' ', stream);
+    step(third, b'B', b' ', stream)
+}
+
+fn second_half(fourth: Sent, stream: &mut [u8]) -> Sent {
     let fifth = step(fourth, b'P', b'\'', stream);
     let sixth = step(fifth, b'B', b' ', stream);
     let seventh = step(sixth, b'B', b'\'', stream);
-    let eighth = step(seventh, b'P', b' ', stream);
-    eighth.at
+    step(seventh, b'P', b' ', stream)
+}
+
+// Sends the channel by a writer: how many bytes it handed out.
+fn send(film: bool, stream: &mut [u8]) -> usize {
+    let created = CbrWriter::create(config(film));
+    let writer = created.writer;
+    let fresh = Sent {
+        writer,
+        at: 0,
+        refused: false,
+    };
+    let half = first_half(fresh, stream);
+    let whole = second_half(half, stream);
+    whole.at
 }
 
 fn print_refusal(r: VbvRefusal) {
