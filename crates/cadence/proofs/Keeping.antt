@@ -2,9 +2,11 @@
 -- Assumes nothing.
 use mathlib.Core.Path.{_≡_, refl}
 use mathlib.Core.Bool.{Bool, true, false}
+use mathlib.Core.List.{List, [], _∷_}
 use Rattle.bits.specs.Bits.{pick}
 use Rattle.picture_header.specs.declared.PictureFacts.{PictureFacts}
 use Rattle.cadence.specs.Cadence.{opened, isClosed, cadenceFits, with, closed, afterField, afterFrame, after}
+use Rattle.cadence.specs.History.{cadenceAfter}
 use Rattle.cadence.specs.declared.OpenField.{OpenField}
 use Rattle.cadence.specs.declared.VbvCadence.{VbvCadence}
 
@@ -54,3 +56,12 @@ after-fits k x h = go (k .film) refl
     go : (m : Bool) → k .film ≡ m → cadenceFits (after k x) ≡ true
     go true e = film-fits (after k x) (rw (film-kept k x) e)
     go false e = rw (unmoved k x e) h
+
+-- the cadence after pictures, one more
+pub after-none : (progressive low : Bool) → cadenceAfter progressive low [] ≡ opened true progressive low
+unfolding cadenceAfter
+after-none progressive low = refl
+
+pub after-more : (progressive low : Bool) (xs : List PictureFacts) (x : PictureFacts) → cadenceAfter progressive low (x ∷ xs) ≡ after (cadenceAfter progressive low xs) x
+unfolding cadenceAfter
+after-more progressive low xs x = refl

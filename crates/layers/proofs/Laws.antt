@@ -20,6 +20,7 @@ use Rattle.bits.proofs.Reading.{same-self}
 use Rattle.bits.proofs.Appending.{Below}
 use Rattle.headers.specs.StartCode.{leadingZeros}
 use Rattle.picture_header.specs.Picture.{picture}
+use Rattle.picture_header.specs.declared.PictureFacts.{PictureFacts}
 use Rattle.picture_header.proofs.Picture.{picture-append}
 use Rattle.headers.proofs.StartCode.{prefix-true}
 use Rattle.picture_header.proofs.OtherDelay.{OtherDelay, withDelay, delayed-delay, picture-delayed}
@@ -40,10 +41,12 @@ use Rattle.pictures.specs.Seen.{shown}
 use Rattle.pictures.specs.Sequence.{declaredBy, declared}
 use Rattle.pictures.specs.declared.VbvStandard.the-variants.{Mpeg2}
 use Rattle.pictures.proofs.Showing.{shown-parsed, declared-first, declared-append}
+use Rattle.pictures.specs.Cadence.{cadenceBy, cadenceOf}
+use Rattle.pictures.proofs.Cadences.{cadence-first, cadence-append}
 use Rattle.layers.specs.declared.PictureKind.{PictureKind}
-use Rattle.layers.specs.Layer.{slices, isExtension, layerCodes, layerFits}
+use Rattle.layers.specs.Layer.{slices, isExtension, layerCodes, layerFits, factsIn}
 use Rattle.layers.specs.Headers.{opensHeaders, headerCode, declares, sequenceFirst, sequenceFits, headersFit}
-use Rattle.layers.proofs.Layers.{LayerFits, layer-fits, factsIn, facts-delayed, LowBits, picture-head, layer-header, layer-twelve, layer-low}
+use Rattle.layers.proofs.Layers.{LayerFits, layer-fits, facts-delayed, LowBits, picture-head, layer-header, layer-twelve, layer-low}
 
 -- the bytes that a list begins with, and those after them
 begins : (n : ℕ) (s : List ℕ) {a : List ℕ} → take n s ≡ a → s ≡ a ++ drop n s
@@ -92,9 +95,19 @@ one-of (c ∷ cs) e = case (skip isExtension cs) refl (b .1)
           all-slices = t .1;
         }
 
-module _ (k : PictureKind) (i : RemovalInterval) (s : List ℕ) (fits : layerFits k i s ≡ true) where
-  f : LayerFits k i s
-  f = layer-fits k i s fits
+-- a layer that is patched with a delay and laid in a stream, and the facts that its headers tell
+pub record Laid (s : List ℕ) (d : ℕ) (x : PictureFacts) : Type 0 where
+  pub long : 8 ≤ length s
+  pub starts : startsPicture s ≡ true
+  pub same-length : length (patched s d) ≡ length s
+  -- it is a piece, its picture at byte 0
+  pub piece : Piece (patched s d) 0
+  -- and shows the delay that was put in, and the facts, whatever follows
+  pub told-is : (t : List ℕ) → shown Mpeg2 (patched s d ++ t) ≡ value (d, x)
+
+module _ (film : Bool) (k : PictureKind) (i : RemovalInterval) (s : List ℕ) (fits : layerFits film k i s ≡ true) where
+  f : LayerFits s
+  f = layer-fits film k i s fits
 
   pub layer-long : 8 ≤ length s
   layer-long = omega (arith, layer-twelve f)
@@ -136,21 +149,20 @@ module _ (k : PictureKind) (i : RemovalInterval) (s : List ℕ) (fits : layerFit
         (rw (other .same-before 42 3 (lit≤ tt)) (layer-header f .type-low)) patched-low
 
     -- the patch neither makes nor breaks a code
-    pub patched-codes : codes (patched s d) ≡ codes s
+    patched-codes : codes (patched s d) ≡ codes s
     patched-codes =
         codes-picture (patched s d) patched-head
         ∙ ap (λ (l : List ℕ). record { offset = 0; code = 0 } ∷ codesFrom 8 0 l) (other .same-rest)
         ∙ sym (codes-picture s head)
 
-    pub patched-closed : endsPrefix (patched s d) ≡ false
+    patched-closed : endsPrefix (patched s d) ≡ false
     patched-closed =
         ends-drop 8 (patched s d) (omega (arith, layer-twelve f, layer-length d))
         ∙ ap endsPrefix (other .same-rest)
         ∙ sym (ends-drop 8 s (omega (arith, layer-twelve f)))
         ∙ f .closed
 
-    -- a patched layer is a piece, its picture at byte 0
-    pub layer-piece : Piece (patched s d) 0
+    layer-piece : Piece (patched s d) 0
     layer-piece = record {
       opened = record {
         first = 0;
@@ -163,14 +175,16 @@ module _ (k : PictureKind) (i : RemovalInterval) (s : List ℕ) (fits : layerFit
       one = rw patched-codes (one-of (codes s) (f .codes-fit));
     }
 
-    -- and shows the delay that was put in, and the facts that the layer's headers have
-    pub layer-shown : (t : List ℕ) → shown Mpeg2 (patched s d ++ t) ≡ value (d, factsIn s)
+    layer-shown : (t : List ℕ) → shown Mpeg2 (patched s d ++ t) ≡ value (d, factsIn s)
     layer-shown t =
         let h = withDelay (f .header) (bitsAt (patched s d) 45 16) in
         let p : picture (patched s d ++ t) ≡ value (h, f .extension) =
         picture-append (patched s d) t h (f .extension) (picture-delayed s (patched s d) other (f .header) (f .extension) (f .parsed) (f .zeros-after)) in
         shown-parsed (patched s d ++ t) h (f .extension) p
         ∙ rw (facts-delayed f (bitsAt (patched s d) 45 16), delayed-delay (f .header) (bitsAt (patched s d) 45 16), patched-delay s d layer-starts small)
+
+    pub laid : Laid s d (factsIn s)
+    laid = record { long = layer-long; starts = layer-starts; same-length = layer-length d; piece = layer-piece; told-is = layer-shown }
 
 -- ---- headers
 
@@ -270,19 +284,37 @@ sequence-first c cs e =
     let b = both-true (eqb (c .code) sequenceHeaderCode) _ (a .1) in
     eqb-true (c .code) sequenceHeaderCode (b .0)
 
-pub headers-declared : (p : VbvParams) (h : List ℕ) (e : headersFit p false h ≡ true) (x : List ℕ) → declared Mpeg2 (h ++ x) ≡ value (first-declares p h e .params)
+-- headers that fit before the first picture, and whatever follows them: the first code is B3 at byte 0
+record Begins (s : List ℕ) : Type 0 where
+  others : List Code
+  codes-are : codes s ≡ record { offset = 0; code = sequenceHeaderCode } ∷ others
+
+headers-begin : (p : VbvParams) (h : List ℕ) → headersFit p false h ≡ true → (x : List ℕ) → Begins (h ++ x)
 unfolding sequenceFits sequenceFirst
-headers-declared p [] e x =
+headers-begin p [] e x =
     let c = conditions p false [] e .3 in
     let d : sequenceFirst [] ≡ true = rw codes-none at (both-true (sequenceFirst (codes [])) _ c .0) in
     absurd (let z : _≡_ {A = ℕ} 0 1 = cc in omega arith)
-headers-declared p (b ∷ s) e x =
+headers-begin p (b ∷ s) e x =
     let f = fit-of p false b s e in
-    let c = conditions p false (b ∷ s) e .3 in
-    let d1 = both-true (sequenceFirst (codes (b ∷ s))) _ c in
+    let c = both-true (sequenceFirst (codes (b ∷ s))) _ (conditions p false (b ∷ s) e .3) in
     let o = ap codes (f .opens) ∙ codes-opened (f .first) (f .rest) in
-    let y : f .first ≡ sequenceHeaderCode = sequence-first (record { offset = 0; code = f .first }) (codesFrom 4 0 (f .rest)) (rw o at (d1 .0)) in
-    let z : codes (b ∷ s ++ x) ≡ record { offset = 0; code = sequenceHeaderCode } ∷ codesFrom 4 0 (f .rest ++ x) =
-    ap (λ (l : List ℕ). codes (l ++ x)) (f .opens) ∙ codes-opened (f .first) (f .rest ++ x) ∙ rw y in
-    let q = first-declares p (b ∷ s) e in
-    declared-first (b ∷ s ++ x) _ z ∙ declared-append (b ∷ s) x (q .params) (q .by-headers)
+    let y : f .first ≡ sequenceHeaderCode = sequence-first (record { offset = 0; code = f .first }) (codesFrom 4 0 (f .rest)) (rw o at (c .0)) in
+    record {
+      others = codesFrom 4 0 (f .rest ++ x);
+      codes-are = ap (λ (l : List ℕ). codes (l ++ x)) (f .opens) ∙ codes-opened (f .first) (f .rest ++ x) ∙ rw y;
+    }
+
+-- the stream declares what they do
+pub headers-declared : (p : VbvParams) (h : List ℕ) (e : headersFit p false h ≡ true) (x : List ℕ) → declared Mpeg2 (h ++ x) ≡ value (first-declares p h e .params)
+headers-declared p h e x =
+    let b = headers-begin p h e x in
+    let q = first-declares p h e in
+    declared-first (h ++ x) (b .others) (b .codes-are) ∙ declared-append h x (q .params) (q .by-headers)
+
+-- and its cadence is the one that they open
+pub headers-cadence : (film : Bool) (p : VbvParams) (h : List ℕ) → headersFit p false h ≡ true → (x : List ℕ) → cadenceOf film (h ++ x) ≡ cadenceBy film h
+headers-cadence film p h e x =
+    let b = headers-begin p h e x in
+    let q = first-declares p h e in
+    cadence-first film (h ++ x) (b .others) (b .codes-are) ∙ cadence-append film h x (q .params) (q .by-headers)

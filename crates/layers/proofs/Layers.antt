@@ -1,17 +1,16 @@
 -- What a layer that fits is, one fact for each condition that the laws use.
 -- Assumes nothing.
-use mathlib.Core.Path.{_≡_, refl, sym, ap, _∙_}
+use mathlib.Core.Path.{_≡_, refl, sym, _∙_}
 use Prim.Native.Nat.{ℕ, zero, suc, _≤_}
 use mathlib.Core.List.{List, [], _∷_}
-use mathlib.Core.Bool.{true, false, not, _&&_}
+use mathlib.Core.Bool.{Bool, true, false, not, _&&_, _||_}
 use mathlib.Core.Logic.{_⊎_, ⊎-elim, inl, inr}
 use native.Mathlib.Omega.{arith}
 use lib.Dec.{eqb}
 use lib.ListN.{length, take, drop}
 use lib.Seq.{getD-drop}
 use borrow.Author.Tests.{not-true, leb-true, eqb-true}
-use Rattle.vbv.specs.Model.{intervalOf}
-use Rattle.picture_header.specs.Facts.{isAnchor, isField, factsOf}
+use Rattle.picture_header.specs.Facts.{isField, factsOf}
 use Rattle.bits.specs.Bits.{bitsAt}
 use Rattle.bits.specs.Refusals.{Answer, value, refused, andThen, orElse}
 use Rattle.bits.proofs.Laws.{bits-bound, bits-split}
@@ -34,50 +33,40 @@ use Rattle.headers.proofs.StartCode.{next-found}
 use Rattle.picture_header.proofs.Extent.{header-bytes}
 use Rattle.picture_header.proofs.OtherDelay.{withDelay, delayed-type, forward-code, extra-flag}
 use Rattle.vbv.specs.declared.RemovalInterval.{RemovalInterval}
-use Rattle.vbv.specs.declared.RemovalInterval.the-variants.{Frame, Field}
-use Rattle.picture_header.proofs.FactLaws.{facts-are}
-use Rattle.picture_header.specs.declared.PictureFacts.{PictureFacts}
+use Rattle.picture_header.proofs.FactLaws.{facts-are, told-parsed}
 use Rattle.scan.specs.Codes.{codes, endsPrefix}
 use Rattle.scan.proofs.PictureCodes.{PictureHead}
 use Rattle.layers.specs.declared.PictureKind.{PictureKind}
-use Rattle.layers.specs.Layer.{sameKind, sameInterval, flagClear, codeSeven, padding, headersTell, headerFits, layerCodes, layerFits}
+use Rattle.layers.specs.Layer.{sameKind, agrees, flagClear, codeSeven, padding, headersTell, headerFits, layerCodes, layerFits, factsIn}
 
-pub record LayerFits (k : PictureKind) (i : RemovalInterval) (s : List ℕ) : Type 0 where
+pub record LayerFits (s : List ℕ) : Type 0 where
   pub header : Mpeg2PictureHeader
   pub extension : PictureCodingExtension
   pub parsed : picture s ≡ value (header, extension)
-  pub interval : intervalOf (isField (extension .«picture_structure»)) ≡ i
   pub seven : codeSeven (header .«fwd_f_code») ≡ true
   pub zeros-after : 2 ≤ leadingZeros (drop (pictureHeaderBytes header) s)
   pub codes-fit : layerCodes (codes s) ≡ true
   pub closed : endsPrefix s ≡ false
 
-interval-is : (i j : RemovalInterval) → sameInterval i j ≡ true → j ≡ i
-unfolding sameInterval
-interval-is Frame Frame e = refl
-interval-is Frame Field e = cc
-interval-is Field Frame e = cc
-interval-is Field Field e = refl
-
-pub layer-fits : (k : PictureKind) (i : RemovalInterval) (s : List ℕ) → layerFits k i s ≡ true → LayerFits k i s
+pub layer-fits : (film : Bool) (k : PictureKind) (i : RemovalInterval) (s : List ℕ) → layerFits film k i s ≡ true → LayerFits s
 unfolding layerFits headerFits headersTell
-layer-fits k i s f = case (picture s) refl (a .0)
+layer-fits film k i s f = case (picture s) refl (a .0)
   where
-    a : (headerFits k i s ≡ true) × ((layerCodes (codes s) && not (endsPrefix s)) ≡ true)
-    a = both-true (headerFits k i s) (layerCodes (codes s) && not (endsPrefix s)) f
+    a : (headerFits film k i s ≡ true) × ((layerCodes (codes s) && not (endsPrefix s)) ≡ true)
+    a = both-true (headerFits film k i s) (layerCodes (codes s) && not (endsPrefix s)) f
 
     b : (layerCodes (codes s) ≡ true) × (not (endsPrefix s) ≡ true)
     b = both-true (layerCodes (codes s)) (not (endsPrefix s)) (a .1)
 
     case : (r : Answer (Mpeg2PictureHeader × PictureCodingExtension)) → picture s ≡ r
-        → orElse false (andThen r (λ p. value (headersTell k i s (p .0) (p .1)))) ≡ true → LayerFits k i s
+        → orElse false (andThen r (λ p. value (headersTell film k i s (p .0) (p .1)))) ≡ true → LayerFits s
     case (refused n c e x) p q = absurd (let z : _≡_ {A = ℕ} 0 1 = cc in omega arith)
     case (value r) p q =
         let h = r .0 in
         let x = r .1 in
         let c1 = both-true (sameKind k (h .«picture_coding_type»)) _ q in
-        let c2 = both-true (sameInterval i (intervalOf (isField (x .«picture_structure»)))) _ (c1 .1) in
-        let c3 = both-true (not (x .«repeat_first_field»)) _ (c2 .1) in
+        let c2 = both-true (agrees i (isField (x .«picture_structure»))) _ (c1 .1) in
+        let c3 = both-true (film || not (x .«repeat_first_field»)) _ (c2 .1) in
         let c4 = both-true (flagClear (h .«full_pel_forward_vector»)) _ (c3 .1) in
         let c5 = both-true (codeSeven (h .«fwd_f_code»)) _ (c4 .1) in
         let c6 = both-true (flagClear (h .«full_pel_backward_vector»)) _ (c5 .1) in
@@ -87,7 +76,6 @@ layer-fits k i s f = case (picture s) refl (a .0)
           header = h;
           extension = x;
           parsed = p;
-          interval = interval-is i (intervalOf (isField (x .«picture_structure»))) (c2 .0);
           seven = c5 .0;
           zeros-after = leb-true _ _ (c8 .1);
           codes-fit = b .0;
@@ -96,27 +84,16 @@ layer-fits k i s f = case (picture s) refl (a .0)
 
 -- ---- what its headers show
 
--- a frame's facts, every flag false, where they do not parse
-unfoldable pub factsIn : List ℕ → PictureFacts
-factsIn s = orElse (record { anchor = false; field = false; repeat = false; top = false }) (andThen (picture s) (λ p. value (factsOf (p .0) (p .1))))
-
-facts-parsed : {k : PictureKind} {i : RemovalInterval} {s : List ℕ} (f : LayerFits k i s) → factsIn s ≡ factsOf (f .header) (f .extension)
+facts-parsed : {s : List ℕ} (f : LayerFits s) → factsIn s ≡ factsOf (f .header) (f .extension)
 unfolding factsIn
-facts-parsed f = rw (f .parsed)
+facts-parsed {s} f = rw (told-parsed s (f .header) (f .extension) (f .parsed))
 
 -- the delay is no fact
-pub facts-delayed : {k : PictureKind} {i : RemovalInterval} {s : List ℕ} (f : LayerFits k i s) (d : ℕ)
-    → factsOf (withDelay (f .header) d) (f .extension) ≡ factsIn s
+pub facts-delayed : {s : List ℕ} (f : LayerFits s) (d : ℕ) → factsOf (withDelay (f .header) d) (f .extension) ≡ factsIn s
 facts-delayed f d =
     facts-are (withDelay (f .header) d) (f .extension)
     ∙ rw (delayed-type (f .header) d) (sym (facts-are (f .header) (f .extension)))
     ∙ sym (facts-parsed f)
-
--- they tell the interval that was offered
-pub facts-field : (k : PictureKind) (i : RemovalInterval) (s : List ℕ) → layerFits k i s ≡ true → intervalOf (factsIn s .field) ≡ i
-facts-field k i s e =
-    let f = layer-fits k i s e in
-    ap (λ (y : PictureFacts). intervalOf (y .field)) (facts-parsed f ∙ facts-are (f .header) (f .extension)) ∙ f .interval
 
 -- ---- the bits after the delay
 
@@ -174,7 +151,7 @@ picture-head t b l c k w = record {
       w;
 }
 
-module _ {k : PictureKind} {i : RemovalInterval} {s : List ℕ} (f : LayerFits k i s) where
+module _ {s : List ℕ} (f : LayerFits s) where
   pub layer-header : PictureHeaderParsed s (f .header)
   layer-header = picture-header-parsed s (f .header) (picture-parsed s (f .header) (f .extension) (f .parsed) .header)
 

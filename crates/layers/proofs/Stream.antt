@@ -1,16 +1,13 @@
--- Headers, patched layers and zeros laid end to end: the pictures that such a stream shows, and what it declares.
+-- Headers, patched layers and zeros laid end to end: the pictures that such a stream shows, what it declares, and the cadence that it opens.
 -- Assumes nothing.
 use mathlib.Core.Path.{_≡_, refl, sym, ap, _∙_}
-use Prim.Native.Nat.{ℕ, _+_, _*_, _<_}
+use Prim.Native.Nat.{ℕ, _+_, _*_}
 use mathlib.Core.List.{List, [], _∷_, _++_, append-assoc}
 use mathlib.Core.Bool.{Bool, true, false}
 use native.Mathlib.Nat.{add-zero}
 use lib.ListN.{length, replicate, drop, length-append}
 use lib.Seq.{drop-append-add, drop-append-seam}
-use Rattle.vbv.specs.Model.{intervalOf}
-use Rattle.bits.proofs.Appending.{Below}
 use Rattle.vbv.specs.Patch.{patched}
-use Rattle.vbv.specs.declared.RemovalInterval.{RemovalInterval}
 use Rattle.vbv.specs.declared.VbvParams.{VbvParams}
 use Rattle.scan.specs.Pictures.{pictures}
 use Rattle.scan.proofs.Laid.{Tail, laid-pictures}
@@ -19,14 +16,13 @@ use Rattle.scan.proofs.Pieces.{piece-zeros}
 use Rattle.bits.specs.Refusals.{value}
 use Rattle.pictures.specs.Seen.{shown, seenEach, seenPictures}
 use Rattle.pictures.specs.Sequence.{declared}
+use Rattle.pictures.specs.Cadence.{cadenceBy, cadenceOf}
 use Rattle.pictures.specs.declared.VbvStandard.the-variants.{Mpeg2}
 use Rattle.pictures.specs.declared.SeenPicture.{SeenPicture}
 use Rattle.pictures.proofs.Seeing.{seen-none, seen-more, seen-all}
-use Rattle.layers.specs.declared.PictureKind.{PictureKind}
 use Rattle.layers.specs.Headers.{headersFit}
-use Rattle.layers.specs.Layer.{layerFits}
-use Rattle.layers.proofs.Laws.{layer-piece, headers-piece, layer-shown, first-declares, headers-declared}
-use Rattle.layers.proofs.Layers.{factsIn, facts-field}
+use Rattle.layers.specs.Layer.{factsIn}
+use Rattle.layers.proofs.Laws.{Laid, headers-piece, first-declares, headers-declared, headers-cadence}
 
 -- ---- parts
 
@@ -36,18 +32,14 @@ pub record Part : Type 0 where
   pub layer : List ℕ
   pub delay : ℕ
   pub zeros : ℕ
-  pub interval : RemovalInterval
 
 unfoldable pub bytesOf : Part → List ℕ
 bytesOf x = x .headers ++ (patched (x .layer) (x .delay) ++ replicate (x .zeros) 0)
 
--- headers and layer fit; `placed`: there is a picture before
+-- headers fit, and the layer is laid with its delay; `placed`: there is a picture before
 pub record PartFits (p : VbvParams) (placed : Bool) (x : Part) : Type 0 where
-  pub kind : PictureKind
   pub headers-fit : headersFit p placed (x .headers) ≡ true
-  pub layer-fits : layerFits kind (x .interval) (x .layer) ≡ true
-  pub layer-bytes : Below 256 (x .layer)
-  pub delay-bits : x .delay < 65536
+  pub laid : Laid (x .layer) (x .delay) (factsIn (x .layer))
 
 -- every part but the first has a picture before it
 pub data PartsFit (p : VbvParams) : Bool → List Part → Type 0 where
@@ -112,8 +104,7 @@ parts-more n x y xs t = refl
 part-piece : {p : VbvParams} {placed : Bool} {x : Part} → PartFits p placed x → Piece (bytesOf x) (length (x .headers))
 unfolding bytesOf
 part-piece {p} {placed} {x} f =
-    let l : Piece (patched (x .layer) (x .delay)) 0 = layer-piece (f .kind) (x .interval) (x .layer) (f .layer-fits) (f .layer-bytes) (x .delay) (f .delay-bits) in
-    rw add-zero at (headers-piece p placed (x .headers) (f .headers-fit) _ 0 (piece-zeros _ 0 (x .zeros) l))
+    rw add-zero at (headers-piece p placed (x .headers) (f .headers-fit) _ 0 (piece-zeros _ 0 (x .zeros) (f .laid .piece)))
 
 pieces : {p : VbvParams} {placed : Bool} {xs : List Part} → PartsFit p placed xs → Pieces
 pieces no-parts = none
@@ -125,10 +116,6 @@ stream-laid no-parts t = sym (laid-none t)
 stream-laid (part {x} f fs) t =
     ap (λ l. bytesOf x ++ l) (stream-laid fs t) ∙ sym (laid-more (bytesOf x) (length (x .headers)) (part-piece f) (pieces fs) t)
 
--- a part's facts tell the interval that it was offered with
-pub part-interval : {p : VbvParams} {placed : Bool} {x : Part} → PartFits p placed x → intervalOf (factsIn (x .layer) .field) ≡ x .interval
-part-interval {p} {placed} {x} f = facts-field (f .kind) (x .interval) (x .layer) (f .layer-fits)
-
 -- what a part's picture shows, wherever the part stands
 part-shown : {p : VbvParams} {placed : Bool} {x : Part} → PartFits p placed x → (before t : List ℕ)
     → shown Mpeg2 (drop (length before + length (x .headers)) (before ++ (bytesOf x ++ t))) ≡ value (x .delay, factsIn (x .layer))
@@ -138,7 +125,7 @@ part-shown {p} {placed} {x} f before t =
       ← part-then x t,
       drop-append-seam (x .headers) (patched (x .layer) (x .delay) ++ (replicate (x .zeros) 0 ++ t)),
     )
-    (layer-shown (f .kind) (x .interval) (x .layer) (f .layer-fits) (f .layer-bytes) (x .delay) (f .delay-bits) (replicate (x .zeros) 0 ++ t))
+    (f .laid .told-is (replicate (x .zeros) 0 ++ t))
 
 -- forward: of the parts after any bytes
 parts-seen : {p : VbvParams} {placed : Bool} {xs : List Part} (f : PartsFit p placed xs) (before t : List ℕ)
@@ -163,3 +150,8 @@ pub stream-declared : {p : VbvParams} {x : Part} (f : PartFits p false x) (xs : 
     → declared Mpeg2 (stream (x ∷ xs) t) ≡ value (first-declares p (x .headers) (f .headers-fit) .params)
 stream-declared {p} {x} f xs t =
     rw (stream-more x xs t, ← part-then x (stream xs t)) (headers-declared p (x .headers) (f .headers-fit) _)
+
+pub stream-cadence : (film : Bool) {p : VbvParams} {x : Part} → PartFits p false x → (xs : List Part) (t : List ℕ)
+    → cadenceOf film (stream (x ∷ xs) t) ≡ cadenceBy film (x .headers)
+stream-cadence film {p} {x} f xs t =
+    rw (stream-more x xs t, ← part-then x (stream xs t)) (headers-cadence film p (x .headers) (f .headers-fit) _)

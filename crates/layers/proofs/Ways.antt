@@ -3,12 +3,11 @@
 use mathlib.Core.Path.{_≡_, refl, sym, _∙_}
 use Prim.Native.Nat.{ℕ, _+_, _-_, _*_, _/_, _%_, _≤_, _<_}
 use mathlib.Core.List.{List, [], _∷_}
-use mathlib.Core.Bool.{Bool, true, false, not, _&&_, and-assoc}
+use mathlib.Core.Bool.{Bool, true, false, not, _&&_, _||_, and-assoc}
 use native.Mathlib.Omega.{arith}
 use lib.Dec.{eqb, leb}
 use lib.ListN.{length, getD, take, drop}
 use borrow.Author.Tests.{le-leb, lt-leb, leb-true, leb-false}
-use Rattle.vbv.specs.Model.{intervalOf}
 use Rattle.picture_header.specs.Facts.{isField}
 use Rattle.bits.specs.StartCodes.{sequenceHeaderCode}
 use Rattle.bits.specs.Bits.{there}
@@ -33,7 +32,7 @@ use Rattle.scan.proofs.Search.{codes-from-zero}
 use Rattle.scan.proofs.Prefix.{ends-last-three}
 use Rattle.layers.specs.Headers.{opensHeaders, sequenceFirst}
 use Rattle.layers.specs.declared.PictureKind.{PictureKind}
-use Rattle.layers.specs.Layer.{sameKind, sameInterval, flagClear, codeSeven, headersTell, headerFits, padding, slices, isExtension, layerCodes}
+use Rattle.layers.specs.Layer.{sameKind, agrees, flagClear, codeSeven, headersTell, headerFits, padding, slices, isExtension, layerCodes}
 
 -- ---- 00 00 01
 
@@ -141,17 +140,17 @@ module _ (s : List ℕ) (h : Mpeg2PictureHeader) (e : pictureHeader s ≡ value 
       cc
 
 -- headers that do not parse
-pub tests-none : (k : PictureKind) (i : RemovalInterval) (s : List ℕ) (n : ℕ) → refused n 0 0 0 ≡ picture s → false ≡ headerFits k i s
+pub tests-none : (film : Bool) (k : PictureKind) (i : RemovalInterval) (s : List ℕ) (n : ℕ) → refused n 0 0 0 ≡ picture s → false ≡ headerFits film k i s
 unfolding headerFits
-tests-none k i s n e = rw (← e)
+tests-none film k i s n e = rw (← e)
 
 -- both headers' tests, the vectors' four in one
-pub tests-are : (k : PictureKind) (i : RemovalInterval) (s : List ℕ) (h : Mpeg2PictureHeader) (x : PictureCodingExtension) → value (h, x) ≡ picture s
+pub tests-are : (film : Bool) (k : PictureKind) (i : RemovalInterval) (s : List ℕ) (h : Mpeg2PictureHeader) (x : PictureCodingExtension) → value (h, x) ≡ picture s
     → (sameKind k (h .«picture_coding_type»)
-    && (sameInterval i (intervalOf (isField (x .«picture_structure»)))
-    && (not (x .«repeat_first_field»)
+    && (agrees i (isField (x .«picture_structure»))
+    && ((film || not (x .«repeat_first_field»))
     && ((flagClear (h .«full_pel_forward_vector») && (codeSeven (h .«fwd_f_code») && (flagClear (h .«full_pel_backward_vector») && codeSeven (h .«bwd_f_code»))))
     && (eqb (padding s h) 0 && leb 2 (leadingZeros (drop (pictureHeaderBytes h) s)))))))
-    ≡ headerFits k i s
+    ≡ headerFits film k i s
 unfolding headerFits headersTell
-tests-are k i s h x e = rw (← e) (simp and-assoc)
+tests-are film k i s h x e = rw (← e) (simp and-assoc)

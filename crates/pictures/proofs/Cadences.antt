@@ -90,14 +90,14 @@ of-film film s = case (found (skip notSequence (codes s)))
     case Nothing = opened-film film false false
 
 -- before its first picture a film stream has what its sequence has, and nothing else
+unfoldable readAs : Answer Mpeg2Sequence → VbvCadence
+readAs r = orElse (opened true false false) (andThen r (λ q. value (opened true (q .extension .«progressive_sequence») (q .extension .«low_delay»))))
+
 by-first : (s : List ℕ) → cadenceBy true s ≡ opened true (cadenceBy true s .progressive) (cadenceBy true s .«low_delay»)
-unfolding cadenceBy opened
+unfolding cadenceBy opened readAs
 by-first s = case (sequence s)
   where
-    abbrev of : Answer Mpeg2Sequence → VbvCadence
-    of r = orElse (opened true false false) (andThen r (λ q. value (opened true (q .extension .«progressive_sequence») (q .extension .«low_delay»))))
-
-    case : (r : Answer Mpeg2Sequence) → of r ≡ opened true (of r .progressive) (of r .«low_delay»)
+    case : (r : Answer Mpeg2Sequence) → readAs r ≡ opened true (readAs r .progressive) (readAs r .«low_delay»)
     case (value q) = refl
     case (refused n k c e) = refl
 
@@ -107,6 +107,24 @@ first-cadence s = case (found (skip notSequence (codes s)))
   where
     case : (f : Found) → cadenceAt true s f ≡ opened true (cadenceAt true s f .progressive) (cadenceAt true s f .«low_delay»)
     case (At o c) = by-first (drop o s)
+    case Nothing = refl
+
+-- and no picture's flag
+by-unflagged : (film : Bool) (s : List ℕ) → cadenceBy film s .repeat ≡ false
+unfolding cadenceBy opened
+by-unflagged film s = case (sequence s)
+  where
+    case : (r : Answer Mpeg2Sequence)
+        → orElse (opened film false false) (andThen r (λ q. value (opened film (q .extension .«progressive_sequence») (q .extension .«low_delay»)))) .repeat ≡ false
+    case (value q) = refl
+    case (refused n k c e) = refl
+
+pub unflagged : (film : Bool) (s : List ℕ) → cadenceOf film s .repeat ≡ false
+unfolding cadenceOf cadenceAt opened
+unflagged film s = case (found (skip notSequence (codes s)))
+  where
+    case : (f : Found) → cadenceAt film s f .repeat ≡ false
+    case (At o c) = by-unflagged film (drop o s)
     case Nothing = refl
 
 -- what the fields say

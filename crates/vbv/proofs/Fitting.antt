@@ -116,7 +116,14 @@ pub delivered-div : (m : VbvCbrModel) → modelFits m ≡ true → delivered m /
 unfolding delivered unit
 delivered-div m h = digits-div (m .whole) (model-fits h .rest-low)
 
--- an interval is six periods at most
+-- an interval is one period at least and six at most
+pub periods-least : (i : RemovalInterval) → 1 ≤ periods i
+periods-least Frame = omega arith
+periods-least Field = omega arith
+periods-least ThreeFields = omega arith
+periods-least TwoFrames = omega arith
+periods-least ThreeFrames = omega arith
+
 pub periods-most : (i : RemovalInterval) → periods i ≤ 6
 periods-most Frame = omega arith
 periods-most Field = omega arith

@@ -36,7 +36,7 @@ use Rattle.verify.specs.Check.{Accepted, accepted, withPictures, verdict
 use Rattle.verify.specs.Accepted.{Conforms, Along, none, more, Passes, AcceptedExactly, Uncut, NothingCut}
 use Rattle.verify.proofs.Rising.{Rising, last, next, timed-rising, timed-length}
 use Rattle.verify.proofs.Conforming.{conforms, conforming}
-use Rattle.verify.proofs.Modes.{verdict-in, verdict-none}
+use Rattle.verify.proofs.Modes.{mode-exists, existing, verdict-in, verdict-none}
 
 -- ---- a run, both ways
 
@@ -147,7 +147,7 @@ of-mode : {m : VbvMode} {s : List ℕ} {places : ℕ} {p : VbvParams} {rs : List
 of-mode h a = record {
   first = a .first;
   others = a .others;
-  is-read = record { mode-fits = h; is-read = a .is-read };
+  is-read = record { mode-exists = mode-exists _ h; is-read = a .is-read };
   constant-rate = a .constant-rate;
   params-fit = a .params-fit;
   places-suffice = a .places-suffice;
@@ -164,7 +164,7 @@ module _ (m : VbvMode) (s : List ℕ) (places : ℕ) where
 
   passing : {p : VbvParams} {r : VbvPictureRecord} {rs : List VbvPictureRecord} → Passes m s places p (r ∷ rs)
       → verdict m s places ≡ value (record { params = p; first = r; others = rs })
-  passing a = verdict-in m s places (a .is-read .mode-fits) ∙ passing-by (in-mode a)
+  passing a = verdict-in m s places (existing m (a .is-read .mode-exists)) ∙ passing-by (in-mode a)
 
 pub accepted-exactly : AcceptedExactly
 accepted-exactly m s places a = (passed m s places, passing m s places)

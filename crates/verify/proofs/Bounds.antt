@@ -9,7 +9,7 @@ use lib.ListN.{length}
 use Rattle.bits.specs.Refusals.{Answer, value, refused}
 use Rattle.vbv.specs.Model.{paramsFit}
 use Rattle.vbv.specs.declared.VbvParams.{VbvParams}
-use Rattle.vbv.proofs.Fitting.{params-fit, periods-most}
+use Rattle.vbv.proofs.Fitting.{params-fit, periods-least, periods-most}
 use Rattle.bits.proofs.Following.{refused-value}
 use Rattle.vbv.proofs.Laws.{occupancy-most, units-over}
 use Rattle.verify.specs.declared.CodedPicture.{CodedPicture}
@@ -44,6 +44,7 @@ module _ {p : VbvParams} (f : paramsFit p ≡ true) where
         coded-small = q .delay-small;
         expected-small = omega (arith, w .sayable);
         data-small = omega (arith, q .end-near);
+        periods-low = omega (arith, periods-least (c .interval));
         periods-small = omega (arith, periods-most (c .interval));
         occupancy-small = omega (arith, occupancy-most p f previous d (units-over p previous d (w .no-overflow)), params-fit f .size-high);
       }

@@ -18,6 +18,7 @@ use Rattle.pictures.specs.Front.{Front, front}
 use Rattle.pictures.specs.Due as fr
 use Rattle.pictures.specs.Due.{FrontDue}
 use Rattle.pictures.specs.Cadence.{cadenceOf}
+use Rattle.pictures.specs.declared.VbvStandard.the-variants.{Mpeg1}
 use Rattle.pictures.specs.declared.SeenPicture.{SeenPicture}
 use Rattle.pictures.proofs.Due.{front-due}
 use Rattle.verify.specs.Mode.{modeFits}
@@ -28,7 +29,7 @@ use Rattle.verify.specs.Due as due
 use Rattle.verify.specs.Due.{expectedAt, AsExpected, RemovalDue, RunDue, Modelled, VerdictDue, CheckDue}
 use Rattle.verify.specs.declared.VbvMode.{VbvMode}
 use Rattle.verify.specs.declared.CodedPicture.{CodedPicture}
-use Rattle.verify.proofs.Modes.{unfit-mode}
+use Rattle.verify.proofs.Modes.{unfit-mode, mode-exists}
 use Rattle.verify.proofs.Rising.{timed-first, timed-length}
 use Rattle.verify.specs.declared.VbvPictureRecord.{VbvPictureRecord}
 
@@ -107,16 +108,16 @@ module _ (m : VbvMode) (s : List ℕ) (places : ℕ) where
       ran (record { is-read = g; constant-rate = eqb-false _ _ h5; params-fit = not-false _ h12; places-suffice = omega (arith, ltb-false places (length (timedIn m s (x ∷ xs))) h15) }) _
       (run-due p 0 0 (firstDelivered p (x .«pos_bits») (x .«vbv_delay»)) (timedIn m s (x ∷ xs)))
 
-  by-front : modeFits m ≡ true → (a : Answer Front) → FrontDue (m .standard) s a
+  by-front : (m .standard ≡ Mpeg1 → m .film ≡ false) → (a : Answer Front) → FrontDue (m .standard) s a
       → J (andThen a (λ f. withPictures places (f .params) (f .first) (timedIn m s (f .first ∷ f .others))))
   by-front e (refused n k i j) d = due.by-front e d
-  by-front e (value f) (fr.all-read g) = with-pictures (record { mode-fits = e; is-read = g })
+  by-front e (value f) (fr.all-read g) = with-pictures (record { mode-exists = e; is-read = g })
 
   verdict-due : J (verdict m s places)
   unfolding verdict verdictBy
   verdict-due =
       pick-elim J _ (λ z. let u = unfit-mode m (not-true _ z) in due.no-film (u .0) (u .1)) λ h.
-      by-front (not-false _ h) (front (m .standard) s) (front-due (m .standard) s)
+      by-front (mode-exists m (not-false _ h)) (front (m .standard) s) (front-due (m .standard) s)
 
 pub check-due : CheckDue
 check-due m s places = verdict-due m s places

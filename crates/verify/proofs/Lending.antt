@@ -9,19 +9,16 @@ use lib.ListN.{length, set, length-set}
 use lib.Seq.{sets}
 use Rattle.bits.specs.Answers.{over}
 use Rattle.bits.proofs.Over.{over-sets}
-use mathlib.Core.Bool.{false}
-use Rattle.cadence.specs.Cadence.{opened}
 use Rattle.pictures.specs.Front.{opening}
-use Rattle.pictures.proofs.Cadences.{plain-of}
 use Rattle.verify.specs.Mode.{plain}
 use Rattle.pictures.specs.declared.VbvStandard.{VbvStandard}
 use Rattle.verify.specs.Answers.{verifiedAnswer}
 use Rattle.verify.specs.Check.{verdict, reported, records}
-use Rattle.verify.specs.Steps.{recordCount, recorderOf, nextRecord, recordsOf}
+use Rattle.verify.specs.Steps.{recordCount, recorderOf, nextRecord, recordsBy}
 use Rattle.verify.specs.declared.VbvPictureRecord.{VbvPictureRecord}
 use Rattle.verify.specs.declared.VbvVerified.{VbvVerified}
 use Rattle.verify.specs.declared.recorder.VbvRecorder.{VbvRecorder}
-use Rattle.verify.proofs.Recording.{stateOf, state-front, records-none, records-front, recorded}
+use Rattle.verify.proofs.Recording.{stateOf, state-front, recorderStep, records-none, records-front, recorded}
 
 -- the places once the first i records are stored
 abbrev pub storedOf : List ℕ → VbvRecorder → ℕ → List VbvPictureRecord → List VbvPictureRecord
@@ -47,18 +44,18 @@ stored-front : (s : List ℕ) (w : VbvRecorder) (j i : ℕ) (ys : List VbvPictur
 stored-front s w j zero ys = rw (add-zero j)
 stored-front s w j (suc i) ys = rw (stored-front s w j i ys, state-front s w i, add-suc j i, suc-add j i)
 
-laid-over : (s : List ℕ) (w : VbvRecorder) (i j : ℕ) (ys : List VbvPictureRecord) → storedFrom s w j i ys ≡ sets ys j (recordsOf s w i)
-laid-over s w zero j ys = rw (records-none s w)
-laid-over s w (suc i) j ys = rw (records-front s w i) (stored-front s w j i ys ∙ laid-over s (nextRecord s w .recorder) i (suc j) (set ys j (nextRecord s w .last)))
+laid-over : (s : List ℕ) (w : VbvRecorder) (i j : ℕ) (ys : List VbvPictureRecord) → storedFrom s w j i ys ≡ sets ys j (recordsBy (recorderStep s) w i)
+laid-over s w zero j ys = rw (records-none (recorderStep s) w)
+laid-over s w (suc i) j ys = rw (records-front (recorderStep s) w i) (stored-front s w j i ys ∙ laid-over s (nextRecord s w .recorder) i (suc j) (set ys j (nextRecord s w .last)))
 
--- as many as the answer has, outside film
+-- as many as the answer has
 pub stored-is : (standard : VbvStandard) (s : List ℕ) (ys : List VbvPictureRecord) (r : VbvVerified) → verifiedAnswer r ≡ reported (verdict (plain standard) s (length ys))
-    → storedOf s (recorderOf standard (opened false false false) (opening standard s)) (recordCount r) ys ≡ over (records (verdict (plain standard) s (length ys))) ys
+    → storedOf s (recorderOf standard (opening standard s)) (recordCount r) ys ≡ over (records (verdict (plain standard) s (length ys))) ys
 stored-is standard s ys r h =
-    let w = recorderOf standard (opened false false false) (opening standard s) in
-    let k = rw (plain-of s) at (recorded (plain standard) s (length ys) r h) in
+    let w = recorderOf standard (opening standard s) in
+    let k = recorded standard s (length ys) r h in
     from-first s w (recordCount r) ys ∙ laid-over s w (recordCount r) 0 ys ∙ rw (k .each) (over-sets (records (verdict (plain standard) s (length ys))) ys (omega (arith, k .few, k .count)))
 
 pub count-few : (standard : VbvStandard) (s : List ℕ) (places : ℕ) (r : VbvVerified) → verifiedAnswer r ≡ reported (verdict (plain standard) s places)
     → recordCount r ≤ places
-count-few standard s places r h = recorded (plain standard) s places r h .few
+count-few standard s places r h = recorded standard s places r h .few

@@ -16,4 +16,5 @@ pub mod Cases
 pub mod Places
 pub mod Numbering
 pub mod Rates
+pub mod AsBefore
 pub mod Due

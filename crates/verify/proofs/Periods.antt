@@ -1,9 +1,10 @@
 -- The periods in the records are those of the gain, and go by the pictures' structure.
 -- Assumes nothing.
-use mathlib.Core.Path.{_≡_, ap, _∙_}
+use mathlib.Core.Path.{_≡_, sym, ap, subst, _∙_}
 use mathlib.Core.Bool.{Bool, true, false}
 use mathlib.Core.List.{List, [], _∷_}
-use Prim.Native.Nat.{ℕ}
+use Prim.Native.Nat.{ℕ, _+_}
+use Rattle.vbv.specs.Annex.{firstDelivered, gain}
 use Rattle.bits.specs.Refusals.{value}
 use Rattle.vbv.specs.Model.{periods, intervalOf}
 use Rattle.vbv.specs.declared.VbvParams.{VbvParams}
@@ -13,8 +14,8 @@ use Rattle.cadence.specs.Cadence.{after}
 use Rattle.cadence.specs.History.{cadenceAfter}
 use Rattle.cadence.specs.declared.VbvCadence.{VbvCadence}
 use Rattle.cadence.proofs.Plain.{outside-film}
-use Rattle.cadence.proofs.Keeping.{film-kept}
-use Rattle.cadence.proofs.History.{after-more, by-history}
+use Rattle.cadence.proofs.Keeping.{film-kept, after-none, after-more}
+use Rattle.cadence.proofs.History.{by-history}
 use Rattle.pictures.specs.Cadence.{cadenceOf}
 use Rattle.pictures.proofs.Cadences.{of-film, first-cadence}
 use Rattle.pictures.specs.Seen.{seenPictures}
@@ -26,7 +27,7 @@ use Rattle.verify.specs.Coded.{timed}
 use Rattle.verify.specs.Run.{recordOf}
 use Rattle.verify.specs.Accepted as ac
 use Rattle.verify.specs.Accepted.{Conforms, Along}
-use Rattle.verify.specs.Periods.{Counted, no-more, one-more, Lasts, Paired, none, more, FilmPaired, no-picture, picture-then, PeriodsTold}
+use Rattle.verify.specs.Periods.{Counted, no-more, one-more, Lasts, Paired, none, more, FilmPaired, no-picture, picture-then, FilmTimed, no-coded, coded-then, PeriodsTold}
 use Rattle.verify.specs.declared.CodedPicture.{CodedPicture}
 use Rattle.verify.specs.declared.VbvPictureRecord.{VbvPictureRecord}
 
@@ -58,9 +59,21 @@ film-paired : {p : VbvParams} {previous d : ℕ} (progressive low : Bool) (befor
     → Along p (Conforms p) previous d (timed (cadenceAfter progressive low before) xs) rs → FilmPaired progressive low before xs rs
 unfolding timed
 film-paired progressive low before [] ac.none = no-picture
-film-paired progressive low before (x ∷ xs) (ac.more w t) =
-    picture-then (periods-are w ∙ by-history progressive low before (x .facts))
-    (film-paired progressive low (x .facts ∷ before) xs (rw (after-more progressive low before (x .facts)) t))
+film-paired {p} progressive low before (x ∷ xs) (ac.more {previous = previous} {d = d} {c = c} {rs = rs} w t) =
+    picture-then {rs = rs} (periods-are w ∙ by-history progressive low before (x .facts))
+    (film-paired {p = p} {previous = c .«end_bits»} {d = d + gain p (periods (c .interval))} progressive low (x .facts ∷ before) xs (rw (after-more progressive low before (x .facts)) t))
+
+film-timed : (progressive low : Bool) (before : List PictureFacts) (xs : List SeenPicture)
+    → FilmTimed progressive low before xs (timed (cadenceAfter progressive low before) xs)
+unfolding timed
+film-timed progressive low before [] = no-coded
+film-timed progressive low before (x ∷ xs) =
+    coded-then {xs = xs} {cs = timed (after (cadenceAfter progressive low before) (x .facts)) xs} (by-history progressive low before (x .facts))
+    (rw (← after-more progressive low before (x .facts)) (film-timed progressive low (x .facts ∷ before) xs))
+
+-- before its first picture a film stream has seen none
+none-seen : (s : List ℕ) → cadenceOf true s ≡ cadenceAfter (cadenceOf true s .progressive) (cadenceOf true s .«low_delay») []
+none-seen s = first-cadence s ∙ sym (after-none _ _)
 
 pub periods-told : PeriodsTold
 periods-told = record {
@@ -68,5 +81,9 @@ periods-told = record {
   by-structure = λ m s places p rs a z.
       paired (cadenceOf (m .film) s) (a .first ∷ a .others) (rw (of-film (m .film) s) z) (frames-in (m .standard) s (a .first ∷ a .others) (a .is-read .is-read .pictures-are)) (a .removals);
   by-film = λ m s places p rs a z.
-      film-paired (cadenceOf true s .progressive) (cadenceOf true s .«low_delay») [] (a .first ∷ a .others) (rw (← first-cadence s, ← z) (a .removals));
+      film-paired (cadenceOf true s .progressive) (cadenceOf true s .«low_delay») [] (a .first ∷ a .others)
+      (subst (λ (k : VbvCadence). Along p (Conforms p) 0 (firstDelivered p (a .first .«pos_bits») (a .first .«vbv_delay»)) (timed k (a .first ∷ a .others)) rs) (ap (λ (b : Bool). cadenceOf b s) z ∙ none-seen s) (a .removals));
+  film-timed = λ s xs.
+      subst (λ (k : VbvCadence). FilmTimed (cadenceOf true s .progressive) (cadenceOf true s .«low_delay») [] xs (timed k xs)) (sym (none-seen s))
+      (film-timed (cadenceOf true s .progressive) (cadenceOf true s .«low_delay») [] xs);
 }

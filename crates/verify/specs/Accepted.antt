@@ -3,7 +3,7 @@
 use Prim.Native.Nat.{ℕ, _+_, _*_, _≤_}
 use mathlib.Core.Path.{_≡_}
 use mathlib.Core.Logic.{_↔_}
-use mathlib.Core.Bool.{true}
+use mathlib.Core.Bool.{true, false}
 use mathlib.Core.List.{List, [], _∷_}
 use lib.ListN.{length}
 use Rattle.bits.specs.Refusals.{value}
@@ -12,8 +12,8 @@ use Rattle.vbv.specs.Model.{paramsFit, periods}
 use Rattle.vbv.specs.declared.VbvParams.{VbvParams}
 use Rattle.pictures.specs.Due.{Read}
 use Rattle.pictures.specs.Cadence.{cadenceOf}
+use Rattle.pictures.specs.declared.VbvStandard.the-variants.{Mpeg1}
 use Rattle.pictures.specs.declared.SeenPicture.{SeenPicture}
-use Rattle.verify.specs.Mode.{modeFits}
 use Rattle.verify.specs.Coded.{timed}
 use Rattle.verify.specs.Run.{recordOf}
 use Rattle.verify.specs.Check.{Accepted, verdict}
@@ -42,9 +42,9 @@ pub data Along (p : VbvParams) (Each : ℕ → ℕ → CodedPicture → VbvPictu
   more : {previous d : ℕ} {c : CodedPicture} {cs : List CodedPicture} {r : VbvPictureRecord} {rs : List VbvPictureRecord} → Each previous d c r
       → Along p Each (c .«end_bits») (d + gain p (periods (c .interval))) cs rs → Along p Each previous d (c ∷ cs) (r ∷ rs)
 
--- in a mode that there is, what is read of a stream: 14, 3, 1, 2, 6, 4 are passed
+-- what is read of a stream in a mode that exists: 12, 14, 3, 1, 2, 6, 4 are passed
 pub record ReadIn (m : VbvMode) (s : List ℕ) (p : VbvParams) (x : SeenPicture) (xs : List SeenPicture) : Type 0 where
-  pub mode-fits : modeFits m ≡ true
+  pub mode-exists : m .standard ≡ Mpeg1 → m .film ≡ false
   pub is-read : Read (m .standard) s p x xs
 
 -- the pictures of a stream as the model sees them: by the cadence that its first sequence header opens
@@ -53,7 +53,7 @@ timedIn m s xs = timed (cadenceOf (m .film) s) xs
 
 -- a stream that declares p, whose pictures are recorded as rs
 pub record Passes (m : VbvMode) (s : List ℕ) (places : ℕ) (p : VbvParams) (rs : List VbvPictureRecord) : Type 0 where
-  -- 12, 14, 3, 1, 2, 6, 4: there is the mode, the stream has 2^48 bits at most, its first sequence header and every picture header can be read, and there is one
+  -- 12, 14, 3, 1, 2, 6, 4: the mode exists, the stream has 2^48 bits at most, its first sequence header and every picture header can be read, and there is one
   pub first : SeenPicture
   pub others : List SeenPicture
   pub is-read : ReadIn m s p first others

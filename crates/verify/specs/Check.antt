@@ -1,4 +1,4 @@
--- The check of a stream (paper 01, 'The buffer report'; paper 02, request 05): 12 for a mode that there is none of; the front (14, 3, sequence header, extension, 6, every picture header, 4), then 5, 12, 15 and the run's 7, 8, 11, 9, 10.
+-- The check of a stream (paper 01, 'The buffer report'; paper 02, request 05): 12 for a mode that does not exist (MPEG-1 film); the front (14, 3, sequence header, extension, 6, every picture header, 4), then 5, 12, 15 and the run's 7, 8, 11, 9, 10.
 -- Assumes nothing.
 use Prim.Native.Nat.{ℕ}
 use mathlib.Core.List.{List, [], _∷_}

@@ -12,7 +12,6 @@ use Rattle.vbv.specs.declared.VbvParams.{VbvParams}
 use Rattle.pictures.specs.Due.{FrontDue}
 use Rattle.pictures.specs.declared.VbvStandard.the-variants.{Mpeg1}
 use Rattle.pictures.specs.declared.SeenPicture.{SeenPicture}
-use Rattle.verify.specs.Mode.{modeFits}
 use Rattle.verify.specs.Check.{Accepted, verdict}
 use Rattle.verify.specs.Accepted.{Conforms, ReadIn, timedIn}
 use Rattle.verify.specs.declared.VbvMode.{VbvMode}
@@ -65,7 +64,7 @@ pub record Modelled (m : VbvMode) (s : List ℕ) (places : ℕ) (p : VbvParams) 
 
 pub data VerdictDue (m : VbvMode) (s : List ℕ) (places : ℕ) : Answer Accepted → Type 0 where
   no-film : m .standard ≡ Mpeg1 → m .film ≡ true → VerdictDue m s places (refused 12 0 0 0)
-  by-front : {n k i j : ℕ} → modeFits m ≡ true → FrontDue (m .standard) s (refused n k i j) → VerdictDue m s places (refused n k i j)
+  by-front : {n k i j : ℕ} → (m .standard ≡ Mpeg1 → m .film ≡ false) → FrontDue (m .standard) s (refused n k i j) → VerdictDue m s places (refused n k i j)
   variable-rate : {p : VbvParams} {x : SeenPicture} {xs : List SeenPicture} → ReadIn m s p x xs → x .«vbv_delay» ≡ 0xFFFF
       → VerdictDue m s places (refused 5 0 0 0)
   unfit : {p : VbvParams} {x : SeenPicture} {xs : List SeenPicture} → ReadIn m s p x xs → (x .«vbv_delay» ≡ 0xFFFF → ⊥) → paramsFit p ≡ false

@@ -8,7 +8,7 @@ pub mod Answers
 pub mod Layout
 pub mod Periods
 pub mod Rates
-pub mod Flags
+pub mod Plain
 pub mod Sizes
 pub mod Numbers
 pub mod Steps

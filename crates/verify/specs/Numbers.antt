@@ -1,4 +1,4 @@
--- Which refusals the check has (paper 01, 'The buffer report'; 12 for a mode that there is none of comes first too): 9 to 11 with picture, coded and expected, every other with zeros.
+-- Which refusals the check has (paper 01, 'The buffer report'; 12 for a mode that does not exist comes first too): 9 to 11 with picture, coded and expected, every other with zeros.
 -- Assumes nothing.
 use Prim.Native.Nat.{ℕ}
 use mathlib.Core.List.{List, [], _∷_}

@@ -5,6 +5,8 @@ use mathlib.Core.Path.{_≡_}
 use mathlib.Core.Bool.{Bool, true, false}
 use mathlib.Core.List.{List, [], _∷_}
 use Rattle.vbv.specs.Annex.{firstDelivered, gain}
+use Rattle.vbv.specs.Model.{periods}
+use Rattle.vbv.specs.declared.RemovalInterval.{RemovalInterval}
 use Rattle.vbv.specs.declared.VbvParams.{VbvParams}
 use Rattle.picture_header.specs.declared.PictureFacts.{PictureFacts}
 use Rattle.cadence.specs.History.{lastsAfter}
@@ -12,6 +14,7 @@ use Rattle.pictures.specs.Cadence.{cadenceOf}
 use Rattle.pictures.specs.declared.VbvStandard.{VbvStandard}
 use Rattle.pictures.specs.declared.VbvStandard.the-variants.{Mpeg1}
 use Rattle.pictures.specs.declared.SeenPicture.{SeenPicture}
+use Rattle.verify.specs.Coded.{codedOf, timed}
 use Rattle.verify.specs.Accepted.{Conforms, Passes, timedIn}
 use Rattle.verify.specs.declared.VbvMode.{VbvMode}
 use Rattle.verify.specs.declared.CodedPicture.{CodedPicture}
@@ -41,12 +44,19 @@ pub data FilmPaired (progressive low : Bool) : List PictureFacts → List SeenPi
   picture-then : {before : List PictureFacts} {x : SeenPicture} {xs : List SeenPicture} {r : VbvPictureRecord} {rs : List VbvPictureRecord}
       → r .periods ≡ lastsAfter progressive low before (x .facts) → FilmPaired progressive low (x .facts ∷ before) xs rs → FilmPaired progressive low before (x ∷ xs) (r ∷ rs)
 
+-- and of pictures as the model sees them, so of refused streams too
+pub data FilmTimed (progressive low : Bool) : List PictureFacts → List SeenPicture → List CodedPicture → Type 0 where
+  no-coded : {before : List PictureFacts} → FilmTimed progressive low before [] []
+  coded-then : {before : List PictureFacts} {x : SeenPicture} {xs : List SeenPicture} {i : RemovalInterval} {cs : List CodedPicture}
+      → periods i ≡ lastsAfter progressive low before (x .facts) → FilmTimed progressive low (x .facts ∷ before) xs cs → FilmTimed progressive low before (x ∷ xs) (codedOf i x ∷ cs)
+
 -- what is owed, of every stream that the check accepts (`Passes`: these and no others, specs/Accepted.antt)
 pub record PeriodsTold : Type 0 where
   pub up-to-next : (m : VbvMode) (s : List ℕ) (places : ℕ) (p : VbvParams) (rs : List VbvPictureRecord) (a : Passes m s places p rs)
       → Counted p 0 (firstDelivered p (a .first .«pos_bits») (a .first .«vbv_delay»)) (timedIn m s (a .first ∷ a .others)) rs
   pub by-structure : (m : VbvMode) (s : List ℕ) (places : ℕ) (p : VbvParams) (rs : List VbvPictureRecord) (a : Passes m s places p rs) → m .film ≡ false
       → Paired (m .standard) (a .first ∷ a .others) rs
-  -- progressive_sequence and low_delay are those of the extension after the first sequence header (pictures/specs/Due.antt)
+  -- progressive_sequence and low_delay are those of the extension after the first sequence header (`SequenceOpens`, pictures/specs/Due.antt)
   pub by-film : (m : VbvMode) (s : List ℕ) (places : ℕ) (p : VbvParams) (rs : List VbvPictureRecord) (a : Passes m s places p rs) → m .film ≡ true
       → FilmPaired (cadenceOf true s .progressive) (cadenceOf true s .«low_delay») [] (a .first ∷ a .others) rs
+  pub film-timed : (s : List ℕ) (xs : List SeenPicture) → FilmTimed (cadenceOf true s .progressive) (cadenceOf true s .«low_delay») [] xs (timed (cadenceOf true s) xs)

@@ -7,7 +7,7 @@ use lib.ListN.{length}
 use lib.Seq.{sets}
 use Rattle.bits.specs.Bits.{pick}
 use Rattle.bits.specs.Refusals.{Answer, value, refused, refuse, andThen, orElse}
-use Rattle.vbv.specs.Model.{periods, newModel, startModel, delayForPicture, removePicture, occupancyBeforeRemoval}
+use Rattle.vbv.specs.Model.{intervalOf, periods, newModel, startModel, delayForPicture, removePicture, occupancyBeforeRemoval}
 use Rattle.vbv.specs.Steps.{modelOf, delayOf, bitsOf, removalOf}
 use Rattle.vbv.specs.declared.VbvParams.{VbvParams}
 use Rattle.vbv.specs.declared.VbvCbrModel.{VbvCbrModel}
@@ -172,12 +172,6 @@ unfoldable pub recordCount : VbvVerified → ℕ
 recordCount (vf.Report x) = x .pictures
 recordCount (vf.Refused e) = 0
 
--- before the first picture; where the opening is refused (14, 3, 1, 2, 6) no record is asked of it
-unfoldable pub recorderOf : VbvStandard → VbvCadence → Answer VbvParams → VbvRecorder
-recorderOf standard k (value p) = record { standard = standard; params = p; at = 0; cadence = k; progress = Fresh }
-recorderOf standard k (refused n i c e) =
-    record { standard = standard; params = record { «bit_rate» = 0; «buffer_size_bits» = 0; frn = 0; frd = 0 }; at = 0; cadence = k; progress = Unmodelled NoSequenceHeader }
-
 unfoldable pub noRecord : VbvPictureRecord
 noRecord = record { «vbv_delay» = 0; «expected_delay» = 0; «data_bits» = 0; «occupancy_before_bits» = 0; periods = 0 }
 
@@ -191,22 +185,61 @@ lastOf (Stopped e) = noRecord
 unfoldable pub storedNext : ℕ → ℕ → Progress → List ℕ → List ℕ
 storedNext count i st out = pick (ltb i count) (sets out (recordSize * i) (recordBytes (lastOf st))) out
 
+-- a walk over the pictures: where it goes on, the cadence before the next picture, and how far the model has come
+pub record Walker : Type 0 where
+  pub standard : VbvStandard
+  pub params : VbvParams
+  pub at : ℕ
+  pub cadence : VbvCadence
+  pub progress : Progress
+
+-- before the first picture, with these parameters and this cadence
+abbrev pub walkerOf : VbvStandard → VbvCadence → VbvParams → Walker
+walkerOf standard k p = record { standard = standard; params = p; at = 0; cadence = k; progress = Fresh }
+
+-- after one more picture, and that picture's record
+unfoldable pub steppedBy : Walker → Sight → Walker × VbvPictureRecord
+steppedBy w nothing = (w, noRecord)
+steppedBy w (one x next) =
+    (record {
+      standard = w .standard;
+      params = w .params;
+      at = next;
+      cadence = after (w .cadence) (x .facts);
+      progress = advanced (w .params) (w .progress) (codedOf (interval (w .cadence) (x .facts)) x);
+    }, lastOf (advanced (w .params) (w .progress) (codedOf (interval (w .cadence) (x .facts)) x)))
+
+unfoldable pub nextStep : List ℕ → Walker → Walker × VbvPictureRecord
+nextStep s w = orElse (w, noRecord) (andThen (nextSeen (w .standard) s (w .at)) (λ g. value (steppedBy w g)))
+
+-- the first i records of steps
+unfoldable pub recordsBy : {W : Type 0} → (W → W × VbvPictureRecord) → W → ℕ → List VbvPictureRecord
+recordsBy next w zero = []
+recordsBy next w (suc i) = next w .1 ∷ recordsBy next (next w .0) i
+
+-- of a stream, by what its opening answers; where it is refused (14, 3, 1, 2, 6) none is asked
+unfoldable pub recordsAfter : VbvStandard → VbvCadence → List ℕ → Answer VbvParams → ℕ → List VbvPictureRecord
+recordsAfter standard k s (value p) i = recordsBy (nextStep s) (walkerOf standard k p) i
+recordsAfter standard k s (refused n j c e) i = []
+
+-- ---- outside film, as the code's recorder has it: no cadence is kept
+
+-- before the first picture; where the opening is refused (14, 3, 1, 2, 6) no record is asked of it
+unfoldable pub recorderOf : VbvStandard → Answer VbvParams → VbvRecorder
+recorderOf standard (value p) = record { standard = standard; params = p; at = 0; progress = Fresh }
+recorderOf standard (refused n k c e) =
+    record { standard = standard; params = record { «bit_rate» = 0; «buffer_size_bits» = 0; frn = 0; frd = 0 }; at = 0; progress = Unmodelled NoSequenceHeader }
+
 unfoldable pub stayed : VbvRecorder → VbvRecorded
 stayed w = record { recorder = w; last = noRecord }
 
-unfoldable pub wentOn : VbvRecorder → ℕ → VbvCadence → Progress → VbvRecorded
-wentOn w next k st =
-    record { recorder = record { standard = w .standard; params = w .params; at = next; cadence = k; progress = st }; last = lastOf st }
+unfoldable pub wentOn : VbvRecorder → ℕ → Progress → VbvRecorded
+wentOn w next st =
+    record { recorder = record { standard = w .standard; params = w .params; at = next; progress = st }; last = lastOf st }
 
 unfoldable pub recordedBy : VbvRecorder → Sight → VbvRecorded
 recordedBy w nothing = stayed w
-recordedBy w (one x next) =
-    wentOn w next (after (w .cadence) (x .facts)) (advanced (w .params) (w .progress) (codedOf (interval (w .cadence) (x .facts)) x))
+recordedBy w (one x next) = wentOn w next (advanced (w .params) (w .progress) (codedOf (intervalOf (x .facts .field)) x))
 
 unfoldable pub nextRecord : List ℕ → VbvRecorder → VbvRecorded
 nextRecord s w = orElse (stayed w) (andThen (nextSeen (w .standard) s (w .at)) (λ g. value (recordedBy w g)))
-
--- the first i records
-unfoldable pub recordsOf : List ℕ → VbvRecorder → ℕ → List VbvPictureRecord
-recordsOf s w zero = []
-recordsOf s w (suc i) = nextRecord s w .last ∷ recordsOf s (nextRecord s w .recorder) i

@@ -1,8 +1,6 @@
-// The records of a stream one by one.
+// The records of a stream one by one, outside film.
 ghost use mathlib.Core.Path.{_≡_};
 ghost use Rattle.pictures.specs.Front.{opening as openingOf};
-ghost use Rattle.cadence.specs.Cadence.{opened};
-ghost use mathlib.Core.Bool.{false};
 ghost use Rattle.verify.specs.Steps.{recorderOf, recordCount, noRecord, lastOf, stayed, wentOn, nextRecord};
 use crate::Progress;
 use crate::VbvPictureRecord;
@@ -22,7 +20,6 @@ pub(crate) struct VbvRecorder {
     standard: VbvStandard,
     params: VbvParams,
     at: usize,
-    cadence: VbvCadence,
     progress: Progress,
 }
 
@@ -70,17 +67,15 @@ pub(crate) fn last_of(progress: Progress) -> VbvPictureRecord
 }
 
 impl VbvRecorder {
-    // Before the first picture, outside film.
+    // Before the first picture.
     pub(crate) fn new(stream: &[u8], standard: VbvStandard) -> VbvRecorder
-        ensures { λ r. ⌜ r ≡ recorderOf standard (opened false false false) (openingOf standard (now (stream .entry))) ⌝ }
+        ensures { λ r. ⌜ r ≡ recorderOf standard (openingOf standard (now (stream .entry))) ⌝ }
     {
-        let cadence = VbvCadence::opened(false, false, false);
         match opening(stream, standard) {
             Declared::Params(params) => VbvRecorder {
                 standard,
                 params,
                 at: 0,
-                cadence,
                 progress: Progress::Fresh,
             },
             Declared::Refused(_) => {
@@ -94,7 +89,6 @@ impl VbvRecorder {
                     standard,
                     params,
                     at: 0,
-                    cadence,
                     progress: Progress::Unmodelled(VbvVerifyError::NoSequenceHeader),
                 }
             }
@@ -112,8 +106,8 @@ impl VbvRecorder {
     }
 
     // After a picture whose data end at the code at `at`, or at the stream's end.
-    fn go_on(self, at: usize, cadence: VbvCadence, progress: Progress) -> VbvRecorded
-        ensures { λ r. ⌜ r ≡ wentOn self at cadence progress ⌝ }
+    fn go_on(self, at: usize, progress: Progress) -> VbvRecorded
+        ensures { λ r. ⌜ r ≡ wentOn self at progress ⌝ }
     {
         let standard = self.standard;
         let params = self.params;
@@ -122,7 +116,6 @@ impl VbvRecorder {
                 standard,
                 params,
                 at,
-                cadence,
                 progress,
             },
             last: last_of(progress),
@@ -140,13 +133,8 @@ impl VbvRecorder {
             NextSeen::Picture(seen, next) => {
                 let progress = self.progress;
                 let params = self.params;
-                let cadence = self.cadence;
-                let facts = seen.facts;
-                self.go_on(
-                    next,
-                    cadence.after(facts),
-                    advance(progress, params, cadence, seen),
-                )
+                let plain = VbvCadence::opened(false, false, false);
+                self.go_on(next, advance(progress, params, plain, seen))
             }
         }
     }

@@ -12,9 +12,9 @@ ghost use Rattle.pictures.specs.Front.{opening as openingOf, front};
 ghost use Rattle.pictures.specs.Seen.{seenPictures};
 ghost use Rattle.verify.specs.Mode.{plain as plainOf};
 ghost use Rattle.verify.specs.Answers.{verifiedAnswer};
-ghost use Rattle.verify.specs.Check.{verdict, reported, records as recordsOf};
+ghost use Rattle.verify.specs.Check.{verdictBy, verdict, reported, records as recordsOf};
 ghost use Rattle.verify.specs.Layout.{recordSize, recordsBytes};
-ghost use Rattle.verify.specs.Steps.{walkedAnswer, walkedOver, walkedCount, unreadError, ifPlaced, judgement, recorderOf, recordsOf as firstRecords};
+ghost use Rattle.verify.specs.Steps.{walkedAnswer, walkedOver, walkedCount, unreadError, ifPlaced, judgement, walkerOf, nextStep, recordsBy, recordsAfter};
 ghost use Rattle.verify.specs.declared.Progress.the-variants.{Fresh};
 use crate::Progress;
 use crate::RECORD_BYTES;
@@ -51,7 +51,7 @@ fn walk(
     requires { ⌜ recordSize * count ≤ length (now out) ⌝ }
     requires { ⌜ count ≤ walkedCount (andThen (seenPictures standard (now stream)) (walkedOver params first 0 Fresh)) ⌝ }
     ensures { λ r. ⌜ walkedAnswer r ≡ andThen (seenPictures standard (now (stream .entry))) (walkedOver params first 0 Fresh) ⌝ }
-    ensures { λ r. ⌜ now (out .exit) ≡ sets (now (out .entry)) 0 (recordsBytes (firstRecords (now (stream .entry)) (recorderOf standard first (value params)) count)) ⌝ }
+    ensures { λ r. ⌜ now (out .exit) ≡ sets (now (out .entry)) 0 (recordsBytes (recordsBy (nextStep (now (stream .entry))) (walkerOf standard first params) count)) ⌝ }
 {
     let mut i: usize = 0;
     let mut n: usize = 0;
@@ -90,7 +90,7 @@ fn walk_front(
     requires { ⌜ recordSize * count ≤ length (now out) ⌝ }
     requires { ⌜ count ≤ walkedCount (andThen (front standard (now stream)) (λ f. walkedOver (f .params) cadence 0 Fresh (f .first ∷ f .others))) ⌝ }
     ensures { λ r. ⌜ walkedAnswer r ≡ andThen (front standard (now (stream .entry))) (λ f. walkedOver (f .params) cadence 0 Fresh (f .first ∷ f .others)) ⌝ }
-    ensures { λ r. ⌜ now (out .exit) ≡ sets (now (out .entry)) 0 (recordsBytes (firstRecords (now (stream .entry)) (recorderOf standard cadence (openingOf standard (now (stream .entry)))) count)) ⌝ }
+    ensures { λ r. ⌜ now (out .exit) ≡ sets (now (out .entry)) 0 (recordsBytes (recordsAfter standard cadence (now (stream .entry)) (openingOf standard (now (stream .entry))) count)) ⌝ }
 {
     match opening(stream, standard) {
         Declared::Refused(error) => Walked::Refused(error),
@@ -149,17 +149,47 @@ fn judge(walked: Walked, places: usize) -> VbvVerified
     }
 }
 
+// The report by a cadence before the first picture, given so many record places, without the records.
+fn check_by(
+    stream: &[u8],
+    standard: VbvStandard,
+    cadence: VbvCadence,
+    places: usize,
+) -> VbvVerified
+    ensures { λ r. ⌜ verifiedAnswer r ≡ reported (verdictBy standard cadence (now (stream .entry)) places) ⌝ }
+{
+    judge(
+        walk_front(stream, standard, cadence, 0, &mut []),
+        places,
+    )
+}
+
+// And with them.
+fn verify_by(
+    stream: &[u8],
+    standard: VbvStandard,
+    cadence: VbvCadence,
+    records: &mut [u8],
+) -> VbvVerified
+    ensures { λ r. ⌜ verifiedAnswer r ≡ reported (verdictBy standard cadence (now (stream .entry)) (length (now (records .entry)) / recordSize)) ⌝ }
+    ensures { λ r. ⌜ now (records .exit) ≡ over (recordsBytes (recordsOf (verdictBy standard cadence (now (stream .entry)) (length (now (records .entry)) / recordSize)))) (now (records .entry)) ⌝ }
+{
+    let walked = walk_front(stream, standard, cadence, 0, &mut []);
+    let answer = judge(walked, records.len() / RECORD_BYTES);
+    let count = record_count(answer);
+    if 0 < count {
+        walk_front(stream, standard, cadence, count, records);
+    }
+    answer
+}
+
 // The buffer report of a stream in a mode, given so many record places, without its records; or why it is refused.
 pub fn check_in_mode(stream: &[u8], mode: VbvMode, places: usize) -> VbvVerified
     ensures { λ r. ⌜ verifiedAnswer r ≡ reported (verdict mode (now (stream .entry)) places) ⌝ }
 {
     if mode.fits() {
         let standard = mode.standard;
-        let cadence = cadence_of(stream, mode.film);
-        return judge(
-            walk_front(stream, standard, cadence, 0, &mut []),
-            places,
-        );
+        return check_by(stream, standard, cadence_of(stream, mode.film), places);
     }
     VbvVerified::Refused(VbvVerifyError::Model(VbvError::Params))
 }
@@ -169,14 +199,12 @@ pub fn verify_in_mode(stream: &[u8], mode: VbvMode, records: &mut [u8]) -> VbvVe
     ensures { λ r. ⌜ verifiedAnswer r ≡ reported (verdict mode (now (stream .entry)) (length (now (records .entry)) / recordSize)) ⌝ }
     ensures { λ r. ⌜ now (records .exit) ≡ over (recordsBytes (recordsOf (verdict mode (now (stream .entry)) (length (now (records .entry)) / recordSize)))) (now (records .entry)) ⌝ }
 {
-    let answer = check_in_mode(stream, mode, records.len() / RECORD_BYTES);
-    let count = record_count(answer);
-    if 0 < count {
+    if mode.fits() {
         let standard = mode.standard;
         let cadence = cadence_of(stream, mode.film);
-        walk_front(stream, standard, cadence, count, records);
+        return verify_by(stream, standard, cadence, records);
     }
-    answer
+    VbvVerified::Refused(VbvVerifyError::Model(VbvError::Params))
 }
 
 // Outside film.

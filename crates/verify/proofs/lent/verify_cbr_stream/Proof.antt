@@ -52,6 +52,7 @@ use denote.Triple.Table.{entered, cited}
 use denote.Triple.Walked.{says, Stays, stay-slice, stay-none, stay-none-slice, walkOf, AllGo, goes-none, goes-none-slice, goes-slice, Walks, ends-at, walked, walk-meets}
 use denote.Exit.{yes}
 use Rattle.pictures.specs.Front.{opening}
+use Rattle.verify.specs.Mode.{plain as plainly}
 use Rattle.verify.specs.Answers.{verifiedAnswer}
 use Rattle.verify.specs.Check.{verdict, reported}
 use Rattle.verify.specs.Steps.{recordCount, recorderOf, nextRecord}
@@ -188,7 +189,7 @@ module _ {M : Type 1} (𝓤 : URA M) (H : Heap 𝓤) (A : Atoms 𝓤) (W : Given
 
   -- ---- the calls: what each is passed, and what it says
   abbrev Told : VbvVerified → Type 0
-  Told r = verifiedAnswer r ≡ reported (verdict standard xs (length ys))
+  Told r = verifiedAnswer r ≡ reported (verdict (plainly standard) xs (length ys))
 
   abbrev given : RefT (List ℕ) × (VbvStandard × (ℕ × Unit {0}))
   given = (s, (standard, (length ys, tt)))
@@ -244,7 +245,7 @@ module _ {M : Type 1} (𝓤 : URA M) (H : Heap 𝓤) (A : Atoms 𝓤) (W : Given
     En = (E′.mir, l₀) ∷ (srcTy, l₁) ∷ (N′.mir, l₂) ∷ (dstTy, l₃) ∷ (E′.mir, l₄) ∷ (word, l₅) ∷ (S′.mir, l₆) ∷ (word, l₇) ∷ (D′.mir, l₈) ∷ (word, l₉) ∷ (tyBool, l₁₀) ∷ (word, l₁₁) ∷ (tyPtr, l₁₂) ∷ []
 
     -- what the check by value answered
-    module _ (vd : VbvVerified) (told : verifiedAnswer vd ≡ reported (verdict standard xs (length ys))) where
+    module _ (vd : VbvVerified) (told : verifiedAnswer vd ≡ reported (verdict (plainly standard) xs (length ys))) where
       -- the walk over the pictures at first
       abbrev n : ℕ
       n = recordCount vd

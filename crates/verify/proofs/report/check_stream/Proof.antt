@@ -1,22 +1,15 @@
-use mathlib.Core.Path.{ap, _∙_}
-use Rattle.verify.specs.Answers.{verifiedAnswer}
-use Rattle.verify.proofs.Verdict.{judgement-is}
 use borrow.Author.Needs.{needs}
 use Rattle.verify.proofs.report.check_stream.Statement.{statement}
 use Rattle.verify.proofs.report.check_stream.Tie as tie
 
-slice-aggregate-walk-front : tie.Need-slice-aggregate-walk-front
-slice-aggregate-walk-front c = search needs
+plain-requires : tie.Need-plain-requires
+plain-requires c κs = search needs
 
-walk-front-requires : tie.Need-walk-front-requires
-walk-front-requires c κs = search needs
-
-judge-requires : tie.Need-judge-requires
-judge-requires c κs = search needs
+check-in-mode-requires : tie.Need-check-in-mode-requires
+check-in-mode-requires c κs = search needs
 
 returns : tie.Need-returns
-returns c = ap verifiedAnswer (c .judge .ensures) ∙ judgement-is _ _ _ (c .before .before .walk-front .result) (c .before .before .walk-front .ensures .0)
+returns c = rw (c .before .plain .ensures) at (c .check-in-mode .ensures)
 
 pub check-stream-spec : {M : Type 1} → statement M
-check-stream-spec =
-    tie.close (tie.spec slice-aggregate-walk-front walk-front-requires judge-requires returns)
+check-stream-spec = tie.close (tie.spec plain-requires check-in-mode-requires returns)
