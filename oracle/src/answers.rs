@@ -36,7 +36,7 @@ pub const KINDS: [(&str, &[u8]); 23] = [
     ("nominal_pictures_per_second", &[6]),
     ("profile_and_level_indication", &[]),
     ("frame_rate_value", &[6, 12]),
-    ("VbvCbrModel", &[7, 8, 9, 10, 12, 13, 14]),
+    ("VbvCbrModel", &[7, 8, 9, 10, 12, 13, 14, model::BEYOND]),
     ("patch_vbv_delay", &[20]),
     ("verify_cbr_stream, MPEG-1", &[1, 2, 3, 4, 5, 6, 7, 8, 9, 10, 11, 12, 15, OF_FRAMES, NOT_READ]),
     (

@@ -82,6 +82,10 @@ fn params(d: &mut Draw) -> [u64; 4] {
     };
     let mut all = [rate, buffer, frn, frd];
     if d.one_in(16) {
+        // Three frames of these deliver more than 2^55 bits.
+        all = [MOST_RATE - d.next() % (1 << 33), 1 + d.next() % MOST_BUFFER, 1, MOST_FRD - d.next() % (1 << 10)];
+    }
+    if d.one_in(16) {
         all[d.below(4)] = d.value(64);
     }
     all

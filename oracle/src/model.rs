@@ -26,6 +26,9 @@ const STARTED_TWICE: Met = (13, "started twice");
 const FAR_OUT: Met = (14, "a position or an end above 2^48");
 const BACK: Met = (14, "an end below the previous one");
 
+/// What else is counted: states that six of the greatest field periods lead to, and fewer do not. A number above those of check.rs.
+pub const BEYOND: u8 = 167;
+
 /// A call: which (1 to 6), its position or end, its delay or its interval.
 #[derive(Clone, Copy)]
 pub struct Call {
@@ -148,6 +151,9 @@ pub fn calls(input: &[u8]) -> Answer {
             Err(refused) => refused,
         };
         answer.met.push(met);
+        if met == ACCEPTED && call.which == 3 && 1 << 55 < value[0] {
+            answer.met.push((BEYOND, "states of more than 2^55 whole bits"));
+        }
         answer.bytes.push(met.0);
         words(&mut answer.bytes, &value);
     }
