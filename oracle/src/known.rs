@@ -7,7 +7,7 @@ use crate::streams;
 use crate::worked::{LISTS, pictures, sequence};
 
 /// Name, kind, and the bytes of the header or stream.
-const KNOWN: [(&str, u8, &str); 40] = [
+const KNOWN: [(&str, u8, &str); 44] = [
     ("low 18 rate bits of zero are refused", 1, "000001B301001013000020A0"),
     ("constrained_parameters_flag 1", 1, "000001B301001013027120A4"),
     ("reserved aspect and rate codes", 1, "000001B3010010F9027120A0"),
@@ -129,14 +129,36 @@ const KNOWN: [(&str, u8, &str); 40] = [
         18,
         "000001B301001013027120A0 000001B5148200010000 000001B8FFF7FFE0 000001000012B33380 000001B58FFFF34180 00000101",
     ),
+    (
+        "repeat_first_field of the first picture: a field more between the second and the third",
+        20,
+        "000001B301001013027120A0 000001B5148200010000 0000010000091940 000001B58FFFF34380 00000101 \
+         0000010000098948 000001B58FFFF34180 00000101 00000100000A3190 000001B58FFFF34180 00000101",
+    ),
+    (
+        "the same with the delay of a plain check",
+        20,
+        "000001B301001013027120A0 000001B5148200010000 0000010000091940 000001B58FFFF34380 00000101 \
+         0000010000098948 000001B58FFFF34180 00000101 000001000009F950 000001B58FFFF34180 00000101",
+    ),
+    (
+        "low_delay 1: a field more between the first and the second",
+        20,
+        "000001B301001013027120A0 000001B5148200010080 00000100000AB330 000001B58FFFF34380 00000101 \
+         00000100000B5B78 000001B58FFFF34180 00000101",
+    ),
+    (
+        "two pictures, the first with repeat_first_field, in either mode",
+        20,
+        "000001B301001013027120A0 000001B5148200010000 00000100000AB330 000001B58FFFF34380 00000101 00000100000B2338 \
+         000001B58FFFF34180 00000101",
+    ),
 ];
 
 /// Those of a kind: name and bytes. Of kinds 8 and 10 these are a writer's numbers and output part.
 pub fn known(kind: u8) -> Vec<(String, Vec<u8>)> {
-    if kind == 20 {
-        return worked();
-    }
-    named(kind).into_iter().map(|(name, bytes)| (name.to_string(), bytes)).collect()
+    let worked = if kind == 20 { worked() } else { vec![] };
+    named(kind).into_iter().map(|(name, bytes)| (name.to_string(), bytes)).chain(worked).collect()
 }
 
 /// The lists of worked.rs as streams, in each sequence.
