@@ -27,8 +27,8 @@ pub fn every(put: &mut impl FnMut(&[u8])) {
     }
 }
 
-/// Around each boundary: all rate codes, with each n and d in range, the two above and the greatest; parameters around each limit; parts around the length needed, with each byte of
-/// the start code changed.
+/// Around each boundary: all rate codes, with each n and d in range, the two above and the greatest; parameters around each
+/// limit; parts around the length needed, with each byte of the start code changed.
 pub fn edges(kind: u8, d: &mut Draw, put: &mut impl FnMut(&[u8])) {
     match kind {
         14 => {

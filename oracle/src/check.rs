@@ -1,8 +1,8 @@
-//! Kinds 17 and 18, and in any mode 20 to 23: the check of a stream. The original has no refusal 15, and its 9 and 10 name the picture alone: these
-//! the oracle completes from pictures that it finds itself, run through the original's model. A record's first four words are
-//! the original's. It has no such field as the fifth, `periods` (request 04): that is by the oracle's own rule. Of an MPEG-2 stream
-//! with n or d not 0 the original is the patched copy (request 02). In film mode (request 05) the original decides what comes before
-//! the run, and the run is film.rs's.
+//! Kinds 17 and 18, and in any mode 20 to 23: the check of a stream. The original has no refusal 15, and its 9 and 10 name the
+//! picture alone: these the oracle completes from pictures that it finds itself, run through the original's model. A record's
+//! first four words are the original's. It has no such field as the fifth, `periods` (request 04): that is by the oracle's own
+//! rule. Of an MPEG-2 stream with n or d not 0 the original is the patched copy (request 02). In film mode (request 05) the
+//! original decides what comes before the run, and the run is film.rs's.
 
 use crate::cadence::{self, Facts, Sequence};
 use crate::film;

@@ -49,8 +49,8 @@ impl OracleWriter {
         self.0.emit(headers, kind, interval, last, encode).is_ok()
     }
 
-    /// The same of a picture that lasts so many field periods. It has an interval of one and one of two; for more it is given that of
-    /// one field at so many times its frd.
+    /// The same of a picture that lasts so many field periods. It has an interval of one and one of two; for more it is given
+    /// that of one field at so many times its frd.
     pub fn emit_lasting(
         &mut self,
         headers: &[u8],

@@ -1,5 +1,5 @@
-//! The run of the check over pictures with their periods (request 05): paper 01's order and bounds, by the original's model. check.rs
-//! holds it to the original's own run wherever the periods are plain.
+//! The run of the check over pictures with their periods (request 05): paper 01's order and bounds, by the original's model.
+//! check.rs holds it to the original's own run wherever the periods are plain.
 
 use crate::check::Picture;
 use crate::format::{ACCEPTED, Met};

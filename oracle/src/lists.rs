@@ -1,7 +1,7 @@
-//! Kind 19: lists of calls of the constant-rate writer, plain or film. The answer is the model's (writer.rs); on the way the original's
-//! `emit` runs beside it, and then the check over what was handed out. Where n or d is not 0, a writer's or a header's, the original is
-//! its patched copy (request 02). A film writer's pictures last as the model says, in `emit` too, and its check is film.rs's (request
-//! 05).
+//! Kind 19: lists of calls of the constant-rate writer, plain or film. The answer is the model's (writer.rs); on the way the
+//! original's `emit` runs beside it, and then the check over what was handed out. Where n or d is not 0, a writer's or a
+//! header's, the original is its patched copy (request 02). A film writer's pictures last as the model says, in `emit` too, and
+//! its check is film.rs's (request 05).
 
 use crate::check::{extended, judged, sequence};
 use crate::format::{ACCEPTED, Answer, Met, number, pattern, words};

@@ -2,9 +2,9 @@
 //!
 //!     cases [known] [short] [edges] [every] SEED COUNT KIND..|19|small
 //!
-//! known: first the headers and streams that have a name; short: then all inputs of at most two bytes; edges: then those around each
-//! boundary; every: then all 2^24 of kind 14; then COUNT drawn ones. Kind 19, lists of calls of the writer, goes to another program and stands alone;
-//! small: the same, but only lists of few bytes.
+//! known: first the headers and streams that have a name; short: then all inputs of at most two bytes; edges: then those around
+//! each boundary; every: then all 2^24 of kind 14; then COUNT drawn ones. Kind 19, lists of calls of the writer, goes to
+//! another program and stands alone; small: the same, but only lists of few bytes.
 //!
 //! Kind 20, streams in film mode, brings 21 to 23: the same streams in the other modes.
 //!

@@ -1,5 +1,5 @@
-//! Lists of pictures whose periods in film mode are worked out by hand, and the table that the request comes to, as rules of a state
-//! that moves from picture to picture: cadence.rs, which has neither, is held to both before it is used.
+//! Lists of pictures whose periods in film mode are worked out by hand, and the table that the request comes to, as rules of a
+//! state that moves from picture to picture: cadence.rs, which has neither, is held to both before it is used.
 
 use crate::cadence::{self, Facts, SEQUENCES, Sequence, periods};
 use crate::check::judged;
@@ -169,7 +169,8 @@ fn hold_channel() {
     assert_eq!(sent(PLAIN).0, [Told::Refused(20)]);
 }
 
-/// Holds cadence.rs to the lists, and to the table over all lists of up to four pictures; and the writer and its check to a channel.
+/// Holds cadence.rs to the lists, and to the table over all lists of up to four pictures; and the writer and its check to a
+/// channel.
 pub fn hold() {
     hold_channel();
     for (letters, due) in LISTS {

@@ -1,7 +1,7 @@
-//! The constant-rate writer as paper 01 tells it ('A placed picture'), at the rates of request 02, plain or film (request 05): a model
-//! of the papers' rules in plain numbers of 128 bits. It parses with the original's functions; everything else is its own, its numbers
-//! (400, 16,384, 2^48) too: so it is independent of what it is compared with. A film writer keeps the list of the pictures that it has
-//! placed, and asks cadence.rs how long the next one lasts.
+//! The constant-rate writer as paper 01 tells it ('A placed picture'), at the rates of request 02, plain or film (request 05):
+//! a model of the papers' rules in plain numbers of 128 bits. It parses with the original's functions; everything else is its
+//! own, its numbers (400, 16,384, 2^48) too: so it is independent of what it is compared with. A film writer keeps the list of
+//! the pictures that it has placed, and asks cadence.rs how long the next one lasts.
 
 use crate::cadence::{Facts, Sequence, last_periods};
 use original::picture_header::{Mpeg2PictureHeader, PictureCodingType, PictureStructure};

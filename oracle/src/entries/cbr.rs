@@ -1,5 +1,6 @@
-//! The writer: lists of calls drawn like those of kind 19, its state kept as bytes, and what the model of the papers (writer.rs) comes
-//! to. It is created by arguments or, always where it is a film writer or n or d is not 0, by words (create.rs).
+//! The writer: lists of calls drawn like those of kind 19, its state kept as bytes, and what the model of the papers
+//! (writer.rs) comes to. It is created by arguments or, always where it is a film writer or n or d is not 0, by words
+//! (create.rs).
 //!
 //! Before some of a list's calls stands another one, on a copy of the state: damaged or cut short, with a kind, an interval or a
 //! flag out of range, or with a place for the answer that is too short. What a damaged state holds is decoded here once more
@@ -123,8 +124,8 @@ fn stop(holds: bool, state: &[u8], c: &Offering) -> Option<(u8, &'static str)> {
     Some((if at == no_state.len() { 19 } else { 12 }, STOPS[at]))
 }
 
-/// What is expected of an offer on a state that holds a writer, or none; how many periods a placed picture lasts, else 0; and what it
-/// is counted as.
+/// What is expected of an offer on a state that holds a writer, or none; how many periods a placed picture lasts, else 0; and
+/// what it is counted as.
 fn expected(writer: Option<&mut Writer>, state: &[u8], c: &Offering) -> (Left, u64, String) {
     let mut left = Left::before(&[("state", state), ("out", &c.out), ("answer", &c.answer)]);
     if let Some((number, why)) = stop(writer.is_some(), state, c) {

@@ -1,7 +1,7 @@
-//! The check and the delay patch: streams and headers drawn like those of kinds 16 to 18 and 20, and the original's answers to them, in
-//! film mode those of film.rs. Before some of the checks stands another one, of the same stream: with a place that is too short for a
-//! report or a refusal, or in a mode that there is none of. After each check stands the report alone, of the same stream in the same
-//! places. What a list of the writer's calls handed out is checked too, plain and in film mode.
+//! The check and the delay patch: streams and headers drawn like those of kinds 16 to 18 and 20, and the original's answers to
+//! them, in film mode those of film.rs. Before some of the checks stands another one, of the same stream: with a place that is
+//! too short for a report or a refusal, or in a mode that there is none of. After each check stands the report alone, of the
+//! same stream in the same places. What a list of the writer's calls handed out is checked too, plain and in film mode.
 
 use crate::entry;
 use crate::run::{Owed, Run};
@@ -217,9 +217,9 @@ impl Run {
         }
     }
 
-    /// What a list handed out, with delay, bits and periods of each placed picture. The check of the writer's mode accepts it, and has
-    /// these in its records, the delay twice; all else is as the original or film.rs finds it. A film check of what a plain writer
-    /// handed out is no other; a plain one of what a film writer handed out may be.
+    /// What a list handed out, with delay, bits and periods of each placed picture. The check of the writer's mode accepts it,
+    /// and has these in its records, the delay twice; all else is as the original or film.rs finds it. A film check of what a
+    /// plain writer handed out is no other; a plain one of what a film writer handed out may be.
     pub fn sent(&mut self, film: bool, mode: Mode, stream: &[u8], placed: &[[u64; 3]]) {
         let lengths = [VBV_REPORT_BYTES, VBV_RECORD_BYTES * placed.len(), VBV_REFUSAL_BYTES];
         let [report, records, refusal] = lengths.map(|n| self.d.bytes(n));
