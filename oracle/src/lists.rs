@@ -32,6 +32,8 @@ const WITH_FLAG: u8 = 163;
 const SAME_REPORT: u8 = 164;
 const FILM_OFFERED: u8 = 165;
 const NOT_PASSED: u8 = 166;
+/// Above model.rs's.
+const FILM_LISTS: u8 = 168;
 /// And the number of a film writer's refusal, or 30 for Again.
 const TO_FILM: u8 = 200;
 
@@ -40,7 +42,7 @@ pub const ALL_25: [[u64; 3]; 8] =
     [[3, 0, 0], [3, 1, 1], [3, 2, 2], [3, 3, 3], [6, 0, 1], [6, 1, 3], [6, 2, 5], [6, 3, 7]];
 
 /// What the answers are called.
-const REASONS: [Met; 47] = [
+const REASONS: [Met; 48] = [
     ACCEPTED,
     (6, "rate code not 1 to 8"),
     (7, "position beyond delivered bits"),
@@ -72,6 +74,7 @@ const REASONS: [Met; 47] = [
     (AS_25 + 5, "of these at 25/1 as code 6, n 1, d 3"),
     (AS_25 + 6, "of these at 25/1 as code 6, n 2, d 5"),
     (AS_25 + 7, "of these at 25/1 as code 6, n 3, d 7"),
+    (FILM_LISTS, "lists of a film writer"),
     (OF_FILM, "lists of a film writer with a picture, accepted by the film check with these records"),
     (FILM_ALONE, "of these refused, or reported otherwise, by the plain check"),
     (WITH_FLAG, "pictures placed by a film writer with repeat_first_field 1"),
@@ -414,6 +417,9 @@ pub fn answer(input: &[u8]) -> Answer {
     assert_eq!(original.targets(), w.targets);
     let mut beside = Beside::new(c, original);
     let mut answer = Answer { bytes: vec![0], met: vec![], film: None };
+    if w.film {
+        answer.met.push(met(FILM_LISTS));
+    }
     words(&mut answer.bytes, &w.targets);
     let mut rest = &input[CALLS..];
     while !rest.is_empty() {

@@ -188,6 +188,7 @@ fn withdrawn(state: &[u8], d: &mut Draw) -> Left {
 fn another(s: &[u64; WORDS], k: usize, d: &mut Draw) -> u64 {
     let (buffer, end) = (s[1] % (1 << 33), s[6] % (1 << 49));
     match d.below(6) {
+        _ if k == 19 && d.one_in(2) => d.below(9) as u64,
         0 => d.value(64),
         1 => s[k] ^ 1 << d.below(64),
         2 if k == 4 => end + d.next() % (buffer + 1),
