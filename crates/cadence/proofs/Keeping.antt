@@ -1,13 +1,16 @@
 -- What a cadence keeps: film or not, always; outside film nothing else.
 -- Assumes nothing.
 use mathlib.Core.Path.{_≡_, refl}
-use mathlib.Core.Bool.{Bool, true, false}
+use mathlib.Core.Bool.{Bool, true, false, not, _&&_}
+use borrow.Author.Tests.{not-true}
+use Rattle.bits.proofs.Flags.{both-true}
 use mathlib.Core.List.{List, [], _∷_}
 use Rattle.bits.specs.Bits.{pick}
 use Rattle.picture_header.specs.declared.PictureFacts.{PictureFacts}
 use Rattle.cadence.specs.Cadence.{opened, isClosed, cadenceFits, with, closed, afterField, afterFrame, after}
 use Rattle.cadence.specs.History.{cadenceAfter}
 use Rattle.cadence.specs.declared.OpenField.{OpenField}
+use Rattle.cadence.specs.declared.OpenField.the-variants.{Closed, LedByAnchor, LedByOther}
 use Rattle.cadence.specs.declared.VbvCadence.{VbvCadence}
 
 pub opened-film : (film progressive low : Bool) → opened film progressive low .film ≡ film
@@ -46,6 +49,13 @@ pub unmoved : (k : VbvCadence) (x : PictureFacts) → k .film ≡ false → afte
 unfolding after pick
 unmoved k x e = rw e
 
+-- no field is open
+is-closed : (o : OpenField) → isClosed o ≡ true → o ≡ Closed
+unfolding isClosed
+is-closed Closed h = refl
+is-closed LedByAnchor h = cc
+is-closed LedByOther h = cc
+
 film-fits : (k : VbvCadence) → k .film ≡ true → cadenceFits k ≡ true
 unfolding cadenceFits pick
 film-fits k e = rw e
@@ -65,3 +75,13 @@ after-none progressive low = refl
 pub after-more : (progressive low : Bool) (xs : List PictureFacts) (x : PictureFacts) → cadenceAfter progressive low (x ∷ xs) ≡ after (cadenceAfter progressive low xs) x
 unfolding cadenceAfter
 after-more progressive low xs x = refl
+
+-- outside film there is one cadence that fits
+pub plain-is : (k : VbvCadence) → k .film ≡ false → cadenceFits k ≡ true → k ≡ opened false false false
+unfolding cadenceFits opened pick
+plain-is k p h =
+    let a = both-true (not (k .progressive)) _ (rw p at h) in
+    let b = both-true (not (k .«low_delay»)) _ (a .1) in
+    let c = both-true (not (k .repeat)) _ (b .1) in
+    let d = both-true (not (k .top)) _ (c .1) in
+    rw (p, not-true (k .progressive) (a .0), not-true (k .«low_delay») (b .0), not-true (k .repeat) (c .0), not-true (k .top) (d .0), is-closed (k .waiting) (d .1))

@@ -1,4 +1,5 @@
 pub mod Layers
+pub mod Telling
 pub mod Laws
 pub mod Stream
 pub mod Ways

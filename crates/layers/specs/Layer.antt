@@ -1,10 +1,12 @@
 -- A picture layer that fits: picture header, extensions and slices of one coded picture (paper 01, 'A placed picture'; paper 02, request 05); and the facts that its headers tell.
 -- Assumes nothing.
 use Prim.Native.Nat.{ℕ, _-_, _*_}
+use mathlib.Core.Path.{_≡_}
 use mathlib.Core.List.{List, [], _∷_}
 use mathlib.Core.Bool.{Bool, true, false, not, _&&_, _||_}
 use lib.Dec.{eqb, leb}
 use lib.ListN.{drop}
+use Rattle.vbv.specs.Model.{intervalOf}
 use Rattle.picture_header.specs.Facts.{isField, pictureTold}
 use Rattle.picture_header.specs.declared.PictureFacts.{PictureFacts}
 use Rattle.bits.specs.StartCodes.{userDataStartCode, extensionStartCode}
@@ -101,3 +103,32 @@ layerFits film k i s = headerFits film k i s && (layerCodes (codes s) && not (en
 -- the facts that its headers tell; a B frame's, without flags, where they do not parse
 unfoldable pub factsIn : List ℕ → PictureFacts
 factsIn s = orElse (record { anchor = false; field = false; repeat = false; top = false }) (andThen (pictureTold s) (λ t. value (t .1)))
+
+-- ---- what is owed of a layer's facts (request 05)
+
+-- by the offer's own words: an I or P picture, a field; and the two flags that only the layer tells
+unfoldable pub ofAnchor : PictureKind → Bool
+ofAnchor I = true
+ofAnchor P = true
+ofAnchor B = false
+
+unfoldable pub ofField : RemovalInterval → Bool
+ofField Frame = false
+ofField Field = true
+ofField ThreeFields = false
+ofField TwoFrames = false
+ofField ThreeFrames = false
+
+abbrev pub offeredFacts : PictureKind → RemovalInterval → List ℕ → PictureFacts
+offeredFacts k i s = record { anchor = ofAnchor k; field = ofField i; repeat = factsIn s .repeat; top = factsIn s .top }
+
+pub record LayerTells : Type 0 where
+  -- a layer that fits tells what the offer says
+  pub as-offered : (film : Bool) (k : PictureKind) (i : RemovalInterval) (s : List ℕ) → layerFits film k i s ≡ true → factsIn s ≡ offeredFacts k i s
+  -- 'its offers' interval still says frame or field'
+  pub frame-or-field : (film : Bool) (k : PictureKind) (i : RemovalInterval) (s : List ℕ) → layerFits film k i s ≡ true → i ≡ intervalOf (ofField i)
+  -- 'Only a film writer takes layers with repeat_first_field 1'; without it both take the same
+  pub only-film : (k : PictureKind) (i : RemovalInterval) (s : List ℕ) (h : Mpeg2PictureHeader) (x : PictureCodingExtension) → picture s ≡ value (h, x)
+      → x .«repeat_first_field» ≡ true → layerFits false k i s ≡ false
+  pub alike : (k : PictureKind) (i : RemovalInterval) (s : List ℕ) (h : Mpeg2PictureHeader) (x : PictureCodingExtension) → picture s ≡ value (h, x)
+      → x .«repeat_first_field» ≡ false → layerFits true k i s ≡ layerFits false k i s

@@ -17,11 +17,12 @@ use Rattle.vbv.specs.declared.VbvParams.{VbvParams}
 use Rattle.vbv.proofs.Laws.{over-units, over-full, beyond-units, beyond-there, first-in-time, fits-params}
 use Rattle.layers.specs.declared.PictureKind.{PictureKind}
 use Rattle.layers.specs.declared.PictureKind.the-variants.{I, P, B}
+use Rattle.layers.specs.Layer.{layerFits}
 use Rattle.rate_control.specs.Answers.{Given}
 use Rattle.rate_control.specs.Writer.{index, clashes, asked}
 use Rattle.rate_control.specs.Offer.{Offer, position, content, end, deliveredAt, deliveredNext, stuffing, delay, firstDelay, tooLarge, placedBytes, offer, outOf}
 use Rattle.rate_control.specs.Sent.{positionOf, contentOf, Stuffs}
-use Rattle.rate_control.specs.Due.{Known, deliveredFor, holding, OutOfTurn, last-placed, other-kind, Fitting, Near, OnTime, AllDelivered, delayFor, Due, out-of-turn, bad-headers, bad-layer, far-position, far-end, early-position, overflowing, too-large, largest, no-edge, no-room, room, PartHolds}
+use Rattle.rate_control.specs.Due.{Known, deliveredFor, holding, OutOfTurn, last-placed, other-kind, Fitting, Near, OnTime, AllDelivered, delayFor, Due, out-of-turn, bad-headers, bad-layer, far-position, far-end, early-position, overflowing, too-large, largest, no-edge, no-room, room, PartHolds, lastsIn}
 use Rattle.rate_control.specs.declared.Pending.{Pending}
 use Rattle.rate_control.specs.declared.Pending.the-variants.{Nothing, Waits}
 use Rattle.rate_control.specs.declared.CbrWriter.{CbrWriter}
@@ -32,7 +33,7 @@ use Rattle.rate_control.proofs.Placing.{delivered-later, delivered-firs
 use Rattle.rate_control.proofs.Retries.{below-31}
 use Rattle.rate_control.proofs.Invariant.{Inv, asked-quant}
 use Rattle.rate_control.proofs.Removing.{position-same, content-same}
-use Rattle.rate_control.proofs.Knowing.{any-placed, delivered-known}
+use Rattle.rate_control.proofs.Knowing.{any-placed, delivered-known, lasts-known}
 
 index-same : (j k : PictureKind) → index j ≡ index k → j ≡ k
 index-same I I e = refl
@@ -84,10 +85,10 @@ module _ (p : VbvParams) (t : List ℕ) (x : Known) (o : Offer) {n : ℕ} (h : I
   unfolding end
   at-end = rw at-content
 
-  pub stuffs : Stuffs p (x .bytes) (deliveredFor p x o) o (stuffing held o)
+  pub stuffs : layerFits (x .cadence .film) (o .kind) (o .interval) (o .layer) ≡ true → Stuffs p (x .bytes) (deliveredFor p x o) (lastsIn x o) o (stuffing held o)
   unfolding deliveredNext
-  stuffs = record {
-    least = λ e j. rw (← delivered-known p t x o, ← at-content) (stuffing-least held o (fits-params (held .model) (writer-fits (h .fits) .model-fits)) e j);
+  stuffs f = record {
+    least = λ e j. rw (← lasts-known p t x o f, ← delivered-known p t x o, ← at-content) (stuffing-least held o (fits-params (held .model) (writer-fits (h .fits) .model-fits)) e j);
     after-last = stuffing-last held o;
   }
 
@@ -134,7 +135,7 @@ module _ (p : VbvParams) (t : List ℕ) (x : Known) (o : Offer) {n : ℕ} (h : I
       let near : Near p x o (stuffing held o) =
       record {
         fitting = g;
-        stuffs = stuffs;
+        stuffs = stuffs (g .layer-fits);
         position-near = rw (← at-position) (ltb-false farthest (position held o) (or-left _ _ h14));
         end-near = rw (← at-end) (ltb-false farthest (end held o) (or-right (ltb farthest (position held o)) _ h14));
       } in
@@ -166,7 +167,7 @@ module _ (p : VbvParams) (t : List ℕ) (x : Known) (o : Offer) {n : ℕ} (h : I
     where
       far : Fitting p x o → (b : Bool) → ltb farthest (position held o) ≡ b → (ltb farthest (position held o) || ltb farthest (end held o)) ≡ true → D (refused 14 0 0 0)
       far g true e f = far-position g (rw (← at-position) (ltb-true _ _ e))
-      far g false e f = far-end g stuffs (rw (← at-end) (ltb-true farthest (end held o) (or-other (ltb farthest (position held o)) _ f e)))
+      far g false e f = far-end g (stuffs (g .layer-fits)) (rw (← at-end) (ltb-true farthest (end held o) (or-other (ltb farthest (position held o)) _ f e)))
 
       overflow-due : Near p x o (stuffing held o) → positionOf (x .bytes) o * unit p ≤ deliveredFor p x o → x .finished ≡ false
           → overflows p (8 * x .bytes) (deliveredAt held o) ≡ true → D (refused 9 (x .pictures) 0 0)

@@ -27,7 +27,7 @@ pub record Placing (w : CbrWriter) (o : Offer) : Type 0 where
   pub unfinished : w .finished ≡ false
   pub same-kind : clashes (w .pending) (o .kind) ≡ false
   pub headers-fit : headersFit (w .model .params) (w .model .started) (o .headers) ≡ true
-  pub layer-fits : layerFits (o .kind) (o .interval) (o .layer) ≡ true
+  pub layer-fits : layerFits (w .cadence .film) (o .kind) (o .interval) (o .layer) ≡ true
   pub position-far : position w o ≤ farthest
   pub end-far : end w o ≤ farthest
   pub in-time : beyond (w .model .params) (position w o) (deliveredAt w o) ≡ false

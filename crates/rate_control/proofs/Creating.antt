@@ -13,7 +13,9 @@ use Rattle.vbv.specs.Model.{paramsFit, newModel}
 use Rattle.vbv.specs.declared.VbvCbrModel.{VbvCbrModel}
 use Rattle.vbv.proofs.Params.{params-rate, params-buffer, params-frn, params-frd}
 use Rattle.vbv.proofs.Fitting.{params-fit, fitting-params}
-use Rattle.rate_control.specs.Create.{configFits, writerParams, freshWriter, create}
+use Rattle.pictures.specs.declared.VbvStandard.{VbvStandard}
+use Rattle.pictures.specs.declared.VbvStandard.the-variants.{Mpeg2}
+use Rattle.rate_control.specs.Create.{isWritten, configFits, writerParams, freshWriter, create}
 use Rattle.rate_control.specs.Due.{atFirst, holding, Ranges, targetsOf, CreationDue, bad-range, bad-code, bad-ratio, created}
 use Rattle.rate_control.specs.declared.CbrConfig.{CbrConfig}
 use Rattle.rate_control.specs.declared.CbrWriter.{CbrWriter}
@@ -22,10 +24,15 @@ use Rattle.rate_control.proofs.Fitting.{in-bounds}
 use Rattle.rate_control.proofs.Creation.{config-ranges}
 use Rattle.rate_control.proofs.Knowing.{fresh-known}
 
+is-written : {t : VbvStandard} → t ≡ Mpeg2 → isWritten t ≡ true
+unfolding isWritten
+is-written e = rw e
+
 ranges-fit : (c : CbrConfig) → Ranges c → configFits c ≡ true
 unfolding configFits
 ranges-fit c r =
     simp (
+      is-written (r .mode-written),
       in-bounds 1 262143 (c .«bit_rate_value») (r .rate-low) (r .rate-high),
       in-bounds 1 1023 (c .«vbv_buffer_size_value») (r .buffer-low) (r .buffer-high),
       in-bounds 0 3 (c .«frame_rate_extension_n») (omega arith) (r .n-high),

@@ -26,9 +26,14 @@ use Rattle.vbv.specs.declared.VbvModel.the-variants.{Model, Refused as NoModel}
 use Rattle.vbv.proofs.Params.{params-rate}
 use Rattle.vbv.proofs.Fitting.{params-fit}
 use Rattle.vbv.proofs.Laws.{model-made}
+use Rattle.cadence.specs.Cadence.{opened}
+use Rattle.cadence.specs.declared.VbvCadence.{VbvCadence}
+use Rattle.cadence.proofs.Keeping.{opened-fits}
+use Rattle.pictures.specs.declared.VbvStandard.{VbvStandard}
+use Rattle.pictures.specs.declared.VbvStandard.the-variants.{Mpeg1, Mpeg2}
 use Rattle.rate_control.specs.Targets.{groupPictures, groupBits, groupWeight, target, targets}
 use Rattle.rate_control.specs.Answers.{createdAnswer}
-use Rattle.rate_control.specs.Create.{within, configFits, writerParams, freshWriter, noWriter, create}
+use Rattle.rate_control.specs.Create.{within, isWritten, configFits, writerParams, freshWriter, noWriter, create}
 use Rattle.rate_control.specs.Writer.{allFit}
 use Rattle.rate_control.specs.Due.{Ranges}
 use Rattle.rate_control.specs.Steps.{TargetsFit, notCreated, Creates, withRate}
@@ -47,23 +52,31 @@ pub within-is : (low high v : ℕ) → within low high v ≡ (leb low v && leb v
 unfolding within
 within-is low high v = refl
 
-pub config-told : (c : CbrConfig) (r s n d q b a : Bool) → r ≡ within 1 262143 (c .«bit_rate_value») → s ≡ within 1 1023 (c .«vbv_buffer_size_value»)
+pub config-told : (c : CbrConfig) (m r s n d q b a : Bool) → m ≡ isWritten (c .mode .standard) → r ≡ within 1 262143 (c .«bit_rate_value») → s ≡ within 1 1023 (c .«vbv_buffer_size_value»)
     → n ≡ within 0 3 (c .«frame_rate_extension_n») → d ≡ within 0 31 (c .«frame_rate_extension_d»)
     → q ≡ within 1 31 (c .«initial_quantiser_scale_code») → b ≡ within 0 15 (c .«b_between») → a ≡ within 1 255 (c .«anchors_per_gop»)
-    → (r && (s && (n && (d && (q && (b && a)))))) ≡ configFits c
+    → (m && (r && (s && (n && (d && (q && (b && a))))))) ≡ configFits c
 unfolding configFits
-config-told c r s n d q b a e f i j g h k = rw (e, f, i, j, g, h, k)
+config-told c m r s n d q b a l e f i j g h k = rw (l, e, f, i, j, g, h, k)
+
+-- a standard that is written
+written : (t : VbvStandard) → isWritten t ≡ true → t ≡ Mpeg2
+unfolding isWritten
+written Mpeg1 h = cc
+written Mpeg2 h = refl
 
 pub config-ranges : (c : CbrConfig) → configFits c ≡ true → Ranges c
 unfolding configFits
 config-ranges c h =
-    let r = both-true (within 1 262143 (c .«bit_rate_value»)) _ h in
+    let m = both-true (isWritten (c .mode .standard)) _ h in
+    let r = both-true (within 1 262143 (c .«bit_rate_value»)) _ (m .1) in
     let s = both-true (within 1 1023 (c .«vbv_buffer_size_value»)) _ (r .1) in
     let n = both-true (within 0 3 (c .«frame_rate_extension_n»)) _ (s .1) in
     let d = both-true (within 0 31 (c .«frame_rate_extension_d»)) _ (n .1) in
     let q = both-true (within 1 31 (c .«initial_quantiser_scale_code»)) _ (d .1) in
     let b = both-true (within 0 15 (c .«b_between»)) (within 1 255 (c .«anchors_per_gop»)) (q .1) in
     record {
+      mode-written = written (c .mode .standard) (m .0);
       rate-low = within-bounds 1 262143 _ (r .0) .0;
       rate-high = within-bounds 1 262143 _ (r .0) .1;
       buffer-low = within-bounds 1 1023 _ (s .0) .0;
@@ -135,7 +148,7 @@ targets-fit c n d p x m i e h r =
 
 -- ---- the ways through creation
 
-pub fresh-told : (c : CbrConfig) (m : VbvCbrModel) (t : List ℕ) → t ≡ targets (m .params) (c .«b_between») (c .«anchors_per_gop»)
+pub fresh-told : (c : CbrConfig) (m : VbvCbrModel) (t : List ℕ) (k : VbvCadence) → t ≡ targets (m .params) (c .«b_between») (c .«anchors_per_gop») → k ≡ opened (c .mode .film) false false
     → _≡_ {A = CbrWriter}
     (record {
       model = m;
@@ -144,10 +157,11 @@ pub fresh-told : (c : CbrConfig) (m : VbvCbrModel) (t : List ℕ) → t ≡ targ
       pending = Nothing;
       «stuffing_bytes» = 0;
       finished = false;
+      cadence = k;
     })
     (freshWriter c m)
 unfolding freshWriter
-fresh-told c m t e = rw e
+fresh-told c m t k e f = rw (e, f)
 
 module _ (c : CbrConfig) where
   module _ (n d : ℕ) (p : VbvParams) (i : p ≡ writerParams c (n, d)) (x : VbvModel) (e : modelAnswer x ≡ newModel p) where
@@ -245,6 +259,7 @@ fresh-writer {c} x =
                   targets = targets-low _ _ _ t;
                   quantisers = simp (is-quantiser (record { low = f .quantiser-low; high = f .quantiser-high }));
                   pending = none-fits;
+                  cadence = opened-fits (c .mode .film) false false;
                 });
             three = refl;
             none-yet = λ e. a .at-zero;

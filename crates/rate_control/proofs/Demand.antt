@@ -1,15 +1,18 @@
 -- Demand 3: what holds of every list of calls on a writer that was created.
 -- Assumes nothing.
-use mathlib.Core.Path.{_≡_, subst, ap}
-use mathlib.Core.Bool.{Bool}
+use mathlib.Core.Path.{_≡_, subst, subst₂, ap, _∙_}
+use mathlib.Core.Bool.{Bool, false}
 use mathlib.Core.List.{List}
 use native.Mathlib.Omega.{arith}
 use Rattle.vbv.specs.declared.VbvParams.{VbvParams}
+use Rattle.cadence.proofs.Keeping.{opened-film}
+use Rattle.pictures.specs.declared.VbvStandard.the-variants.{Mpeg2}
+use Rattle.verify.specs.declared.VbvMode.{VbvMode}
 use Rattle.rate_control.specs.Calls.{Call, stepsOf}
 use Rattle.rate_control.specs.Sent.{sent, PassesCheck}
 use Rattle.rate_control.specs.Demand.{AllBytes, OwedOfCalls, Demand3}
 use Rattle.rate_control.specs.declared.CbrWriter.{CbrWriter}
-use Rattle.rate_control.proofs.Creation.{Fresh, created-fresh}
+use Rattle.rate_control.proofs.Creation.{Fresh, config-ranges, creation-found, created-fresh}
 use Rattle.rate_control.proofs.Removing.{EachDone, fresh-done, each}
 use Rattle.rate_control.proofs.Totals.{stuffing-total, laid-low}
 use Rattle.rate_control.proofs.Sending.{Sending, sending}
@@ -19,10 +22,12 @@ use Rattle.rate_control.proofs.Creating.{creation-due, creation-only}
 use Rattle.rate_control.proofs.Answers.{all-answered, patient}
 
 -- the check, of a writer that has placed nothing yet
-fresh-passes : (w : CbrWriter) (calls : List Call) → Fresh w → AllBytes calls → PassesCheck (w .model .params) (sent 0 (stepsOf w calls))
-fresh-passes w calls f b =
+fresh-passes : (m : VbvMode) (w : CbrWriter) (calls : List Call) → m .standard ≡ Mpeg2 → w .cadence .film ≡ m .film → Fresh w → AllBytes calls
+    → PassesCheck m (w .model .params) (sent 0 (stepsOf w calls))
+fresh-passes m w calls q e f b =
     let s = subst (λ (z : Bool). Sending (w .model .params) z 0 (sent 0 (stepsOf w calls))) (f .unplaced) (sending 0 w calls (f .inv) b) in
-    passes (w .model .params) (sent 0 (stepsOf w calls)) (f .params-fit) (laid-low 0 w calls (f .inv)) (fresh-done f calls) s
+    passes m (w .model .params) (sent 0 (stepsOf w calls)) q (f .params-fit) (laid-low 0 w calls (f .inv))
+    (subst (λ (z : Bool). EachDone z (w .model .params) (sent 0 (stepsOf w calls))) e (fresh-done f calls)) s
 
 pub demand : OwedOfCalls
 demand c f w calls e h b =
@@ -30,14 +35,16 @@ demand c f w calls e h b =
     let k = created-known c f w e h in
     let p : w .model .params ≡ _ = ap (λ (v : CbrWriter). v .model .params) k in
     let xs = sent 0 (stepsOf w calls) in
-    let s = subst (λ (q : VbvParams). EachDone q (sent 0 (stepsOf w calls))) p (fresh-done g calls) in
+    let z : w .cadence .film ≡ c .mode .film = ap (λ (v : CbrWriter). v .cadence .film) k ∙ opened-film (c .mode .film) false false in
+    let s = subst₂ (λ (film : Bool) (q : VbvParams). EachDone film q (sent 0 (stepsOf w calls))) z p (fresh-done g calls) in
+    let m = config-ranges c (creation-found c w h .ranges) .mode-written in
     record {
       answers = all-answered _ _ w _ calls k (g .inv);
       state = state _ _ w _ calls k (g .inv);
-      receiver = each (λ d previous x r. r .in-buffer) xs s;
-      check = subst (λ (q : VbvParams). PassesCheck q (sent 0 (stepsOf w calls))) p (fresh-passes w calls g b);
-      pictures = each (λ d previous x r. r .as-placed) xs s;
-      stuffing = each (λ d previous x r. r .least) xs s;
+      receiver = each (c .mode .film) (λ i d previous x r. r .in-buffer) xs s;
+      check = subst (λ (q : VbvParams). PassesCheck (c .mode) q (sent 0 (stepsOf w calls))) p (fresh-passes (c .mode) w calls m z g b);
+      pictures = each (c .mode .film) (λ i d previous x r. r .as-placed) xs s;
+      stuffing = each (c .mode .film) (λ i d previous x r. r .least) xs s;
       total = omega (arith, stuffing-total 0 w calls (g .inv), g .unstuffed);
       retries = patient _ _ w _ calls k (g .inv);
     }

@@ -11,6 +11,7 @@ use borrow.Author.Tests.{leb-true, eqb-true, le-leb, eq-eqb}
 use Rattle.bits.proofs.Flags.{both-true}
 use Rattle.vbv.specs.Model.{farthest, modelFits}
 use Rattle.rate_control.specs.Create.{within}
+use Rattle.cadence.specs.Cadence.{cadenceFits}
 use Rattle.rate_control.specs.Writer.{quantiserFits, allFit, pendingFits, writerFits}
 use Rattle.rate_control.specs.declared.Pending.the-variants.{Nothing, Waits}
 use Rattle.rate_control.specs.declared.CbrWriter.{CbrWriter}
@@ -80,6 +81,7 @@ pub record WriterFits (w : CbrWriter) : Type 0 where
   pub targets : allFit (λ t. leb t farthest) (w .«target_bits») ≡ true
   pub quantisers : allFit quantiserFits (w .q) ≡ true
   pub pending : pendingFits (w .pending) ≡ true
+  pub cadence : cadenceFits (w .cadence) ≡ true
 
 pub writer-fits : {w : CbrWriter} → writerFits w ≡ true → WriterFits w
 unfolding writerFits
@@ -90,6 +92,7 @@ writer-fits {w} h =
     let d = both-true (leb (8 * w .«stuffing_bytes») (w .model .«prev_end_bits»)) _ (c .1) in
     let e = both-true (allFit (λ t. leb t farthest) (w .«target_bits»)) _ (d .1) in
     let f = both-true (allFit quantiserFits (w .q)) _ (e .1) in
+    let g = both-true (pendingFits (w .pending)) _ (f .1) in
     record {
       model-fits = a .0;
       whole-bytes = eqb-true _ _ (b .0);
@@ -97,10 +100,11 @@ writer-fits {w} h =
       stuffed = leb-true _ _ (d .0);
       targets = e .0;
       quantisers = f .0;
-      pending = f .1;
+      pending = g .0;
+      cadence = g .1;
     }
 
 pub fitting-writer : (w : CbrWriter) → WriterFits w → writerFits w ≡ true
 unfolding writerFits
 fitting-writer w f =
-    simp (f .model-fits, eq-eqb _ _ (f .whole-bytes), le-leb _ _ (f .few), le-leb _ _ (f .stuffed), f .targets, f .quantisers, f .pending)
+    simp (f .model-fits, eq-eqb _ _ (f .whole-bytes), le-leb _ _ (f .few), le-leb _ _ (f .stuffed), f .targets, f .quantisers, f .pending, f .cadence)

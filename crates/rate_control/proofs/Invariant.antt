@@ -13,10 +13,12 @@ use Rattle.vbv.proofs.Fitting.{model-fits}
 use Rattle.vbv.proofs.After.{model-after, after-fits}
 use Rattle.layers.specs.declared.PictureKind.{PictureKind}
 use Rattle.layers.specs.declared.PictureKind.the-variants.{I, P, B}
+use Rattle.layers.specs.Layer.{factsIn}
 use Rattle.layers.proofs.Laws.{layer-long}
+use Rattle.cadence.proofs.Keeping.{after-fits as cadence-fits}
 use Rattle.rate_control.specs.Writer.{writerFits, quantiserFits, index, of, asked, pendingOr, coarser, pendingFits}
 use Rattle.rate_control.specs.Answers.{Given}
-use Rattle.rate_control.specs.Offer.{Offer, end, deliveredAt, deliveredNext, withPending, withPlaced, leftBy, withdraw}
+use Rattle.rate_control.specs.Offer.{Offer, end, cadenceAt, intervalAt, deliveredAt, deliveredNext, withPending, withPlaced, leftBy, withdraw}
 use Rattle.rate_control.specs.Calls.{Call, offering, withdrawing, stepOf, leftByCall}
 use Rattle.rate_control.specs.Demand.{retriesBy, retriesAfter}
 use Rattle.rate_control.specs.declared.Pending.{Pending}
@@ -26,6 +28,7 @@ use Rattle.rate_control.proofs.Chain.{q-of, Placing, Outcome, stays, cl
 use Rattle.rate_control.proofs.Retries.{Quant, below-31, rest, rest-small, rest-step, coarser-quant, steered-quant}
 use Rattle.rate_control.proofs.Fitting.{all-fit-at, all-fit-set, quantiser-is, is-quantiser, none-fits, waits-fits, WriterFits, writer-fits, fitting-writer}
 use Rattle.rate_control.proofs.Placing.{placed-size, end-is, next-room, params-fitted}
+use Rattle.rate_control.proofs.Lasting.{before-fits}
 use Rattle.rate_control.proofs.States.{withdraw-answer}
 
 -- no picture pending: no retries; one pending: those it had and those it may have are eleven at most
@@ -82,12 +85,12 @@ place-fits {w = w} {o = o} h g =
     let v = model-fits (f .model-fits) in
     let e = end-is w o in
     let s = placed-size w o in
-    let l = layer-long (o .kind) (o .interval) (o .layer) (g .layer-fits) in
+    let l = layer-long (w .cadence .film) (o .kind) (o .interval) (o .layer) (g .layer-fits) in
     let c : m .removed < farthest = omega (arith, f .few, v .end-high) in
     let a = model-after m (end w o) (deliveredNext w o) in
     record {
       model-fits =
-          after-fits m (f .model-fits) (deliveredAt w o) (g .no-overflow) (end w o) (o .interval)
+          after-fits m (f .model-fits) (deliveredAt w o) (g .no-overflow) (end w o) (intervalAt w o)
           (record { end-far = g .end-far; end-low = omega arith; count = c }) (g .no-underflow);
       whole-bytes = rw (a .end-is) (omega (arith, f .whole-bytes));
       few = rw (a .end-is, a .count-is) (omega (arith, f .few));
@@ -95,6 +98,7 @@ place-fits {w = w} {o = o} h g =
       targets = f .targets;
       quantisers = all-fit-set quantiserFits (w .q) (index (o .kind)) _ (f .quantisers) (is-quantiser (steered-quant _ _ (asked-quant (o .kind) h .0)));
       pending = none-fits;
+      cadence = cadence-fits (cadenceAt w (o .headers)) (factsIn (o .layer)) (before-fits w (o .headers) (f .cadence));
     }
 
 place-inv : {n : ℕ} {w : CbrWriter} {o : Offer} → Inv n w → Placing w o → Inv 0 (withPlaced w o)
@@ -127,6 +131,7 @@ pending-inv {w = w} x h k e =
             targets = f .targets;
             quantisers = f .quantisers;
             pending = e;
+            cadence = f .cadence;
           });
       three = h .three;
       none-yet = h .none-yet;

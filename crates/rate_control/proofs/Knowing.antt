@@ -1,6 +1,6 @@
 -- What a writer holds after any calls is what creation, the calls and their answers told.
 -- Assumes nothing.
-use mathlib.Core.Path.{_≡_, refl, sym, _∙_}
+use mathlib.Core.Path.{_≡_, refl, sym, ap, _∙_}
 use mathlib.Core.Bool.{Bool, true, false}
 use mathlib.Core.List.{List, [], _∷_}
 use Prim.Native.Nat.{ℕ, suc, _+_, _*_}
@@ -15,12 +15,16 @@ use Rattle.vbv.specs.Annex.{gain}
 use Rattle.vbv.specs.Answers.{frameRate}
 use Rattle.vbv.specs.Model.{periods}
 use Rattle.vbv.specs.declared.VbvParams.{VbvParams}
+use Rattle.cadence.specs.Cadence.{interval, after}
+use Rattle.cadence.specs.declared.VbvCadence.{VbvCadence}
+use Rattle.layers.specs.Layer.{layerFits, factsIn}
+use Rattle.layers.proofs.Telling.{as-offered}
 use Rattle.rate_control.specs.Answers.{Given}
 use Rattle.rate_control.specs.Writer.{writerFits, asked}
 use Rattle.rate_control.specs.Create.{writerParams, freshWriter, create}
-use Rattle.rate_control.specs.Offer.{Offer, end, deliveredAt, deliveredNext, placedBytes, withPending, withPlaced, offer, leftBy, left, withdraw}
+use Rattle.rate_control.specs.Offer.{Offer, end, cadenceAt, intervalAt, deliveredAt, deliveredNext, placedBytes, withPending, withPlaced, offer, leftBy, left, withdraw}
 use Rattle.rate_control.specs.Calls.{Call, offering, withdrawing, stepOf, leftByCall, stepsOf, final}
-use Rattle.rate_control.specs.Due.{Known, atFirst, deliveredFor, pendingNow, knownAfterOffer, knownAfter, holding, targetsOf}
+use Rattle.rate_control.specs.Due.{Known, atFirst, deliveredFor, cadenceFor, factsFor, lastsIn, pendingNow, knownAfterOffer, knownAfter, holding, targetsOf}
 use Rattle.rate_control.specs.declared.Pending.the-variants.{Nothing}
 use Rattle.rate_control.specs.declared.CbrConfig.{CbrConfig}
 use Rattle.rate_control.specs.declared.CbrWriter.{CbrWriter}
@@ -46,9 +50,25 @@ module _ (p : VbvParams) (t : List ℕ) where
         go true e = rw (delivered-later (holding p t x) o e, delivered-of, e)
         go false e = rw (delivered-first (holding p t x) o e, position-same (x .bytes) (holding p t x) o refl, e)
 
-    next-known : deliveredNext (holding p t x) o ≡ deliveredFor p x o + gain p (periods (o .interval))
-    unfolding deliveredNext
-    next-known = rw delivered-known
+    pub cadence-known : cadenceAt (holding p t x) (o .headers) ≡ cadenceFor x o
+    unfolding cadenceAt
+    cadence-known = refl
+
+    -- a layer that fits tells what the offer says
+    module _ (f : layerFits (x .cadence .film) (o .kind) (o .interval) (o .layer) ≡ true) where
+      facts-known : factsIn (o .layer) ≡ factsFor o
+      facts-known = as-offered (x .cadence .film) (o .kind) (o .interval) (o .layer) f
+
+      pub lasts-known : intervalAt (holding p t x) o ≡ lastsIn x o
+      unfolding intervalAt
+      lasts-known = ap (λ (k : VbvCadence). interval k (factsIn (o .layer))) cadence-known ∙ ap (interval (cadenceFor x o)) facts-known
+
+      next-known : deliveredNext (holding p t x) o ≡ deliveredFor p x o + gain p (periods (lastsIn x o))
+      unfolding deliveredNext
+      next-known = rw (delivered-known, lasts-known)
+
+      moved-known : after (cadenceAt (holding p t x) (o .headers)) (factsIn (o .layer)) ≡ after (cadenceFor x o) (factsFor o)
+      moved-known = ap (λ (k : VbvCadence). after k (factsIn (o .layer))) cadence-known ∙ ap (after (cadenceFor x o)) facts-known
 
     end-known : end (holding p t x) o ≡ 8 * (x .bytes + length (placedBytes (holding p t x) o))
     end-known = omega (arith, end-is (holding p t x) o)
@@ -59,7 +79,7 @@ module _ (p : VbvParams) (t : List ℕ) where
     outcome-told (closes g) = refl
     outcome-told (retries g) = refl
     outcome-told (hands-out g) =
-        rw (after-is, next-known, end-known, add-one, ← any-placed (x .pictures))
+        rw (after-is, next-known (g .layer-fits), end-known, moved-known (g .layer-fits), add-one, ← any-placed (x .pictures))
 
   pub offer-told : (w : CbrWriter) (x : Known) (o : Offer) → w ≡ holding p t x → left w o ≡ holding p t (knownAfterOffer p t x o (offer w o))
   offer-told w x o e = rw e (outcome-told x o (outcome _ o))

@@ -10,6 +10,7 @@ pub mod Fitting
 pub mod Placing
 pub mod Testing
 pub mod Offering
+pub mod Lasting
 pub mod Invariant
 pub mod Creation
 pub mod Removing

@@ -20,10 +20,13 @@ use Rattle.vbv.specs.declared.VbvError.the-variants.{Params}
 use Rattle.vbv.proofs.Fitting.{model-fits}
 use Rattle.layers.specs.declared.PictureKind.{PictureKind}
 use Rattle.layers.specs.Headers.{headersFit}
-use Rattle.layers.specs.Layer.{layerFits}
+use Rattle.layers.specs.Layer.{layerFits, factsIn}
+use Rattle.cadence.specs.Cadence.{interval, after}
+use Rattle.picture_header.specs.declared.PictureFacts.{PictureFacts}
+use Rattle.cadence.specs.declared.VbvCadence.{VbvCadence}
 use Rattle.rate_control.specs.Answers.{Given, offerAnswer}
 use Rattle.rate_control.specs.Writer.{writerFits, index, of, clashes, asked}
-use Rattle.rate_control.specs.Offer.{Offer, position, content, end, stuffing, endCode, placedBytes, withPlaced, offer, left, outOf, outAfter}
+use Rattle.rate_control.specs.Offer.{Offer, position, content, end, cadenceAt, intervalAt, stuffing, endCode, placedBytes, withPlaced, offer, left, outOf, outAfter}
 use Rattle.rate_control.specs.Steps.{measured, tested, Placeable, placedBy, refusedInCode, tooLargeInCode, placedInCode, offerInCode}
 use Rattle.rate_control.specs.declared.CbrWriter.{CbrWriter}
 use Rattle.rate_control.specs.declared.CbrError.{CbrError}
@@ -42,8 +45,8 @@ use Rattle.rate_control.proofs.Testing.{placement, measuredFor, measure
 pub model-of : (w : CbrWriter) (f : Bool) → f ≡ writerFits w → f ≡ true → ModelFits (w .model)
 model-of w f e h = model-fits (writer-fits (sym e ∙ h) .model-fits)
 
-module _ (w : CbrWriter) (headers : List ℕ) (k : PictureKind) (i : RemovalInterval) (last : Bool) (layer : List ℕ) (f : Bool) (e : f ≡ writerFits w) where
-  pub way-unfit : f ≡ false → Refused (Model Params) ≡ tested w headers k i last layer
+module _ (w : CbrWriter) (headers : List ℕ) (k : PictureKind) (i : RemovalInterval) (last : Bool) (layer : List ℕ) (j : RemovalInterval) (f : Bool) (e : f ≡ writerFits w) where
+  pub way-unfit : f ≡ false → Refused (Model Params) ≡ tested w headers k i last layer j
   unfolding tested
   way-unfit h = yes _ _ _ (rw (← e, h)) refl
 
@@ -51,35 +54,49 @@ module _ (w : CbrWriter) (headers : List ℕ) (k : PictureKind) (i : RemovalInte
     fine : not (writerFits w) ≡ false
     fine = rw (← e, h)
 
-    pub way-17 : (w .finished || c) ≡ true → Refused Kind ≡ tested w headers k i last layer
+    pub way-17 : (w .finished || c) ≡ true → Refused Kind ≡ tested w headers k i last layer j
     unfolding tested
     way-17 g = no _ _ _ fine (yes _ _ _ (rw (← q) g) refl)
 
     module _ (g : (w .finished || c) ≡ false) (t : Bool) (a : t ≡ headersFit (w .model .params) (w .model .started) headers) where
-      pub way-18 : t ≡ false → Refused Headers ≡ tested w headers k i last layer
+      pub way-18 : t ≡ false → Refused Headers ≡ tested w headers k i last layer j
       unfolding tested
       way-18 l = no _ _ _ fine (no _ _ _ (rw (← q) g) (yes _ _ _ (rw (← a, l)) refl))
 
-      module _ (l : t ≡ true) (u : Bool) (b : u ≡ layerFits k i layer) where
-        pub way-20 : u ≡ false → Refused Layer ≡ tested w headers k i last layer
+      module _ (l : t ≡ true) (u : Bool) (b : u ≡ layerFits (w .cadence .film) k i layer) where
+        pub way-20 : u ≡ false → Refused Layer ≡ tested w headers k i last layer j
         unfolding tested
         way-20 r = no _ _ _ fine (no _ _ _ (rw (← q) g) (no _ _ _ (rw (← a, l)) (yes _ _ _ (rw (← b, r)) refl)))
 
-        pub way-on : (j : Tested) → u ≡ true → j ≡ measured (w .model) (length headers) (length layer) i last → j ≡ tested w headers k i last layer
+        pub way-on : (v : Tested) → u ≡ true → v ≡ measured (w .model) (length headers) (length layer) j last → v ≡ tested w headers k i last layer j
         unfolding tested
-        way-on j r v = no _ _ _ fine (no _ _ _ (rw (← q) g) (no _ _ _ (rw (← a, l)) (no _ _ _ (rw (← b, r)) v)))
+        way-on v r z = no _ _ _ fine (no _ _ _ (rw (← q) g) (no _ _ _ (rw (← a, l)) (no _ _ _ (rw (← b, r)) z)))
 
 -- ---- the answer of the tests
 
 -- what they are for an offer
 abbrev pub testedFor : CbrWriter → Offer → Tested
-testedFor w o = tested w (o .headers) (o .kind) (o .interval) (o .last) (o .layer)
+testedFor w o = tested w (o .headers) (o .kind) (o .interval) (o .last) (o .layer) (intervalAt w o)
+
+-- the cadence after its picture
+abbrev pub cadenceLeft : CbrWriter → Offer → VbvCadence
+cadenceLeft w o = after (cadenceAt w (o .headers)) (factsIn (o .layer))
+
+-- as the code comes to them, by the facts f of the layer and the cadence k before the picture
+pub tested-by : (w : CbrWriter) (o : Offer) {f : PictureFacts} {k : VbvCadence} {j : RemovalInterval} {t : Tested} → f ≡ factsIn (o .layer) → k ≡ cadenceAt w (o .headers) → j ≡ interval k f
+    → t ≡ tested w (o .headers) (o .kind) (o .interval) (o .last) (o .layer) j → t ≡ testedFor w o
+unfolding intervalAt
+tested-by w o a b c e = e ∙ ap (tested w (o .headers) (o .kind) (o .interval) (o .last) (o .layer)) (c ∙ rw (a, b))
+
+pub placed-left : (w : CbrWriter) (o : Offer) (p : Placement) {f : PictureFacts} {k c : VbvCadence} {r : CbrOffered} → f ≡ factsIn (o .layer) → k ≡ cadenceAt w (o .headers) → c ≡ after k f
+    → r ≡ placedBy w (o .kind) (length (o .layer)) (o .last) p c → r ≡ placedBy w (o .kind) (length (o .layer)) (o .last) p (cadenceLeft w o)
+placed-left w o p a b c e = e ∙ ap (placedBy w (o .kind) (length (o .layer)) (o .last) p) (c ∙ rw (a, b))
 
 unfoldable answerTo : CbrWriter → Offer → Tested → CbrOffered
 answerTo w o (Refused e) = refusedInCode w e
 answerTo w o TooLarge = tooLargeInCode w (o .kind) (asked w (o .kind))
 answerTo w o (Ready p) =
-    pick (ltb (length (o .out)) (p .bytes)) (refusedInCode w Output) (placedBy w (o .kind) (length (o .layer)) (o .last) p)
+    pick (ltb (length (o .out)) (p .bytes)) (refusedInCode w Output) (placedBy w (o .kind) (length (o .layer)) (o .last) p (cadenceLeft w o))
 
 module _ (w : CbrWriter) (o : Offer) where
   answer-refused : (e : CbrError) → answerTo w o (Refused e) ≡ refusedInCode w e
@@ -90,7 +107,7 @@ module _ (w : CbrWriter) (o : Offer) where
   unfolding answerTo
   answer-large = refl
 
-  placed-by : placedBy w (o .kind) (length (o .layer)) (o .last) (placement w o) ≡ placedInCode w o (asked w (o .kind))
+  placed-by : placedBy w (o .kind) (length (o .layer)) (o .last) (placement w o) (cadenceLeft w o) ≡ placedInCode w o (asked w (o .kind))
   unfolding placement placedBy placedInCode withPlaced
   placed-by = refl
 
@@ -173,20 +190,21 @@ module _ (w : CbrWriter) (o : Offer) (j : Tested) (e : j ≡ testedFor w o) (p :
         total-far = omega (arith, r .end-far, v .stuffed, m .end-high);
       }
 
-  ready-is : offerInCode w o ≡ pick (ltb (length (o .out)) (p .bytes)) (refusedInCode w Output) (placedBy w (o .kind) (length (o .layer)) (o .last) p)
+  ready-is : offerInCode w o ≡ pick (ltb (length (o .out)) (p .bytes)) (refusedInCode w Output) (placedBy w (o .kind) (length (o .layer)) (o .last) p (cadenceLeft w o))
   unfolding answerTo
   ready-is = sym (offer-is w o) ∙ rw (← e, h)
 
-module _ (w : CbrWriter) (headers : List ℕ) (k : PictureKind) (i : RemovalInterval) (last : Bool) (layer : List ℕ) (j : Tested)
-    (e : j ≡ tested w headers k i last layer) (p : Placement) (h : j ≡ Ready p) where
+module _ (w : CbrWriter) (headers : List ℕ) (k : PictureKind) (i : RemovalInterval) (last : Bool) (layer : List ℕ) where
   abbrev any-out : Offer
   any-out = record { headers = headers; kind = k; interval = i; last = last; layer = layer; out = [] }
 
-  pub bytes-are : p .bytes ≡ length headers + length layer + p .«stuffing_bytes» + length (endCode last)
-  bytes-are = bytes-of w any-out j e p h
+  module _ {f : PictureFacts} {b : VbvCadence} {j : RemovalInterval} {t : Tested} (a : f ≡ factsIn layer) (c : b ≡ cadenceAt w headers) (d : j ≡ interval b f)
+      (e : t ≡ tested w headers k i last layer j) (p : Placement) (h : t ≡ Ready p) where
+    pub bytes-are : p .bytes ≡ length headers + length layer + p .«stuffing_bytes» + length (endCode last)
+    bytes-are = bytes-of w any-out t (tested-by w any-out a c d e) p h
 
-  pub placeable : Placeable w k (length layer) p
-  placeable = placeable-of w any-out j e p h
+    pub placeable : Placeable w k (length layer) p
+    placeable = placeable-of w any-out t (tested-by w any-out a c d e) p h
 
 -- ---- what is promised
 
@@ -224,12 +242,12 @@ module _ (w : CbrWriter) (o : Offer) (j : Tested) (e : j ≡ testedFor w o) (r :
         let a : offerInCode w o ≡ refusedInCode w Output = ready-is w o j e p h ∙ rw (lt-ltb _ _ l) in
         promised w o r (o .out) (g ∙ sym a) (rw g)
 
-    pub offer-placed : (x : List ℕ) → p .bytes ≤ length (o .out) → r ≡ placedBy w (o .kind) (length (o .layer)) (o .last) p
+    pub offer-placed : (x : List ℕ) → p .bytes ≤ length (o .out) → r ≡ placedBy w (o .kind) (length (o .layer)) (o .last) p (cadenceLeft w o)
         → x ≡ over (o .headers ++ (patched (o .layer) (p .«vbv_delay») ++ (replicate (p .«stuffing_bytes») 0 ++ endCode (o .last)))) (o .out)
         → OfferPromised w o r x
     unfolding pick placement placedBytes placedInCode
     offer-placed x l g k =
         let s = ready w o j e p h .is in
-        let a : offerInCode w o ≡ placedBy w (o .kind) (length (o .layer)) (o .last) p = ready-is w o j e p h ∙ rw (le-ltb _ _ l) in
+        let a : offerInCode w o ≡ placedBy w (o .kind) (length (o .layer)) (o .last) p (cadenceLeft w o) = ready-is w o j e p h ∙ rw (le-ltb _ _ l) in
         let b : r ≡ placedInCode w o (asked w (o .kind)) = g ∙ rw s (placed-by w o) in
         promised w o r x (g ∙ sym a) (rw (b, k, s))

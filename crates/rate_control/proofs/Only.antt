@@ -13,6 +13,7 @@ use Rattle.bits.specs.Refusals.{Answer, refuse, violate}
 use Rattle.bits.proofs.Flags.{or-left, or-right, or-no, is-true, is-false, yes, no, held, failed}
 use Rattle.vbv.specs.Model.{farthest}
 use Rattle.vbv.specs.Annex.{unit, overflows, beyond}
+use Rattle.vbv.specs.declared.RemovalInterval.{RemovalInterval}
 use Rattle.vbv.specs.declared.VbvParams.{VbvParams}
 use Rattle.vbv.proofs.Laws.{over-units, units-over, beyond-units, units-beyond}
 use Rattle.layers.specs.Headers.{headersFit}
@@ -21,7 +22,7 @@ use Rattle.rate_control.specs.Answers.{Given}
 use Rattle.rate_control.specs.Writer.{writerFits, clashes, asked}
 use Rattle.rate_control.specs.Offer.{Offer, position, content, end, deliveredAt, stuffing, tooLarge, placedBytes, offer}
 use Rattle.rate_control.specs.Sent.{contentOf, Stuffs}
-use Rattle.rate_control.specs.Due.{Known, anyPlaced, deliveredFor, askedFor, holding, OutOfTurn, Fitting, Near, OnTime, AllDelivered, Due, out-of-turn, bad-headers, bad-layer, far-position, far-end, early-position, overflowing, too-large, largest, no-edge, no-room, room}
+use Rattle.rate_control.specs.Due.{Known, anyPlaced, deliveredFor, askedFor, holding, OutOfTurn, Fitting, Near, OnTime, AllDelivered, Due, out-of-turn, bad-headers, bad-layer, far-position, far-end, early-position, overflowing, too-large, largest, no-edge, no-room, room, lastsIn}
 use Rattle.rate_control.specs.declared.CbrWriter.{CbrWriter}
 use Rattle.rate_control.proofs.Chain.{Placing}
 use Rattle.rate_control.proofs.Placing.{placed-size}
@@ -30,7 +31,7 @@ use Rattle.rate_control.proofs.Knowing.{delivered-known}
 use Rattle.rate_control.proofs.Answering.{turn, in-turn-is, at-position, at-content, at-end, stuffs, delay-known}
 
 -- the zeros are fixed by what they do
-stuffing-same : {p : VbvParams} {n d : ℕ} {o : Offer} {a b : ℕ} → Stuffs p n d o a → Stuffs p n d o b → a ≡ b
+stuffing-same : {p : VbvParams} {n d : ℕ} {i : RemovalInterval} {o : Offer} {a b : ℕ} → Stuffs p n d i o a → Stuffs p n d i o b → a ≡ b
 stuffing-same {o = o} {a = a} {b = b} g h = go (o .last) refl
   where
     go : (t : Bool) → o .last ≡ t → a ≡ b
@@ -51,7 +52,7 @@ module _ (p : VbvParams) (t : List ℕ) (x : Known) (o : Offer) {n : ℕ} (i : I
       refuse 12 (not (writerFits w))
       (refuse 17 (x .finished || clashes (x .pending) (o .kind))
       (refuse 18 (not (headersFit p (anyPlaced x) (o .headers)))
-      (refuse 20 (not (layerFits (o .kind) (o .interval) (o .layer))) r)))
+      (refuse 20 (not (layerFits (w .cadence .film) (o .kind) (o .interval) (o .layer))) r)))
 
   abbrev upTo14 : Answer Given → Answer Given
   upTo14 r = upTo20 (refuse 14 (ltb farthest (position w o) || ltb farthest (end w o)) r)
@@ -76,23 +77,23 @@ module _ (p : VbvParams) (t : List ℕ) (x : Known) (o : Offer) {n : ℕ} (i : I
   turn-no : (OutOfTurn x o → ⊥) → (x .finished || clashes (x .pending) (o .kind)) ≡ false
   turn-no f = is-false _ (λ e. f (turn x o _ refl e))
 
-  stuffing-is : {z : ℕ} → Stuffs p (x .bytes) (deliveredFor p x o) o z → stuffing w o ≡ z
-  stuffing-is g = stuffing-same (stuffs p t x o i) g
+  stuffing-is : {z : ℕ} → Fitting p x o → Stuffs p (x .bytes) (deliveredFor p x o) (lastsIn x o) o z → stuffing w o ≡ z
+  stuffing-is f g = stuffing-same (stuffs p t x o i (f .layer-fits)) g
 
-  end-is : {z : ℕ} → Stuffs p (x .bytes) (deliveredFor p x o) o z → end w o ≡ contentOf (x .bytes) o + 8 * z
-  end-is g = rw (← stuffing-is g) (at-end p t x o i)
+  end-is : {z : ℕ} → Fitting p x o → Stuffs p (x .bytes) (deliveredFor p x o) (lastsIn x o) o z → end w o ≡ contentOf (x .bytes) o + 8 * z
+  end-is f g = rw (← stuffing-is f g) (at-end p t x o i)
 
   past-20 : {z r : Answer Given} → Fitting p x o → z ≡ r → z ≡ upTo20 r
   past-20 g e =
       held (writerFits w) _ _ (i .fits)
       (no _ _ _ (turn-no (g .in-turn))
       (held (headersFit p (anyPlaced x) (o .headers)) _ _ (g .headers-fit)
-      (held (layerFits (o .kind) (o .interval) (o .layer)) _ _ (g .layer-fits) e)))
+      (held (layerFits (w .cadence .film) (o .kind) (o .interval) (o .layer)) _ _ (g .layer-fits) e)))
 
   past-14 : {k : ℕ} {z r : Answer Given} → Near p x o k → z ≡ r → z ≡ upTo14 r
   past-14 g e =
       let a : position w o ≤ farthest = rw (at-position p t x o i) (g .position-near) in
-      let b : end w o ≤ farthest = rw (end-is (g .stuffs)) (g .end-near) in
+      let b : end w o ≤ farthest = rw (end-is (g .fitting) (g .stuffs)) (g .end-near) in
       past-20 (g .fitting) (no _ _ _ (or-no _ _ (le-ltb farthest (position w o) a) (le-ltb farthest (end w o) b)) e)
 
   past-9 : {k : ℕ} {z r : Answer Given} → OnTime p x o k → z ≡ r → z ≡ upTo9 r
@@ -106,7 +107,7 @@ module _ (p : VbvParams) (t : List ℕ) (x : Known) (o : Offer) {n : ℕ} (i : I
       let l = g .end-delivered in
       let m : contentOf (x .bytes) o * unit p ≤ deliveredFor p x o = omega arith in
       let a : content w o * unit p ≤ deliveredAt w o = rw (delivered-known p t x o, at-content p t x o i) m in
-      let b : end w o * unit p ≤ deliveredAt w o = rw (delivered-known p t x o, end-is (g .on-time .near .stuffs)) l in
+      let b : end w o * unit p ≤ deliveredAt w o = rw (delivered-known p t x o, end-is (g .on-time .near .fitting) (g .on-time .near .stuffs)) l in
       past-9 (g .on-time) (no _ _ _ (units-beyond p _ _ a) (no _ _ _ (units-beyond p _ _ b) e))
 
   -- d lies before `end`
@@ -125,10 +126,10 @@ module _ (p : VbvParams) (t : List ℕ) (x : Known) (o : Offer) {n : ℕ} (i : I
         headers-fit = r .fitting .headers-fit;
         layer-fits = r .fitting .layer-fits;
         position-far = rw (at-position p t x o i) (r .position-near);
-        end-far = rw (end-is (r .stuffs)) (r .end-near);
+        end-far = rw (end-is (r .fitting) (r .stuffs)) (r .end-near);
         in-time = units-beyond p _ _ (rw (delivered-known p t x o, at-position p t x o i) (q .in-time));
         no-overflow = units-over p _ _ (rw (delivered-known p t x o) (q .no-overflow));
-        no-underflow = units-beyond p _ _ (rw (delivered-known p t x o, end-is (r .stuffs)) (g .end-delivered));
+        no-underflow = units-beyond p _ _ (rw (delivered-known p t x o, end-is (r .fitting) (r .stuffs)) (g .end-delivered));
         room = s;
       }
 
@@ -143,10 +144,10 @@ module _ (p : VbvParams) (t : List ℕ) (x : Known) (o : Offer) {n : ℕ} (i : I
       held (writerFits w) _ _ (i .fits)
       (no _ _ _ (turn-no f)
       (held (headersFit p (anyPlaced x) (o .headers)) _ _ g
-      (failed (layerFits (o .kind) (o .interval) (o .layer)) _ _ k refl)))
+      (failed (layerFits (w .cadence .film) (o .kind) (o .interval) (o .layer)) _ _ k refl)))
   only (far-position g l) = past-20 g (yes _ _ _ (is-true _ (λ z. omega (arith, l, at-position p t x o i, ltb-false farthest (position w o) (or-left _ _ z)))) refl)
   only (far-end g s l) =
-      past-20 g (yes _ _ _ (is-true _ (λ z. omega (arith, l, end-is s, ltb-false farthest (end w o) (or-right (ltb farthest (position w o)) _ z)))) refl)
+      past-20 g (yes _ _ _ (is-true _ (λ z. omega (arith, l, end-is g s, ltb-false farthest (end w o) (or-right (ltb farthest (position w o)) _ z)))) refl)
   only (early-position g l k) = past-14 g (yes _ _ _ (not-there _ _ _ _ (at-position p t x o i) (delivered-known p t x o) l) refl)
   only (overflowing g a l k) =
       let b : position w o * unit p ≤ deliveredAt w o = rw (delivered-known p t x o, at-position p t x o i) a in
@@ -161,10 +162,10 @@ module _ (p : VbvParams) (t : List ℕ) (x : Known) (o : Offer) {n : ℕ} (i : I
       let b : content w o * unit p ≤ deliveredAt w o = rw (delivered-known p t x o, at-content p t x o i) a in
       past-9 g
       (no _ _ _ (units-beyond p _ _ b)
-      (yes _ _ _ (not-there _ _ _ _ (end-is (g .near .stuffs)) (delivered-known p t x o) l) refl))
+      (yes _ _ _ (not-there _ _ _ _ (end-is (g .near .fitting) (g .near .stuffs)) (delivered-known p t x o) l) refl))
   only (no-room g l) =
-      let s : length (o .out) < length (placedBytes w o) = rw (placed-size w o, stuffing-is (g .on-time .near .stuffs)) l in
+      let s : length (o .out) < length (placedBytes w o) = rw (placed-size w o, stuffing-is (g .on-time .near .fitting) (g .on-time .near .stuffs)) l in
       past-22 g (yes _ _ _ (lt-ltb _ _ s) refl)
   only (room g l) =
-      let s : length (placedBytes w o) ≤ length (o .out) = rw (placed-size w o, stuffing-is (g .on-time .near .stuffs)) l in
-      past-22 g (no _ _ _ (le-ltb _ _ s) (rw (delay-known p t x o i (placing g s), placed-size w o, stuffing-is (g .on-time .near .stuffs))))
+      let s : length (placedBytes w o) ≤ length (o .out) = rw (placed-size w o, stuffing-is (g .on-time .near .fitting) (g .on-time .near .stuffs)) l in
+      past-22 g (no _ _ _ (le-ltb _ _ s) (rw (delay-known p t x o i (placing g s), placed-size w o, stuffing-is (g .on-time .near .fitting) (g .on-time .near .stuffs))))

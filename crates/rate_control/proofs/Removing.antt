@@ -1,6 +1,6 @@
 -- The removals of the pictures that a list of calls places, one after another.
 -- Assumes nothing.
-use mathlib.Core.Path.{_≡_, refl, sym, subst, subst₂, _∙_}
+use mathlib.Core.Path.{_≡_, refl, sym, ap, subst, subst₂, _∙_}
 use mathlib.Core.Bool.{Bool, true, false, true≢false}
 use mathlib.Core.List.{List, [], _∷_}
 use Prim.Native.Nat.{ℕ, _+_, _*_}
@@ -10,11 +10,16 @@ use Rattle.bits.specs.Refusals.{Answer, value, refused}
 use Rattle.bits.proofs.Over.{over-take}
 use Rattle.vbv.specs.Annex.{firstDelivered, beyond}
 use Rattle.vbv.specs.Model.{delivered}
+use Rattle.vbv.specs.declared.RemovalInterval.{RemovalInterval}
 use Rattle.vbv.specs.declared.VbvParams.{VbvParams}
+use Rattle.cadence.specs.Cadence.{interval, after}
+use Rattle.cadence.specs.declared.VbvCadence.{VbvCadence}
+use Rattle.layers.specs.Layer.{factsIn, offeredFacts}
+use Rattle.layers.proofs.Telling.{as-offered}
 use Rattle.vbv.proofs.Laws.{over-units, beyond-units}
 use Rattle.vbv.proofs.After.{model-after}
 use Rattle.rate_control.specs.Answers.{Given, placed, again}
-use Rattle.rate_control.specs.Offer.{Offer, position, content, end, deliveredAt, deliveredNext, stuffing, delay, placedBytes, withPending, withPlaced, leftBy, outOf}
+use Rattle.rate_control.specs.Offer.{Offer, position, content, end, cadenceAt, intervalAt, deliveredAt, deliveredNext, stuffing, delay, placedBytes, withPending, withPlaced, leftBy, outOf}
 use Rattle.rate_control.specs.Calls.{Call, offering, withdrawing, stepOf, leftByCall, stepsOf}
 use Rattle.rate_control.specs.Sent.{positionOf, contentOf, Stuffs, Sent, sentPosition, sentEnd, sentBy, sent, Removals, no-removal, removal-then, EachRemoval, InBuffer, WellPlaced, LeastStuffing}
 use Rattle.rate_control.specs.declared.Pending.the-variants.{Nothing}
@@ -22,6 +27,7 @@ use Rattle.rate_control.specs.declared.CbrWriter.{CbrWriter}
 use Rattle.rate_control.proofs.Chain.{Placing, Outcome, stays, closes, retries, hands-out, outcome}
 use Rattle.rate_control.proofs.Placing.{delivered-later, end-is, stuffing-last, stuffing-least, params-fitted, delay-low, delivered-told}
 use Rattle.rate_control.proofs.Creation.{Fresh}
+use Rattle.rate_control.proofs.Lasting.{before-later, before-first}
 use Rattle.rate_control.proofs.Invariant.{Inv, call-inv, withdraw-is}
 
 -- ---- one picture
@@ -31,20 +37,20 @@ unfoldable pub sentOf : ℕ → CbrWriter → Offer → Sent
 sentOf n w o = record { before = n; offer = o; delay = delay w o; stuffing = stuffing w o; bytes = placedBytes w o }
 
 -- a removal, and what the check needs besides: the start code is there in time, and the bytes before are those that were removed
-pub record Done (p : VbvParams) (d previous : ℕ) (x : Sent) : Type 0 where
+pub record Done (p : VbvParams) (i : RemovalInterval) (d previous : ℕ) (x : Sent) : Type 0 where
   pub in-buffer : InBuffer p d previous x
   pub as-placed : WellPlaced p d previous x
-  pub least : LeastStuffing p d previous x
+  pub least : LeastStuffing p i d previous x
   pub in-time : beyond p (sentPosition x) d ≡ false
   pub begins : previous ≡ 8 * x .before
 
-abbrev pub RemovalsDone : VbvParams → ℕ → ℕ → List Sent → Type 0
-RemovalsDone p d previous xs = Removals p (Done p) d previous xs
+abbrev pub RemovalsDone : VbvParams → VbvCadence → ℕ → ℕ → List Sent → Type 0
+RemovalsDone p k d previous xs = Removals p (Done p) k d previous xs
 
-weaker : {p : VbvParams} {A B : ℕ → ℕ → Sent → Type 0} {d previous : ℕ} {xs : List Sent}
-    → ((d previous : ℕ) (x : Sent) → A d previous x → B d previous x) → Removals p A d previous xs → Removals p B d previous xs
+weaker : {p : VbvParams} {A B : RemovalInterval → ℕ → ℕ → Sent → Type 0} {k : VbvCadence} {d previous : ℕ} {xs : List Sent}
+    → ((i : RemovalInterval) (d previous : ℕ) (x : Sent) → A i d previous x → B i d previous x) → Removals p A k d previous xs → Removals p B k d previous xs
 weaker f no-removal = no-removal
-weaker f (removal-then h r) = removal-then (f _ _ _ h) (weaker f r)
+weaker f (removal-then h r) = removal-then (f _ _ _ _ h) (weaker f r)
 
 module _ (n : ℕ) (w : CbrWriter) (o : Offer) (k : w .model .«prev_end_bits» ≡ 8 * n) where
   pub position-same : positionOf n o ≡ position w o
@@ -55,7 +61,7 @@ module _ (n : ℕ) (w : CbrWriter) (o : Offer) (k : w .model .«prev_end_bits» 
   unfolding contentOf content
   content-same = omega arith
 
-  pub stuffs-same : Placing w o → Stuffs (w .model .params) n (deliveredAt w o) o (stuffing w o)
+  pub stuffs-same : Placing w o → Stuffs (w .model .params) n (deliveredAt w o) (intervalAt w o) o (stuffing w o)
   unfolding deliveredNext
   stuffs-same g = record { least = λ e j. rw content-same (stuffing-least w o (params-fitted w o g) e j); after-last = stuffing-last w o }
 
@@ -63,7 +69,7 @@ module _ (n : ℕ) (w : CbrWriter) (o : Offer) (k : w .model .«prev_end_bits» 
   unfolding sentOf
   end-same = omega (arith, end-is w o)
 
-  place-done : Placing w o → Done (w .model .params) (deliveredAt w o) (w .model .«prev_end_bits») (sentOf n w o)
+  place-done : Placing w o → Done (w .model .params) (intervalAt w o) (deliveredAt w o) (w .model .«prev_end_bits») (sentOf n w o)
   unfolding sentOf delay placedBytes
   place-done g =
       let p = w .model .params in
@@ -99,26 +105,34 @@ finished-none k w (withdrawing ∷ l) h e = finished-none k _ l (call-inv withdr
 
 -- ---- all of them
 
--- from a writer on: before the first picture Annex C of the whole, later the removals from what the writer has delivered
-abbrev pub EachDone : VbvParams → List Sent → Type 0
-EachDone p xs = EachRemoval p (Done p) xs
+-- from a writer on: before the first picture Annex C of the whole, later the removals from what the writer has delivered, by its cadence
+abbrev pub EachDone : Bool → VbvParams → List Sent → Type 0
+EachDone film p xs = EachRemoval film p (Done p) xs
 
-abbrev RemovalsFrom : VbvParams → Bool → ℕ → ℕ → List Sent → Type 0
-RemovalsFrom p true d previous xs = RemovalsDone p d previous xs
-RemovalsFrom p false d previous xs = EachDone p xs
+abbrev RemovalsFrom : VbvParams → Bool → VbvCadence → ℕ → ℕ → List Sent → Type 0
+RemovalsFrom p true k d previous xs = RemovalsDone p k d previous xs
+RemovalsFrom p false k d previous xs = EachDone (k .film) p xs
 
 Claim : CbrWriter → List Sent → Type 0
-Claim w xs = RemovalsFrom (w .model .params) (w .model .started) (delivered (w .model)) (w .model .«prev_end_bits») xs
+Claim w xs = RemovalsFrom (w .model .params) (w .model .started) (w .cadence) (delivered (w .model)) (w .model .«prev_end_bits») xs
 
-removals-none : (p : VbvParams) (b : Bool) (d previous : ℕ) → RemovalsFrom p b d previous []
-removals-none p true d previous = no-removal
-removals-none p false d previous = tt
+removals-none : (p : VbvParams) (b : Bool) (k : VbvCadence) (d previous : ℕ) → RemovalsFrom p b k d previous []
+removals-none p true k d previous = no-removal
+removals-none p false k d previous = tt
+
+-- what the offer says of a placed picture is what its layer tells
+placed-lasts : (w : CbrWriter) (o : Offer) → Placing w o → intervalAt w o ≡ interval (cadenceAt w (o .headers)) (offeredFacts (o .kind) (o .interval) (o .layer))
+unfolding intervalAt
+placed-lasts w o g = ap (interval (cadenceAt w (o .headers))) (as-offered (w .cadence .film) (o .kind) (o .interval) (o .layer) (g .layer-fits))
 
 module _ {m : ℕ} (n : ℕ) (w : CbrWriter) (o : Offer) (h : Inv m w) (k : w .model .«prev_end_bits» ≡ 8 * n) (g : Placing w o) (xs : List Sent)
-    (c : RemovalsDone (w .model .params) (deliveredNext w o) (end w o) xs) where
-  whole : RemovalsDone (w .model .params) (deliveredAt w o) (w .model .«prev_end_bits») (sentOf n w o ∷ xs)
+    (c : RemovalsDone (w .model .params) (after (cadenceAt w (o .headers)) (factsIn (o .layer))) (deliveredNext w o) (end w o) xs) where
+  whole : RemovalsDone (w .model .params) (cadenceAt w (o .headers)) (deliveredAt w o) (w .model .«prev_end_bits») (sentOf n w o ∷ xs)
   unfolding sentOf deliveredNext
-  whole = removal-then {xs = xs} (place-done n w o k g) (rw (end-same n w o k) c)
+  whole =
+      let f = as-offered (w .cadence .film) (o .kind) (o .interval) (o .layer) (g .layer-fits) in
+      let d = rw (← end-same n w o k, placed-lasts w o g, f) at c in
+      removal-then {k = cadenceAt w (o .headers)} {d = deliveredAt w o} {previous = w .model .«prev_end_bits»} {x = sentOf n w o} {xs = xs} (rw (← placed-lasts w o g) (place-done n w o k g)) d
 
   first : w .model .started ≡ false → deliveredAt w o ≡ firstDelivered (w .model .params) (positionOf n o) (delay w o)
   first e = rw (position-same n w o k) (delivered-told w o g e)
@@ -127,9 +141,13 @@ module _ {m : ℕ} (n : ℕ) (w : CbrWriter) (o : Offer) (h : Inv m w) (k : w .m
   unfolding Claim sentOf
   place-removals = go (w .model .started) refl
     where
-      go : (b : Bool) → w .model .started ≡ b → RemovalsFrom (w .model .params) b (delivered (w .model)) (w .model .«prev_end_bits») (sentOf n w o ∷ xs)
-      go true e = subst (λ (d : ℕ). RemovalsDone (w .model .params) d (w .model .«prev_end_bits») (sentOf n w o ∷ xs)) (delivered-later w o e) whole
-      go false e = subst₂ (λ (d previous : ℕ). RemovalsDone (w .model .params) d previous (sentOf n w o ∷ xs)) (first e) (h .none-yet e) whole
+      go : (b : Bool) → w .model .started ≡ b → RemovalsFrom (w .model .params) b (w .cadence) (delivered (w .model)) (w .model .«prev_end_bits») (sentOf n w o ∷ xs)
+      go true e =
+          subst₂ (λ (j : VbvCadence) (d : ℕ). RemovalsDone (w .model .params) j d (w .model .«prev_end_bits») (sentOf n w o ∷ xs))
+          (before-later w (o .headers) e) (delivered-later w o e) whole
+      go false e =
+          subst (λ (j : VbvCadence). RemovalsDone (w .model .params) j (firstDelivered (w .model .params) (positionOf n o) (delay w o)) 0 (sentOf n w o ∷ xs)) (before-first w (o .headers) e)
+          (subst₂ (λ (d previous : ℕ). RemovalsDone (w .model .params) (cadenceAt w (o .headers)) d previous (sentOf n w o ∷ xs)) (first e) (h .none-yet e) whole)
 
 -- the bytes handed out after an answer
 abbrev countBy : ℕ → Answer Given → ℕ
@@ -145,7 +163,8 @@ outcome-bytes n k (closes g) = k
 outcome-bytes n k (retries g) = k
 outcome-bytes {w} {o} n k (hands-out g) = model-after (w .model) (end w o) (deliveredNext w o) .end-is ∙ omega (arith, end-is w o)
 
-placed-removals : (w : CbrWriter) (o : Offer) {xs : List Sent} → Claim (withPlaced w o) xs → RemovalsDone (w .model .params) (deliveredNext w o) (end w o) xs
+placed-removals : (w : CbrWriter) (o : Offer) {xs : List Sent} → Claim (withPlaced w o) xs
+    → RemovalsDone (w .model .params) (after (cadenceAt w (o .headers)) (factsIn (o .layer))) (deliveredNext w o) (end w o) xs
 unfolding Claim withPlaced
 placed-removals w o c =
     let a = model-after (w .model) (end w o) (deliveredNext w o) in
@@ -171,7 +190,7 @@ withdrawn-bytes w n k = k
 
 removals-from : {m : ℕ} (n : ℕ) (w : CbrWriter) (l : List Call) → Inv m w → w .model .«prev_end_bits» ≡ 8 * n → Claim w (sent n (stepsOf w l))
 unfolding stepsOf stepOf leftByCall sent Claim
-removals-from n w [] h k = removals-none (w .model .params) (w .model .started) (delivered (w .model)) (w .model .«prev_end_bits»)
+removals-from n w [] h k = removals-none (w .model .params) (w .model .started) (w .cadence) (delivered (w .model)) (w .model .«prev_end_bits»)
 removals-from n w (offering o ∷ l) h k =
     outcome-removals n l h k (outcome w o) (removals-from _ _ l (call-inv (offering o) h) (outcome-bytes n k (outcome w o)))
 removals-from n w (withdrawing ∷ l) h k =
@@ -179,14 +198,14 @@ removals-from n w (withdrawing ∷ l) h k =
     withdrawn-removals w _ e (removals-from n _ l (call-inv withdrawing h) (rw e (withdrawn-bytes w n k)))
 
 -- by Annex C's own formula, of a writer that has placed nothing yet
-pub fresh-done : {w : CbrWriter} → Fresh w → (l : List Call) → EachDone (w .model .params) (sent 0 (stepsOf w l))
+pub fresh-done : {w : CbrWriter} → Fresh w → (l : List Call) → EachDone (w .cadence .film) (w .model .params) (sent 0 (stepsOf w l))
 unfolding Claim
 fresh-done {w} f l =
-    subst (λ (b : Bool). RemovalsFrom (w .model .params) b (delivered (w .model)) (w .model .«prev_end_bits») (sent 0 (stepsOf w l))) (f .unplaced)
+    subst (λ (b : Bool). RemovalsFrom (w .model .params) b (w .cadence) (delivered (w .model)) (w .model .«prev_end_bits») (sent 0 (stepsOf w l))) (f .unplaced)
     (removals-from 0 w l (f .inv) (f .at-zero))
 
 -- a part of what holds at each removal
-pub each : {p : VbvParams} {B : ℕ → ℕ → Sent → Type 0} → ((d previous : ℕ) (x : Sent) → Done p d previous x → B d previous x) → (xs : List Sent) → EachDone p xs
-    → EachRemoval p B xs
-each f [] c = tt
-each f (x ∷ xs) c = weaker f c
+pub each : (film : Bool) {p : VbvParams} {B : RemovalInterval → ℕ → ℕ → Sent → Type 0} → ((i : RemovalInterval) (d previous : ℕ) (x : Sent) → Done p i d previous x → B i d previous x)
+    → (xs : List Sent) → EachDone film p xs → EachRemoval film p B xs
+each film f [] c = tt
+each film f (x ∷ xs) c = weaker f c

@@ -10,6 +10,7 @@ use Rattle.bits.specs.Bits.{pick}
 use Rattle.bits.specs.Refusals.{Answer}
 use Rattle.bits.proofs.Over.{over-take}
 use Rattle.headers.specs.RoundTrips.{Bytes}
+use Rattle.vbv.specs.declared.RemovalInterval.{RemovalInterval}
 use Rattle.vbv.specs.declared.VbvParams.{VbvParams}
 use Rattle.vbv.proofs.After.{model-after}
 use Rattle.scan.specs.Codes.{sequenceEnd}
@@ -18,12 +19,16 @@ use Rattle.verify.specs.declared.CodedPicture.{CodedPicture}
 use Rattle.pictures.specs.declared.SeenPicture.{SeenPicture}
 use Rattle.verify.specs.Coded.{timed}
 use Rattle.verify.proofs.Rising.{timed-none, timed-first}
-use Rattle.layers.proofs.Layers.{factsIn}
-use Rattle.layers.proofs.Stream.{Part, bytesOf, PartFits, PartsFit, no-parts, part, stream, pictureOf, seen, part-then, stream-none, stream-more, parts-none, parts-last, parts-more, part-interval}
+use Rattle.cadence.specs.Cadence.{interval, after}
+use Rattle.cadence.specs.declared.VbvCadence.{VbvCadence}
+use Rattle.layers.specs.Layer.{factsIn, offeredFacts}
+use Rattle.layers.proofs.Laws.{laid}
+use Rattle.layers.proofs.Telling.{as-offered}
+use Rattle.layers.proofs.Stream.{Part, bytesOf, PartFits, PartsFit, no-parts, part, stream, pictureOf, seen, part-then, stream-none, stream-more, parts-none, parts-last, parts-more}
 use Rattle.rate_control.specs.Answers.{Given}
 use Rattle.rate_control.specs.Offer.{Offer, end, deliveredNext, stuffing, delay, endCode, placedBytes, withPending, withPlaced, leftBy, outOf}
 use Rattle.rate_control.specs.Calls.{Call, offering, withdrawing, stepOf, leftByCall, stepsOf}
-use Rattle.rate_control.specs.Sent.{positionOf, Sent, sentPosition, sentEnd, sentBy, sent, endToEnd}
+use Rattle.rate_control.specs.Sent.{positionOf, Sent, sentPosition, sentEnd, sentBy, sent, endToEnd, sentFacts, lastsFor}
 use Rattle.rate_control.specs.Demand.{AllBytes}
 use Rattle.rate_control.specs.declared.CbrWriter.{CbrWriter}
 use Rattle.rate_control.proofs.Storage.{end-code-last, end-code-none}
@@ -42,15 +47,15 @@ unfoldable pub seenBy : List Sent → List SeenPicture
 seenBy [] = []
 seenBy (x ∷ xs) = seenSent x ∷ seenBy xs
 
-unfoldable pub codedSent : Sent → CodedPicture
-codedSent x = record { «pos_bits» = sentPosition x; «end_bits» = sentEnd x; «vbv_delay» = x .delay; interval = x .offer .interval }
+unfoldable pub codedSent : RemovalInterval → Sent → CodedPicture
+codedSent i x = record { «pos_bits» = sentPosition x; «end_bits» = sentEnd x; «vbv_delay» = x .delay; interval = i }
 
-unfoldable pub codedBy : List Sent → List CodedPicture
-codedBy [] = []
-codedBy (x ∷ xs) = codedSent x ∷ codedBy xs
+unfoldable pub codedBy : VbvCadence → List Sent → List CodedPicture
+codedBy k [] = []
+codedBy k (x ∷ xs) = codedSent (lastsFor k x) x ∷ codedBy (after k (sentFacts x)) xs
 
 abbrev partOf : CbrWriter → Offer → Part
-partOf w o = record { headers = o .headers; layer = o .layer; delay = delay w o; zeros = stuffing w o; interval = o .interval }
+partOf w o = record { headers = o .headers; layer = o .layer; delay = delay w o; zeros = stuffing w o }
 
 placed-part : (w : CbrWriter) (o : Offer) → placedBytes w o ≡ bytesOf (partOf w o) ++ endCode (o .last)
 unfolding placedBytes
@@ -76,7 +81,7 @@ pub record Sending (p : VbvParams) (placed : Bool) (n : ℕ) (xs : List Sent) : 
   pub follows : List ℕ
   pub laid-is : endToEnd xs ≡ stream parts follows
   pub seen-is : seen n parts (length follows) ≡ seenBy xs
-  pub timed-is : timed (seenBy xs) ≡ codedBy xs
+  pub timed-is : (k : VbvCadence) → timed k (seenBy xs) ≡ codedBy k xs
   pub headers-are : firstHeaders parts ≡ sentHeaders xs
   pub fit : PartsFit p placed parts
   pub ends : Tail follows
@@ -92,18 +97,22 @@ seen-front n e x (y ∷ ys) t l z h = rw (← h, ← l) (parts-more n x y ys t)
 
 -- a picture before others; none after the last
 module _ {p : VbvParams} {placed : Bool} (n : ℕ) (w : CbrWriter) (o : Offer) {xs : List Sent} (f : PartFits p placed (partOf w o))
-    (s : Sending p true (n + length (placedBytes w o)) xs) (z : o .last ≡ true → xs ≡ []) where
+    (t : factsIn (o .layer) ≡ offeredFacts (o .kind) (o .interval) (o .layer)) (s : Sending p true (n + length (placedBytes w o)) xs) (z : o .last ≡ true → xs ≡ []) where
+  timed-more : (k : VbvCadence) → timed k (seenBy (sentOf n w o ∷ xs)) ≡ codedBy k (sentOf n w o ∷ xs)
+  unfolding seenBy seenSent codedBy codedSent sentOf
+  timed-more k = rw (timed-first, t, s .timed-is)
+
   last-sending : o .last ≡ true → Sending p placed n (sentOf n w o ∷ xs)
   unfolding seenBy seenSent codedBy codedSent sentOf endToEnd positionOf
   last-sending e =
-      let t = end-code-last (o .last) e in
-      let c : n + (length (bytesOf (partOf w o)) + length sequenceEnd) ≡ n + length (placedBytes w o) = omega (arith, placed-length w o, ap length t) in
+      let l = end-code-last (o .last) e in
+      let c : n + (length (bytesOf (partOf w o)) + length sequenceEnd) ≡ n + length (placedBytes w o) = omega (arith, placed-length w o, ap length l) in
       record {
         parts = partOf w o ∷ [];
         follows = sequenceEnd;
-        laid-is = rw (z e, append-nil, placed-part w o, t, stream-more, stream-none);
+        laid-is = rw (z e, append-nil, placed-part w o, l, stream-more, stream-none);
         seen-is = rw (z e, parts-last, c);
-        timed-is = rw (timed-first, part-interval f, s .timed-is);
+        timed-is = timed-more;
         headers-are = refl;
         fit = part f no-parts;
         ends = tail-end;
@@ -113,13 +122,13 @@ module _ {p : VbvParams} {placed : Bool} (n : ℕ) (w : CbrWriter) (o : Offer) {
   other-sending : o .last ≡ false → Sending p placed n (sentOf n w o ∷ xs)
   unfolding seenBy seenSent codedBy codedSent sentOf endToEnd positionOf
   other-sending e =
-      let t = end-code-none (o .last) e in
-      let c : length (bytesOf (partOf w o)) ≡ length (placedBytes w o) = omega (arith, placed-length w o, ap length t) in
+      let l = end-code-none (o .last) e in
+      let c : length (bytesOf (partOf w o)) ≡ length (placedBytes w o) = omega (arith, placed-length w o, ap length l) in
       record {
         parts = partOf w o ∷ s .parts;
         follows = s .follows;
-        laid-is = rw (s .laid-is, placed-part w o, t, append-nil, stream-more);
-        timed-is = rw (timed-first, part-interval f, s .timed-is);
+        laid-is = rw (s .laid-is, placed-part w o, l, append-nil, stream-more);
+        timed-is = timed-more;
         seen-is = seen-front n _ (partOf w o) (s .parts) (length (s .follows)) c (λ h. ap length (s .bare h)) (s .seen-is);
         headers-are = refl;
         fit = part f (s .fit);
@@ -136,11 +145,8 @@ module _ {p : VbvParams} {placed : Bool} (n : ℕ) (w : CbrWriter) (o : Offer) {
 
 place-fit : {w : CbrWriter} {o : Offer} → Placing w o → Bytes (o .layer) → PartFits (w .model .params) (w .model .started) (partOf w o)
 place-fit {w} {o} g b = record {
-  kind = o .kind;
   headers-fit = g .headers-fit;
-  layer-fits = g .layer-fits;
-  layer-bytes = b;
-  delay-bits = omega (arith, delay-low w o g);
+  laid = laid (w .cadence .film) (o .kind) (o .interval) (o .layer) (g .layer-fits) b (delay w o) (omega (arith, delay-low w o g));
 }
 
 same-sending : {p q : VbvParams} {a c : Bool} {n : ℕ} {xs : List Sent} → p ≡ q → a ≡ c → Sending p a n xs → Sending q c n xs
@@ -157,7 +163,7 @@ outcome-sending n l h b (retries g) s = s n
 outcome-sending {w = w} {o = o} n l h b (hands-out g) s =
     let a = model-after (w .model) (end w o) (deliveredNext w o) in
     rw (over-take (placedBytes w o) (o .out))
-    (place-sending n w o (place-fit g b) (same-sending (a .params-kept) (a .is-started) (s (n + length (placedBytes w o))))
+    (place-sending n w o (place-fit g b) (as-offered (w .cadence .film) (o .kind) (o .interval) (o .layer) (g .layer-fits)) (same-sending (a .params-kept) (a .is-started) (s (n + length (placedBytes w o))))
     (λ e. finished-none _ _ l (outcome-inv h (hands-out g)) e))
 
 pub sending : {m : ℕ} (n : ℕ) (w : CbrWriter) (l : List Call) → Inv m w → AllBytes l

@@ -13,6 +13,7 @@ use Rattle.bits.specs.Bits.{pick}
 use Rattle.bits.proofs.Appending.{lt-or-le}
 use Rattle.vbv.specs.Model.{farthest, modelFits}
 use Rattle.layers.specs.declared.PictureKind.{PictureKind}
+use Rattle.cadence.specs.Cadence.{cadenceFits}
 use Rattle.rate_control.specs.Writer.{allFit, quantiserFits, pendingFits, writerFits}
 use Rattle.bits.specs.Refusals.{value, refused, orElse}
 use Rattle.rate_control.specs.Offer.{withPending, withdraw}
@@ -55,15 +56,15 @@ bytes-bits n b =
     (λ (h : n ≤ b / 8). le-leb n (b / 8) h ∙ sym (le-leb (8 * n) b (omega arith)))
     (lt-or-le (b / 8) n)
 
-pub writer-tested : (w : CbrWriter) (f t q p : Bool) → f ≡ modelFits (w .model) → t ≡ allFit (λ x. leb x farthest) (w .«target_bits»)
-    → q ≡ allFit quantiserFits (w .q) → p ≡ pendingFits (w .pending)
+pub writer-tested : (w : CbrWriter) (f t q p k : Bool) → f ≡ modelFits (w .model) → t ≡ allFit (λ x. leb x farthest) (w .«target_bits»)
+    → q ≡ allFit quantiserFits (w .q) → p ≡ pendingFits (w .pending) → k ≡ cadenceFits (w .cadence)
     → (f && (eqb (w .model .«prev_end_bits» % 8) 0
     && (leb (w .model .removed) (w .model .«prev_end_bits» / 8)
-    && (leb (w .«stuffing_bytes») (w .model .«prev_end_bits» / 8) && (t && (q && p))))))
+    && (leb (w .«stuffing_bytes») (w .model .«prev_end_bits» / 8) && (t && (q && (p && k)))))))
     ≡ writerFits w
 unfolding writerFits
-writer-tested w f t q p a b d e =
-    rw (a, b, d, e, bytes-bits (w .model .removed) (w .model .«prev_end_bits»), bytes-bits (w .«stuffing_bytes») (w .model .«prev_end_bits»))
+writer-tested w f t q p k a b d e g =
+    rw (a, b, d, e, g, bytes-bits (w .model .removed) (w .model .«prev_end_bits»), bytes-bits (w .«stuffing_bytes») (w .model .«prev_end_bits»))
 
 pub pending-none : (p : Pending) → p ≡ Nothing → true ≡ pendingFits p
 unfolding pendingFits

@@ -8,6 +8,7 @@ use lib.ListN.{getD, set}
 use borrow.Author.Tests.{lt-ltb, le-ltb, ne-eqb}
 use Rattle.bits.specs.Bits.{pick}
 use Rattle.layers.specs.declared.PictureKind.{PictureKind}
+use Rattle.cadence.specs.declared.VbvCadence.{VbvCadence}
 use Rattle.rate_control.specs.Writer.{index, of, clashes, pendingOr, asked, coarser, steered}
 use Rattle.rate_control.specs.Offer.{withPending}
 use Rattle.rate_control.specs.Steps.{placedBy, tooLargeInCode}
@@ -64,7 +65,7 @@ module _ (w : CbrWriter) (k : PictureKind) (q : ℕ) (e : q ≡ asked w k) where
   way-again n x h f g = rw (← e, ne-eqb q 31 h, ← f, g)
 
 -- placed
-pub placed-told : (w : CbrWriter) (k : PictureKind) (layer : ℕ) (last : Bool) (p : Placement) (q i s : ℕ)
+pub placed-told : (w : CbrWriter) (k : PictureKind) (layer : ℕ) (last : Bool) (p : Placement) (c : VbvCadence) (q i s : ℕ)
     → q ≡ asked w k → i ≡ index k → s ≡ steered q (getD (w .«target_bits») i 0) (8 * layer)
     → _≡_ {A = CbrOffered}
     (record {
@@ -77,11 +78,12 @@ pub placed-told : (w : CbrWriter) (k : PictureKind) (layer : ℕ) (last : Bool) 
             pending = Nothing;
             «stuffing_bytes» = w .«stuffing_bytes» + p .«stuffing_bytes»;
             finished = last;
+            cadence = c;
           };
     })
-    (placedBy w k layer last p)
+    (placedBy w k layer last p c)
 unfolding placedBy of
-placed-told w k layer last p q i s e f g = rw (g, f, e)
+placed-told w k layer last p c q i s e f g = rw (g, f, e)
 
 pub target-of : (w : CbrWriter) (k : PictureKind) (i n : ℕ) → i ≡ index k → of k (w .«target_bits») ≤ n → getD (w .«target_bits») i 0 ≤ n
 unfolding of

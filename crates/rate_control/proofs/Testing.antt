@@ -29,7 +29,7 @@ use Rattle.vbv.proofs.Told.{next-delivered-is}
 use Rattle.vbv.proofs.Named.{starts-named, removal-named, delays-named, max-named, min-named}
 use Rattle.vbv.proofs.After.{after-same}
 use Rattle.rate_control.specs.Writer.{writerFits}
-use Rattle.rate_control.specs.Offer.{Offer, position, content, end, firstDelay, deliveredAt, deliveredNext, stuffing, delay, endCode, placedBytes}
+use Rattle.rate_control.specs.Offer.{Offer, position, content, end, firstDelay, deliveredAt, intervalAt, deliveredNext, stuffing, delay, endCode, placedBytes}
 use Rattle.rate_control.specs.Steps.{startedAt, stuffingUpTo, readyBy, byEnd, violated, bySize, byMost, withStuffing, byLeast, byStart, extentOf, within14, measured}
 use Rattle.rate_control.specs.declared.CbrWriter.{CbrWriter}
 use Rattle.rate_control.specs.declared.CbrError.the-variants.{Model, Violation, Stuffing}
@@ -175,12 +175,12 @@ module _ (w : CbrWriter) (o : Offer) (f : writerFits w ≡ true) (n : VbvCbrMode
   params-fits : paramsFit (w .model .params) ≡ true
   params-fits = fits-params (w .model) (writer-fits f .model-fits)
 
-  next-same : nextDelivered n (o .interval) ≡ deliveredNext w o
+  next-same : nextDelivered n (intervalAt w o) ≡ deliveredNext w o
   unfolding deliveredNext
-  next-same = next-delivered-is n (o .interval) ∙ rw (b .delivered-is, b .same-params)
+  next-same = next-delivered-is n (intervalAt w o) ∙ rw (b .delivered-is, b .same-params)
 
-  pub least-told : bitsOf (minEndBits n (o .interval)) ≡ bt.Bits (leastEnd p (deliveredNext w o))
-  least-told = min-named n (b .fits) (b .is-started) (o .interval) ∙ rw (next-same, b .same-params)
+  pub least-told : bitsOf (minEndBits n (intervalAt w o)) ≡ bt.Bits (leastEnd p (deliveredNext w o))
+  least-told = min-named n (b .fits) (b .is-started) (intervalAt w o) ∙ rw (next-same, b .same-params)
 
   most-told : bitsOf (maxEndBits n) ≡ bt.Bits (greatestEnd p (deliveredAt w o))
   most-told = max-named n (b .fits) (b .is-started) ∙ rw (b .delivered-is, b .same-params)
@@ -192,12 +192,12 @@ module _ (w : CbrWriter) (o : Offer) (f : writerFits w ≡ true) (n : VbvCbrMode
       record { end-far = h; end-low = omega (arith, b .same-end); count = omega (arith, b .same-count, v .few, g .end-high) }
 
   removal : (e : ℕ) → w .model .«prev_end_bits» ≤ e → e ≤ farthest
-      → removalOf (removePicture n e (o .interval))
+      → removalOf (removePicture n e (intervalAt w o))
       ≡ pick (overflows p (w .model .«prev_end_bits») (deliveredAt w o)) (rm.Violation (Overflow (w .model .removed) 0 0))
       (pick (beyond p e (deliveredAt w o)) (rm.Violation (Underflow (w .model .removed) 0 0))
       (rm.Model (afterRemoval (w .model) e (deliveredNext w o))))
   removal e l h =
-      removal-named n (b .fits) (b .is-started) e (o .interval) (ends e l h)
+      removal-named n (b .fits) (b .is-started) e (intervalAt w o) (ends e l h)
       ∙ rw (next-same, after-same (w .model) n e (deliveredNext w o) (b .same-params) (b .same-count), b .delivered-is, b .same-end, b .same-count, b .same-params)
 
   sizes : x .bytes + stuffing w o ≡ length (placedBytes w o)
@@ -221,36 +221,36 @@ module _ (w : CbrWriter) (o : Offer) (f : writerFits w ≡ true) (n : VbvCbrMode
       let l = delay-most p params-fits (w .model .«prev_end_bits») (position w o) (deliveredAt w o) g before in
       let k : expectedDelay (n .params) (position w o) (delivered n) ≤ 65534 = rw (b .delivered-is, b .same-params) l in
       rw (delays-named n (position w o) (b .fits) (b .is-started) h e k, b .delivered-is, b .same-params)
-      (delay-case n x (stuffing w o) (o .interval) _ _ ∙ rw sizes)
+      (delay-case n x (stuffing w o) (intervalAt w o) _ _ ∙ rw sizes)
 
   module _ (near : position w o ≤ farthest) (far : end w o ≤ farthest) where
     end-told : beyond p (position w o) (deliveredAt w o) ≡ false → overflows p (w .model .«prev_end_bits») (deliveredAt w o) ≡ false
-        → byEnd n x (stuffing w o) (removalOf (removePicture n (end w o) (o .interval)))
+        → byEnd n x (stuffing w o) (removalOf (removePicture n (end w o) (intervalAt w o)))
         ≡ pick (beyond p (end w o) (deliveredAt w o)) (Refused Stuffing) (Ready (placement w o))
     end-told t g =
-        let i = o .interval in
+        let i = intervalAt w o in
         ap (byEnd n x (stuffing w o)) (removal (end w o) (omega (arith, inside, end-same w o)) far ∙ sym (no _ _ _ g refl))
         ∙ pick-alike (λ (r : VbvRemoval) (j : Tested). byEnd n x (stuffing w o) r ≡ j) _ (end-violated n x (stuffing w o) i _)
         (λ h22. end-model n x (stuffing w o) i _ ∙ ready-told near t g)
 
     size-told : beyond p (position w o) (deliveredAt w o) ≡ false
-        → bySize n x (stuffing w o) (o .interval) (removalOf (removePicture n (content w o) (o .interval)))
+        → bySize n x (stuffing w o) (intervalAt w o) (removalOf (removePicture n (content w o) (intervalAt w o)))
         ≡ pick (overflows p (w .model .«prev_end_bits») (deliveredAt w o)) (Refused (Violation (Overflow (w .model .removed) 0 0)))
         (pick (beyond p (content w o) (deliveredAt w o)) TooLarge
         (pick (beyond p (end w o) (deliveredAt w o)) (Refused Stuffing) (Ready (placement w o))))
     size-told t =
-        let i = o .interval in
+        let i = intervalAt w o in
         let z = stuffing w o in
         ap (bySize n x z i) (removal (content w o) inside (omega (arith, end-same w o)))
         ∙ pick-alike (λ (r : VbvRemoval) (j : Tested). bySize n x z i r ≡ j) _ (size-over n x z i _ _ _)
         (λ h9. pick-alike (λ (r : VbvRemoval) (j : Tested). bySize n x z i r ≡ j) _ (size-under n x z i _ _ _)
         (λ size. size-model n x z i _ ∙ rw (end-same w o) (end-told t h9)))
 
-    pub position-told : byMost n x (stuffing w o) (o .interval) (bitsOf (maxEndBits n)) ≡ measuredFor w o
+    pub position-told : byMost n x (stuffing w o) (intervalAt w o) (bitsOf (maxEndBits n)) ≡ measuredFor w o
     unfolding measuredFor
     position-told =
         rw most-told
-        (most-case n x (stuffing w o) (o .interval) _
+        (most-case n x (stuffing w o) (intervalAt w o) _
         ∙ rw (← beyond-greatest p params-fits (position w o) (deliveredAt w o))
         (pick-alike (λ (a b : Tested). a ≡ b) _ refl (λ h7. size-told h7) ∙ no _ _ _ (neither (position w o) (end w o) near far) refl))
 
@@ -265,7 +265,7 @@ module _ (w : CbrWriter) (o : Offer) where
   far-told h = yes _ _ _ (either (position w o) (end w o) h) refl
 
   module _ (f : writerFits w ≡ true) where
-    stuffed-told : (n : VbvCbrModel) → StartedFor w o n → position w o ≤ farthest → withStuffing n (extent w o) (o .interval) (stuffing w o) ≡ measuredFor w o
+    stuffed-told : (n : VbvCbrModel) → StartedFor w o n → position w o ≤ farthest → withStuffing n (extent w o) (intervalAt w o) (stuffing w o) ≡ measuredFor w o
     unfolding withStuffing
     stuffed-told n b near =
         pick-elim Same _ (λ e. far-told (omega (arith, ltb-true (farthest / 8) (stuffing w o) e, end-same w o))) λ z.
@@ -273,7 +273,7 @@ module _ (w : CbrWriter) (o : Offer) where
         position-told w o f n b near (omega (arith, ltb-false farthest (content w o + 8 * stuffing w o) e, end-same w o))
 
     start-told : position w o ≤ farthest
-        → byStart (extent w o) (o .interval) (o .last) (startedAt (w .model) (position w o)) ≡ measuredFor w o
+        → byStart (extent w o) (intervalAt w o) (o .last) (startedAt (w .model) (position w o)) ≡ measuredFor w o
     unfolding byStart byLeast stuffingUpTo stuffing
     start-told near =
         let g = start-model w o f near in
@@ -283,7 +283,7 @@ module _ (w : CbrWriter) (o : Offer) where
     unfolding position content
     bytes-far h = omega (arith, end-same w o)
 
-    pub measured-is : measured (w .model) (length (o .headers)) (length (o .layer)) (o .interval) (o .last) ≡ measuredFor w o
+    pub measured-is : measured (w .model) (length (o .headers)) (length (o .layer)) (intervalAt w o) (o .last) ≡ measuredFor w o
     unfolding measured within14
     measured-is =
         rw (extent-is w o)

@@ -1,5 +1,5 @@
 -- Which answer is due to creation and to each offer (paper 01, 'A placed picture'), by conditions in ≤ and <, from creation, the calls and their answers: not from the writer's state,
--- nor from the tests, positions, stuffing or bytes of `offer`. The fit tests, `firstDelay`, `endCode`, `patched`, `coarser`, `steered`, `pendingOr`, `of`, `index`, `frameRate`, `writerParams`, `targets`, `periods`, `cadenceBy`, `factsIn`, `interval`, `after` and
+-- nor from the tests, positions, stuffing or bytes of `offer`. The fit tests, `firstDelay`, `endCode`, `patched`, `coarser`, `steered`, `pendingOr`, `of`, `index`, `frameRate`, `writerParams`, `targets`, `periods`, `cadenceBy`, `offeredFacts`, `interval`, `after` and
 -- Annex C are the ones that `create` and `offer` compute with: they are to be read against the papers themselves. Assumes nothing.
 use Prim.Native.Nat.{ℕ, suc, _+_, _*_, _/_, _%_, _≤_, _<_}
 use mathlib.Core.Path.{_≡_}
@@ -16,7 +16,8 @@ use Rattle.vbv.specs.Patch.{patched}
 use Rattle.vbv.specs.Answers.{frameRate}
 use Rattle.vbv.specs.declared.VbvParams.{VbvParams}
 use Rattle.layers.specs.Headers.{headersFit}
-use Rattle.layers.specs.Layer.{layerFits, factsIn}
+use Rattle.layers.specs.Layer.{layerFits, offeredFacts}
+use Rattle.picture_header.specs.declared.PictureFacts.{PictureFacts}
 use Rattle.cadence.specs.Cadence.{opened, interval, after}
 use Rattle.cadence.specs.declared.VbvCadence.{VbvCadence}
 use Rattle.pictures.specs.Cadence.{cadenceBy}
@@ -68,12 +69,16 @@ anyPlaced x = ltb 0 (x .pictures)
 abbrev pub deliveredFor : VbvParams → Known → Offer → ℕ
 deliveredFor p x o = pick (anyPlaced x) (x .delivered) (firstDelivered p (positionOf (x .bytes) o) (firstDelay p))
 
--- how long it lasts: until a picture is placed, by the cadence that the offer's own headers open (request 05)
+-- the cadence before it: until a picture is placed, the one that the offer's own headers open (request 05)
 abbrev pub cadenceFor : Known → Offer → VbvCadence
 cadenceFor x o = pick (anyPlaced x) (x .cadence) (cadenceBy (x .cadence .film) (o .headers))
 
+-- by the offer's own words, and its layer's flags
+abbrev pub factsFor : Offer → PictureFacts
+factsFor o = offeredFacts (o .kind) (o .interval) (o .layer)
+
 abbrev pub lastsIn : Known → Offer → RemovalInterval
-lastsIn x o = interval (cadenceFor x o) (factsIn (o .layer))
+lastsIn x o = interval (cadenceFor x o) (factsFor o)
 
 -- the quantiser that its layer was to be encoded with
 abbrev pub askedFor : Known → Offer → ℕ
@@ -101,7 +106,7 @@ knownAfterOffer p t x o (value (placed q delay bytes stuffing)) = record {
   q = set (x .q) (index (o .kind)) (steered q (of (o .kind) t) (8 * length (o .layer)));
   pending = Nothing;
   finished = o .last;
-  cadence = after (cadenceFor x o) (factsIn (o .layer));
+  cadence = after (cadenceFor x o) (factsFor o);
 }
 knownAfterOffer p t x o (value (again q)) = pendingNow x (Waits (o .kind) q)
 knownAfterOffer p t x o (refused n picture coded expected) = pick (eqb n 21) (pendingNow x Nothing) x

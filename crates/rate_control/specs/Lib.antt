@@ -3,6 +3,7 @@ pub mod Create
 pub mod Answers
 pub mod Writer
 pub mod Offer
+pub mod Plain
 pub mod Steps
 pub mod Calls
 pub mod Sent

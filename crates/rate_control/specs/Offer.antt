@@ -60,10 +60,11 @@ unfolding position
 deliveredAt w o =
     pick (w .model .started) (delivered (w .model)) (firstDelivered (w .model .params) (position w o) (firstDelay (w .model .params)))
 
--- how long the picture lasts, by the cadence before it: until a picture is placed the one that the offer's own headers open
+-- the cadence before the picture: until one is placed, that which the offer's own headers open
 unfoldable pub cadenceAt : CbrWriter → List ℕ → VbvCadence
 cadenceAt w headers = pick (w .model .started) (w .cadence) (cadenceBy (w .cadence .film) headers)
 
+-- how long it lasts
 unfoldable pub intervalAt : CbrWriter → Offer → RemovalInterval
 unfolding cadenceAt
 intervalAt w o = interval (cadenceAt w (o .headers)) (factsIn (o .layer))

@@ -1,5 +1,5 @@
 -- The pictures that a list of calls placed, as bytes, and what the receiver and the check make of them. All is taken from the calls and their answers, by Annex C's own formula
--- and not by the writer's state; so is how long each picture lasts: by the cadence that the first placed headers open, and the pictures placed (request 05). Assumes nothing.
+-- and not by the writer's state; so is how long each picture lasts: by the cadence that the first placed headers open, and the pictures placed (request 05). `cadenceBy`, `interval` and `after` are the writer's own: cadence/specs/Table and History, and `SequenceOpens`, hold them. Assumes nothing.
 use Prim.Native.Nat.{ℕ, _+_, _*_, _≤_}
 use mathlib.Core.Path.{_≡_}
 use mathlib.Core.List.{List, [], _∷_, _++_}
@@ -17,7 +17,7 @@ use Rattle.cadence.specs.Cadence.{interval, after}
 use Rattle.cadence.specs.declared.VbvCadence.{VbvCadence}
 use Rattle.picture_header.specs.declared.PictureFacts.{PictureFacts}
 use Rattle.verify.specs.Check.{Accepted, accepted, verdict, reported, records}
-use Rattle.layers.specs.Layer.{factsIn}
+use Rattle.layers.specs.Layer.{offeredFacts}
 use Rattle.pictures.specs.Cadence.{cadenceBy}
 use Rattle.pictures.specs.Sequence.{declaredBy}
 use Rattle.pictures.specs.declared.VbvStandard.the-variants.{Mpeg2}
@@ -83,9 +83,9 @@ stuffingOf (x ∷ xs) = x .stuffing + stuffingOf xs
 
 -- ---- one removal after another
 
--- what its headers tell of how long it lasts
+-- what tells how long it lasts: an I or P picture, a field, by the offer's own words; the flags by its layer
 abbrev pub sentFacts : Sent → PictureFacts
-sentFacts x = factsIn (x .offer .layer)
+sentFacts x = offeredFacts (x .offer .kind) (x .offer .interval) (x .offer .layer)
 
 -- and how long it lasts, by the cadence before it
 abbrev pub lastsFor : VbvCadence → Sent → RemovalInterval

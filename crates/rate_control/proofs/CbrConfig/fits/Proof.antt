@@ -1,3 +1,4 @@
+use native.Mathlib.Omega.{arith}
 use Rattle.rate_control.proofs.Creation.{config-told}
 use borrow.Author.Needs.{needs}
 use Rattle.rate_control.proofs.CbrConfig.fits.Statement.{statement}
@@ -22,7 +23,7 @@ cast-between : tie.Need-cast-between
 cast-between c = search needs
 
 cast-anchors : tie.Need-cast-anchors
-cast-anchors c = search needs
+cast-anchors c = omega (arith, c .struct-known7 .given .1 .1 .1 .1 .1 .1 .1 .1 .0)
 
 within-requires : tie.Need-within-requires
 within-requires c κs = search needs
@@ -45,6 +46,9 @@ within-requires-6 c κs = search needs
 within-requires-7 : tie.Need-within-requires-7
 within-requires-7 c κs = search needs
 
+is-written-requires : tie.Need-is-written-requires
+is-written-requires c κs = search needs
+
 returns : tie.Need-returns
 returns c = search (needs, config-told)
 
@@ -66,4 +70,5 @@ fits-spec =
     within-requires-5
     within-requires-6
     within-requires-7
+    is-written-requires
     returns)

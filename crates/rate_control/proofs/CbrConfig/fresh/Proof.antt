@@ -12,8 +12,13 @@ cast-anchors c = search needs
 type-target-bits-requires : tie.Need-type-target-bits-requires
 type-target-bits-requires c κs = search needs
 
+opened-requires : tie.Need-opened-requires
+opened-requires c κs = search needs
+
 returns : tie.Need-returns
 returns c = search (needs, fresh-told)
 
 pub fresh-spec : {M : Type 1} → statement M
-fresh-spec = tie.close (tie.spec cast-between cast-anchors type-target-bits-requires returns)
+fresh-spec =
+    tie.close
+    (tie.spec cast-between cast-anchors type-target-bits-requires opened-requires returns)

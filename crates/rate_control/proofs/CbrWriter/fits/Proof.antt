@@ -15,6 +15,9 @@ all-quantisers-requires c κs = search needs
 pending-fits-requires : tie.Need-pending-fits-requires
 pending-fits-requires c κs = search needs
 
+fits-requires-2 : tie.Need-fits-requires-2
+fits-requires-2 c κs = search needs
+
 returns : tie.Need-returns
 returns c = search (needs, writer-tested)
 
@@ -26,4 +29,5 @@ fits-spec =
     all-targets-requires
     all-quantisers-requires
     pending-fits-requires
+    fits-requires-2
     returns)

@@ -24,8 +24,8 @@ steered-requires c κs = search (needs, target-of)
 array-write-next : tie.Need-array-write-next
 array-write-next c = search needs
 
-add-t16 : tie.Need-add-t16
-add-t16 c = search needs
+add-t17 : tie.Need-add-t17
+add-t17 c = search needs
 
 returns : tie.Need-returns
 returns c = search (needs, placed-told)
@@ -41,5 +41,5 @@ placed-spec =
     mul-steered
     steered-requires
     array-write-next
-    add-t16
+    add-t17
     returns)
