@@ -88,9 +88,10 @@ pub tested-by : (w : CbrWriter) (o : Offer) {f : PictureFacts} {k : VbvCadence} 
 unfolding intervalAt
 tested-by w o a b c e = e ∙ ap (tested w (o .headers) (o .kind) (o .interval) (o .last) (o .layer)) (c ∙ rw (a, b))
 
-pub placed-left : (w : CbrWriter) (o : Offer) (p : Placement) {f : PictureFacts} {k c : VbvCadence} {r : CbrOffered} → f ≡ factsIn (o .layer) → k ≡ cadenceAt w (o .headers) → c ≡ after k f
-    → r ≡ placedBy w (o .kind) (length (o .layer)) (o .last) p c → r ≡ placedBy w (o .kind) (length (o .layer)) (o .last) p (cadenceLeft w o)
-placed-left w o p a b c e = e ∙ ap (placedBy w (o .kind) (length (o .layer)) (o .last) p) (c ∙ rw (a, b))
+pub placed-left : (w : CbrWriter) (headers : List ℕ) (k : PictureKind) (layer : List ℕ) (last : Bool) (p : Placement) {f : PictureFacts} {b c : VbvCadence} {r : CbrOffered}
+    → f ≡ factsIn layer → b ≡ cadenceAt w headers → c ≡ after b f → r ≡ placedBy w k (length layer) last p c
+    → r ≡ placedBy w k (length layer) last p (after (cadenceAt w headers) (factsIn layer))
+placed-left w headers k layer last p a b c e = e ∙ ap (placedBy w k (length layer) last p) (c ∙ rw (a, b))
 
 unfoldable answerTo : CbrWriter → Offer → Tested → CbrOffered
 answerTo w o (Refused e) = refusedInCode w e

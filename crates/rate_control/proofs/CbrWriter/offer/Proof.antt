@@ -75,7 +75,7 @@ returns-4 c =
     let p = o .before .before .before .before in
     let t = p .before .before in
     offer-placed _ _ _ (tested-by _ _ (t .before .before .before .layer-facts .ensures) (t .before .before .cadence-at .ensures) (t .before .interval .ensures) (t .tested .ensures)) _ _ (p .placement .given .1) _ (omega arith)
-    (placed-left _ _ _ (t .before .before .before .layer-facts .ensures) (t .before .before .cadence-at .ensures) (c .before .after .ensures) (c .placed .ensures)) (o .put-placed .ensures)
+    (placed-left _ _ _ _ _ _ (t .before .before .before .layer-facts .ensures) (t .before .before .cadence-at .ensures) (c .before .after .ensures) (c .placed .ensures)) (o .put-placed .ensures)
 
 pub offer-spec : {M : Type 1} → statement M
 offer-spec =
