@@ -1,24 +1,20 @@
 -- The words of a configuration: its mode, and its fields.
 -- Assumes nothing.
 use mathlib.Core.Path.{_≡_, refl}
-use mathlib.Core.Bool.{true, false}
 use mathlib.Core.List.{List}
 use Prim.Native.Nat.{ℕ}
-use borrow.Author.Tests.{eq-eqb, ne-eqb}
 use Rattle.words.specs.Words.{wordAt}
+use Rattle.layout.specs.Mode.{isMode, modeFor}
 use Rattle.layout.specs.Config.{modeFits, configIn}
 
 module _ (s : List ℕ) where
-  pub mode-fits : wordAt s 0 ≡ 2 → modeFits s ≡ true
+  pub mode-fits : modeFits s ≡ isMode (wordAt s 0)
   unfolding modeFits
-  mode-fits h = eq-eqb (wordAt s 0) 2 h
-
-  pub mode-unfit : (wordAt s 0 ≡ 2 → ⊥) → modeFits s ≡ false
-  unfolding modeFits
-  mode-unfit n = ne-eqb (wordAt s 0) 2 n
+  mode-fits = refl
 
   pub config-is : configIn s
       ≡ record {
+        mode = modeFor (wordAt s 0);
         «bit_rate_value» = wordAt s 1;
         «vbv_buffer_size_value» = wordAt s 2;
         «frame_rate_code» = wordAt s 3;

@@ -8,7 +8,9 @@ use Rattle.words.specs.Words.{wordsBytes, laid}
 use Rattle.headers.specs.Answers.{flagOf}
 use Rattle.rate_control.specs.declared.CbrWriter.{CbrWriter}
 use Rattle.rate_control.proofs.States.{Three, of-three, is-three}
-use Rattle.layout.specs.State.{pendingCode, pendingQuantiser, stateWords, stateBytes}
+use Rattle.pictures.specs.declared.VbvStandard.the-variants.{Mpeg2}
+use Rattle.layout.specs.Mode.{modeNumber}
+use Rattle.layout.specs.State.{pendingCode, pendingQuantiser, openCode, cadenceWords, stateWords, stateBytes}
 
 -- three values one by one
 three-then : {s : List ℕ} (t : List ℕ) → Three s → s ++ t ≡ getD s 0 0 ∷ getD s 1 0 ∷ getD s 2 0 ∷ t
@@ -16,6 +18,8 @@ three-then t (of-three a b c) = refl
 
 pub state-told : (place : List ℕ) (w : CbrWriter) (started code waits finished : ℕ) → length (w .«target_bits») ≡ 3 → length (w .q) ≡ 3
     → started ≡ flagOf (w .model .started) → code ≡ pendingCode (w .pending) → waits ≡ pendingQuantiser (w .pending) → finished ≡ flagOf (w .finished)
+    → (mode progressive low repeat top waiting : ℕ) → mode ≡ modeNumber (record { standard = Mpeg2; film = w .cadence .film }) → progressive ≡ flagOf (w .cadence .progressive)
+    → low ≡ flagOf (w .cadence .«low_delay») → repeat ≡ flagOf (w .cadence .repeat) → top ≡ flagOf (w .cadence .top) → waiting ≡ openCode (w .cadence .waiting)
     → (out : List ℕ)
     → out
     ≡ laid
@@ -39,9 +43,15 @@ pub state-told : (place : List ℕ) (w : CbrWriter) (started code waits finished
     ∷ waits
     ∷ w .«stuffing_bytes»
     ∷ finished
+    ∷ mode
+    ∷ progressive
+    ∷ low
+    ∷ repeat
+    ∷ top
+    ∷ waiting
     ∷ []))
     place
     → out ≡ laid (stateBytes w) place
-unfolding stateBytes stateWords
-state-told place w started code waits finished l m e f g h out z =
-    rw (three-then _ (is-three (w .«target_bits») l), three-then _ (is-three (w .q) m), ← e, ← f, ← g, ← h) z
+unfolding stateBytes stateWords cadenceWords
+state-told place w started code waits finished l m e f g h mode progressive low repeat top waiting a b c d i j out z =
+    rw (three-then _ (is-three (w .«target_bits») l), three-then _ (is-three (w .q) m), ← e, ← f, ← g, ← h, ← a, ← b, ← c, ← d, ← i, ← j) z

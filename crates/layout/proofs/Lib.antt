@@ -1,3 +1,5 @@
+pub mod Modes
+pub mod Cadences
 pub mod Laying
 pub mod Reading
 pub mod Ranges

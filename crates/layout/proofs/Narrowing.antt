@@ -1,6 +1,6 @@
 -- A configuration in fields of few bits: creation answers to it as to the values themselves.
 -- Assumes nothing.
-use mathlib.Core.Path.{_≡_, ap, _∙_}
+use mathlib.Core.Path.{_≡_, refl, ap, _∙_}
 use Prim.Native.Nat.{ℕ, _≤_, _<_}
 use native.Mathlib.Omega.{arith}
 use native.Mathlib.Decide.{decLt}
@@ -50,6 +50,7 @@ module _ (c : CbrConfig) where
       let between = inside 15 16 (c .«b_between») (r .between-high) in
       let anchors = inside 255 0 (c .«anchors_per_gop») (r .anchors-high) in
       record {
+        mode-written = r .mode-written;
         rate-low = rw rate (r .rate-low);
         rate-high = rw rate (r .rate-high);
         buffer-low = rw buffer (r .buffer-low);
@@ -65,6 +66,7 @@ module _ (c : CbrConfig) where
 
   -- the fields but the code, where the narrow ones are in their ranges
   record Kept : Type 0 where
+    mode : narrowed c .mode ≡ c .mode
     rate : narrowed c .«bit_rate_value» ≡ c .«bit_rate_value»
     buffer : narrowed c .«vbv_buffer_size_value» ≡ c .«vbv_buffer_size_value»
     n : narrowed c .«frame_rate_extension_n» ≡ c .«frame_rate_extension_n»
@@ -76,6 +78,7 @@ module _ (c : CbrConfig) where
   kept : Ranges (narrowed c) → Kept
   unfolding narrowed
   kept r = record {
+    mode = refl;
     rate = back 1 262143 0 _ (λ l h. omega arith) (r .rate-low) (r .rate-high);
     buffer = back 1 1023 0 _ (λ l h. omega arith) (r .buffer-low) (r .buffer-high);
     n = back 0 3 4 _ (λ l h. omega arith) (omega arith) (r .n-high);
@@ -89,6 +92,7 @@ module _ (c : CbrConfig) where
   widened r =
       let k = kept r in
       record {
+        mode-written = rw (← k .mode) (r .mode-written);
         rate-low = rw (← k .rate) (r .rate-low);
         rate-high = rw (← k .rate) (r .rate-high);
         buffer-low = rw (← k .buffer) (r .buffer-low);

@@ -19,7 +19,8 @@ use Rattle.vbv.proofs.Fitting.{model-fits}
 use Rattle.rate_control.proofs.Fitting.{all-fit-at, quantiser-is, writer-fits}
 use Rattle.rate_control.proofs.States.{pending-some}
 use Rattle.layout.specs.State.{pendingCode, pendingQuantiser, stateWords}
-use Rattle.words.proofs.Bytes.{AllWords, none, some, each-small, small-append}
+use Rattle.words.proofs.Bytes.{AllWords, some, each-small, small-append}
+use Rattle.layout.proofs.Cadences.{cadence-small}
 
 pub code-low : (p : Pending) → pendingCode p ≤ 3
 unfolding pendingCode
@@ -63,4 +64,4 @@ state-small w h =
     (small-more (omega (arith, code-low (w .pending)))
     (small-more (omega (arith, quantiser-low (w .pending) (f .pending)))
     (small-more (omega (arith, f .stuffed, m .end-high))
-    (small-more (omega (arith, flag-bound (w .finished))) none))))))))))))))
+    (small-more (omega (arith, flag-bound (w .finished))) (cadence-small (w .cadence))))))))))))))))

@@ -20,8 +20,9 @@ use Rattle.rate_control.specs.declared.Pending.the-variants.{Waits}
 use Rattle.rate_control.specs.declared.CbrWriter.{CbrWriter}
 use Rattle.rate_control.proofs.Fitting.{all-fit-at, quantiser-is, writer-fits}
 use Rattle.rate_control.proofs.States.{pending-some}
+use Rattle.cadence.specs.declared.VbvCadence.{VbvCadence}
 use Rattle.words.specs.Words.{wordAt}
-use Rattle.layout.specs.State.{stateSize, codesFit, pendingOf, writerAt, stateFits, stateAt}
+use Rattle.layout.specs.State.{stateSize, cadenceCodesFit, codesFit, pendingOf, cadenceIn, writerAt, stateFits, stateAt}
 use Rattle.layout.specs.Steps.{Narrow, narrow}
 use Rattle.layout.specs.declared.CbrState.{CbrState}
 use Rattle.layout.proofs.RoundTrip.{state-fits}
@@ -60,14 +61,14 @@ module _ (s : List ℕ) where
   unfolding writerAt
   model-told a b c d e f g h i a′ b′ c′ d′ e′ f′ g′ h′ i′ = rw (a′, b′, c′, d′, e′, f′, g′, h′, i′)
 
-  pub narrow-told : (started code waits i p b finished : ℕ) → started ≡ wordAt s 8 → code ≡ wordAt s 15 → waits ≡ wordAt s 16
-      → i ≡ wordAt s 12 → p ≡ wordAt s 13 → b ≡ wordAt s 14 → finished ≡ wordAt s 18
-      → ((leb started 1 && (leb code 3 && ((not (eqb code 0) || eqb waits 0) && leb finished 1)))
+  pub narrow-told : (started code waits i p b finished : ℕ) (k : Bool) → started ≡ wordAt s 8 → code ≡ wordAt s 15 → waits ≡ wordAt s 16
+      → i ≡ wordAt s 12 → p ≡ wordAt s 13 → b ≡ wordAt s 14 → finished ≡ wordAt s 18 → k ≡ cadenceCodesFit s
+      → ((leb started 1 && (leb code 3 && ((not (eqb code 0) || eqb waits 0) && (leb finished 1 && k))))
       && ((leb i 31 && (leb p 31 && leb b 31)) && leb waits 31))
       ≡ narrow s
   unfolding narrow codesFit
-  narrow-told started code waits i p b finished e f g h j k l =
-      rw (e, f, g, h, j, k, l, or-pick (eqb (wordAt s 15) 0) (eqb (wordAt s 16) 0))
+  narrow-told started code waits i p b finished k e f g h j m l n =
+      rw (e, f, g, h, j, m, l, n, or-pick (eqb (wordAt s 15) 0) (eqb (wordAt s 16) 0))
 
   narrow-is : narrow s ≡ true → (codesFit s ≡ true) × Narrow s
   unfolding narrow
@@ -85,15 +86,15 @@ module _ (s : List ℕ) where
   unfolding narrow
   is-narrow h n = simp (h, le-leb _ _ (n .i), le-leb _ _ (n .p), le-leb _ _ (n .b), le-leb _ _ (n .waits))
 
-  pub writer-told : (m : VbvCbrModel) (a b c i p q code waits n f : ℕ) (x : Pending) → m ≡ writerAt s .model
+  pub writer-told : (m : VbvCbrModel) (a b c i p q code waits n f : ℕ) (x : Pending) (k : VbvCadence) → m ≡ writerAt s .model
       → a ≡ wordAt s 9 → b ≡ wordAt s 10 → c ≡ wordAt s 11 → i ≡ wordAt s 12 → p ≡ wordAt s 13 → q ≡ wordAt s 14
-      → code ≡ wordAt s 15 → waits ≡ wordAt s 16 → x ≡ pendingOf code waits → n ≡ wordAt s 17 → f ≡ wordAt s 18
+      → code ≡ wordAt s 15 → waits ≡ wordAt s 16 → x ≡ pendingOf code waits → n ≡ wordAt s 17 → f ≡ wordAt s 18 → k ≡ cadenceIn s
       → _≡_ {A = CbrWriter}
-      (record { model = m; «target_bits» = a ∷ b ∷ c ∷ []; q = i ∷ p ∷ q ∷ []; pending = x; «stuffing_bytes» = n; finished = eqb f 1 })
+      (record { model = m; «target_bits» = a ∷ b ∷ c ∷ []; q = i ∷ p ∷ q ∷ []; pending = x; «stuffing_bytes» = n; finished = eqb f 1; cadence = k })
       (writerAt s)
   unfolding writerAt
-  writer-told m a b c i p q code waits n f x m′ a′ b′ c′ i′ p′ q′ code′ waits′ x′ n′ f′ =
-      rw (m′, a′, b′, c′, i′, p′, q′, x′, code′, waits′, n′, f′)
+  writer-told m a b c i p q code waits n f x k m′ a′ b′ c′ i′ p′ q′ code′ waits′ x′ n′ f′ k′ =
+      rw (m′, a′, b′, c′, i′, p′, q′, x′, code′, waits′, n′, f′, k′)
 
   -- so has a writer in its ranges
   fits-narrow : codesFit s ≡ true → writerFits (writerAt s) ≡ true → Narrow s

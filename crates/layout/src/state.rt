@@ -74,10 +74,13 @@ fn mode_word(film: bool) -> u64
 pub fn put_state(place: &mut [u8], writer: CbrWriter)
     ensures { λ r. ⌜ now (place .exit) ≡ laid (stateBytes writer) (now (place .entry)) ⌝ }
 {
+    let q = writer.q;
+    let i = q[0] as u64;
+    let p = q[1] as u64;
+    let b = q[2] as u64;
     let model = writer.model;
     let params = model.params;
     let target_bits = writer.target_bits;
-    let q = writer.q;
     let pending = writer.pending;
     let cadence = writer.cadence;
     let waiting = cadence.waiting;
@@ -94,9 +97,9 @@ pub fn put_state(place: &mut [u8], writer: CbrWriter)
         target_bits[0],
         target_bits[1],
         target_bits[2],
-        q[0] as u64,
-        q[1] as u64,
-        q[2] as u64,
+        i,
+        p,
+        b,
         pending_code(pending),
         pending_quantiser(pending),
         writer.stuffing_bytes,

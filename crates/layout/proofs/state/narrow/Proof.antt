@@ -15,6 +15,9 @@ word-at-requires-3 c κs = search needs
 word-at-requires-4 : tie.Need-word-at-requires-4
 word-at-requires-4 c κs = search needs
 
+cadence-fits-requires : tie.Need-cadence-fits-requires
+cadence-fits-requires c κs = search needs
+
 word-at-requires-5 : tie.Need-word-at-requires-5
 word-at-requires-5 c κs = search needs
 
@@ -35,6 +38,7 @@ narrow-spec =
     word-at-requires-2
     word-at-requires-3
     word-at-requires-4
+    cadence-fits-requires
     word-at-requires-5
     word-at-requires-6
     word-at-requires-7

@@ -52,6 +52,9 @@ word-at-requires-9 c κs = search needs
 word-at-requires-10 : tie.Need-word-at-requires-10
 word-at-requires-10 c κs = search needs
 
+cadence-at-requires : tie.Need-cadence-at-requires
+cadence-at-requires c κs = search needs
+
 returns : tie.Need-returns
 returns c = search (needs, writer-told)
 
@@ -75,4 +78,5 @@ writer-at-spec =
     pending-at-requires
     word-at-requires-9
     word-at-requires-10
+    cadence-at-requires
     returns)
