@@ -287,6 +287,24 @@ impl Run {
         self.withdraw("on a damaged state that fits", writer.as_mut(), &mut copy);
     }
 
+    /// An offer of a list, in half of the cases after one with something about it that is out of range.
+    fn listed(&mut self, w: &mut Writer, state: &mut Vec<u8>, o: &Offer, part: usize) -> (Left, u64) {
+        let n = CBR_ANSWER_BYTES + self.d.below(3) * self.d.below(16);
+        let c = Offering {
+            headers: &o.headers,
+            kind: o.kind as u8,
+            interval: [CBR_FRAME, CBR_FIELD, 3, 4, 6][usize::from(o.interval)],
+            last: o.last.into(),
+            layer: &o.layer,
+            out: pattern(part),
+            answer: self.d.bytes(n),
+        };
+        if self.d.one_in(2) {
+            self.odd_offer(state, &c);
+        }
+        self.offer(OFFERS, Some(w), state, &c)
+    }
+
     /// One list: creation, each call on what the one before left, and the check of what was handed out.
     pub fn list(&mut self, input: &[u8]) {
         let Some((mut w, mut state)) = self.create(configured(input)) else { return };
@@ -308,20 +326,7 @@ impl Run {
                     self.withdraw(why, Some(&mut w), &mut state);
                 }
                 Call::Offer(o) => {
-                    let n = CBR_ANSWER_BYTES + self.d.below(3) * self.d.below(16);
-                    let c = Offering {
-                        headers: &o.headers,
-                        kind: o.kind as u8,
-                        interval: [CBR_FRAME, CBR_FIELD, 3, 4, 6][usize::from(o.interval)],
-                        last: o.last.into(),
-                        layer: &o.layer,
-                        out: pattern(part),
-                        answer: self.d.bytes(n),
-                    };
-                    if self.d.one_in(2) {
-                        self.odd_offer(&state, &c);
-                    }
-                    let (mut left, periods) = self.offer(OFFERS, Some(&mut w), &mut state, &c);
+                    let (mut left, periods) = self.listed(&mut w, &mut state, &o, part);
                     sent.offered(&mut left, periods);
                 }
                 Call::Check(mode, stream) => {
