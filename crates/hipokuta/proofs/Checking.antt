@@ -2,11 +2,10 @@
 -- Assumes nothing.
 use mathlib.Core.Path.{_≡_, refl, ap, subst, _∙_}
 use Prim.Native.Nat.{ℕ, _/_}
-use mathlib.Core.Bool.{true, false, _||_}
+use mathlib.Core.Bool.{Bool, true, false, _||_}
 use mathlib.Core.List.{List}
 use lib.Dec.{ltb}
 use lib.ListN.{length}
-use borrow.Author.Tests.{ne-eqb}
 use Rattle.bits.specs.Bits.{pick}
 use Rattle.bits.specs.Answers.{over}
 use Rattle.bits.specs.Refusals.{Answer, value, refused, number}
@@ -16,7 +15,8 @@ use Rattle.verify.specs.Answers.{refusalOf, verifiedAnswer}
 use Rattle.verify.specs.Check.{Accepted, reported, verdict, records}
 use Rattle.verify.proofs.Storing.{no-records}
 use Rattle.verify.specs.Layout.{recordSize, recordsBytes}
-use Rattle.pictures.specs.declared.VbvStandard.the-variants.{Mpeg1, Mpeg2}
+use Rattle.verify.specs.declared.VbvMode.{VbvMode}
+use Rattle.layout.specs.Mode.{isMode, modeFor}
 use Rattle.verify.specs.declared.VbvVerified.{VbvVerified}
 use Rattle.verify.specs.declared.VbvVerified.the-variants.{Report, Refused}
 use Rattle.verify.specs.declared.VbvVerifyError.{VbvVerifyError}
@@ -50,7 +50,7 @@ reported-refused p f k e m w = (m ∙ ap (λ x. x .number) e, (refl, w ∙ ap (�
 
 -- ---- the four promises, of what was lent (report, records, refusal) and what is handed back
 
-module _ (s : List ℕ) (standard : ℕ) (p q f : List ℕ) where
+module _ (s : List ℕ) (mode : ℕ) (p q f : List ℕ) where
   abbrev Leaves : Answer Accepted → ℕ → List ℕ → List ℕ → List ℕ → Type 0
   Leaves c n p' q' f' = (n ≡ number c) × ((p' ≡ reportAfter (reported c) p) × ((q' ≡ recordsAfter c q) × (f' ≡ refusalAfter c f)))
 
@@ -68,23 +68,18 @@ module _ (s : List ℕ) (standard : ℕ) (p q f : List ℕ) where
   -- ---- the ways of the chain
 
   pub no-place : {r : VbvRefusal} {n : ℕ} {f' : List ℕ} → (ltb (length f) refusalSize || ltb (length p) reportSize) ≡ true
-      → r ≡ plain 19 → n ≡ r .number → f' ≡ laid (wordsBytes (refusalWords r)) f → Leaves (checked s standard p q f) n p q f'
+      → r ≡ plain 19 → n ≡ r .number → f' ≡ laid (wordsBytes (refusalWords r)) f → Leaves (checked s mode p q f) n p q f'
   unfolding checked pick
   no-place h e n w = rw h (leaves-refused 19 e n w)
 
   module _ (h : (ltb (length f) refusalSize || ltb (length p) reportSize) ≡ false) where
-    pub no-standard : {r : VbvRefusal} {n : ℕ} {f' : List ℕ} → (standard ≡ 1 → ⊥) → (standard ≡ 2 → ⊥)
-        → r ≡ plain 12 → n ≡ r .number → f' ≡ laid (wordsBytes (refusalWords r)) f → Leaves (checked s standard p q f) n p q f'
+    pub no-mode : {b : Bool} {r : VbvRefusal} {n : ℕ} {f' : List ℕ} → b ≡ isMode mode → b ≡ false
+        → r ≡ plain 12 → n ≡ r .number → f' ≡ laid (wordsBytes (refusalWords r)) f → Leaves (checked s mode p q f) n p q f'
     unfolding checked pick
-    no-standard a b e n w = rw (h, ne-eqb standard 1 a, ne-eqb standard 2 b) (leaves-refused 12 e n w)
+    no-mode a b e n w = rw (h, ← a, b) (leaves-refused 12 e n w)
 
-    module _ (a : Answer VbvStreamReport) {n : ℕ} {p' q' f' : List ℕ} (t : Reported p f a n p' f') where
-      pub mpeg1 : standard ≡ 1 → a ≡ reported (verdict Mpeg1 s (length q / recordSize)) → q' ≡ over (recordsBytes (records (verdict Mpeg1 s (length q / recordSize)))) q
-          → Leaves (checked s standard p q f) n p' q' f'
-      unfolding checked pick
-      mpeg1 e b w = rw (h, e) (leaves-verdict (verdict Mpeg1 s (length q / recordSize)) w (subst (λ x. Reported p f x n p' f') b t))
-
-      pub mpeg2 : standard ≡ 2 → a ≡ reported (verdict Mpeg2 s (length q / recordSize)) → q' ≡ over (recordsBytes (records (verdict Mpeg2 s (length q / recordSize)))) q
-          → Leaves (checked s standard p q f) n p' q' f'
-      unfolding checked pick
-      mpeg2 e b w = rw (h, e) (leaves-verdict (verdict Mpeg2 s (length q / recordSize)) w (subst (λ x. Reported p f x n p' f') b t))
+    pub in-mode : (a : Answer VbvStreamReport) (m : VbvMode) {b : Bool} {n : ℕ} {p' q' f' : List ℕ} → Reported p f a n p' f' → b ≡ isMode mode → b ≡ true → m ≡ modeFor mode
+        → a ≡ reported (verdict m s (length q / recordSize)) → q' ≡ over (recordsBytes (records (verdict m s (length q / recordSize)))) q
+        → Leaves (checked s mode p q f) n p' q' f'
+    unfolding checked pick
+    in-mode a m {n = n} {p' = p'} {f' = f'} t c d e b w = rw (h, ← c, d, ← e) (leaves-verdict (verdict m s (length q / recordSize)) w (subst (λ x. Reported p f x n p' f') b t))

@@ -24,10 +24,17 @@ use Rattle.rate_control.proofs.Keeping.{Whole, created-whole, left-whole, final
 use Rattle.bits.proofs.Numbering.{refused-low}
 use Rattle.rate_control.proofs.Refusing.{writer-numbers}
 use Rattle.layout.specs.State.{stateSize, stateBytes, stateFits, writerAt}
-use Rattle.layout.specs.Config.{configSize, modeFits, configIn}
+use Rattle.layout.specs.Config.{configSize, hasMode, configIn}
 use Rattle.words.specs.Words.{wordsBytes, wordAt, laid}
 use Rattle.words.proofs.Bytes.{each-small, length-words, word-put}
-use Rattle.layout.proofs.Configured.{mode-unfit, config-is}
+use Rattle.layout.specs.Mode.{modeNumber, isMode, modeFor}
+use Rattle.layout.proofs.Modes.{modes-numbered, no-other, for-one, Numbered, one, two, six, one-of}
+use Rattle.layout.proofs.Configured.{mode-fits, config-is}
+use Rattle.pictures.specs.declared.VbvStandard.the-variants.{Mpeg1, Mpeg2}
+use Rattle.verify.specs.Mode.{modeFits}
+use Rattle.verify.proofs.Modes.{unfit-mode}
+use Rattle.rate_control.specs.Due.{bad-range}
+use Rattle.rate_control.proofs.Creating.{creation-only}
 use Rattle.layout.proofs.RoundTrip.{read-put, length-state}
 use Rattle.words.proofs.Laying.{laid-laid}
 use Rattle.hipokuta.specs.Send.{stateAfter, createIn, createWith, COffer, choicesFit, offerOf, reach, offerIn, offerState, offerOut, offerPlace, withdrawIn}
@@ -180,10 +187,13 @@ read-words c more b k h = word-put (each-small (configWords c) (λ j g. b j)) mo
 words-long : (c : CbrConfig) (more : List ℕ) → configSize ≤ length (wordsBytes (configWords c) ++ more)
 words-long c more = omega (arith, length-append (wordsBytes (configWords c)) more, length-words (configWords c))
 
-config-read-back : (c : CbrConfig) (more : List ℕ) → ((k : ℕ) → getD (configWords c) k 0 < 2 ^ 64) → configIn (wordsBytes (configWords c) ++ more) ≡ c
-config-read-back c more b =
+config-read-back : (c : CbrConfig) (more : List ℕ) → ((k : ℕ) → getD (configWords c) k 0 < 2 ^ 64) → modeFor (modeNumber (c .mode)) ≡ c .mode
+    → configIn (wordsBytes (configWords c) ++ more) ≡ c
+config-read-back c more b f =
     rw (
       config-is (wordsBytes (configWords c) ++ more),
+      read-words c more b 0 (omega arith),
+      f,
       read-words c more b 1 (omega arith),
       read-words c more b 2 (omega arith),
       read-words c more b 3 (omega arith),
@@ -194,27 +204,58 @@ config-read-back c more b =
       read-words c more b 8 (omega arith),
     )
 
+-- MPEG-1 is not written: 12 among the ranges
+unwritten : (c : CbrConfig) (place : List ℕ) → stateSize ≤ length place → c .mode .standard ≡ Mpeg1 → createIn c place ≡ refused 12 0 0 0
+unfolding createIn pick
+unwritten c place l e = rw (le-ltb (length place) stateSize l) (sym (creation-only c (refused 12 0 0 0) (bad-range (λ r. clash-of (sym e ∙ r .mode-written)))))
+  where
+    clash-of : Mpeg1 ≡ Mpeg2 → ⊥
+    clash-of z = let y : _≡_ {A = ℕ} 0 1 = cc in omega arith
+
+no-such-mode : (config place : List ℕ) → configSize ≤ length config → stateSize ≤ length place → isMode (wordAt config 0) ≡ false → createWith config place ≡ refused 12 0 0 0
+unfolding createWith pick
+no-such-mode config place l h n = rw (le-ltb (length config) configSize l, le-ltb (length place) stateSize h, mode-fits config, n)
+
 as-create : (c : CbrConfig) (more place : List ℕ) → ((k : ℕ) → getD (configWords c) k 0 < 2 ^ 64)
     → createWith (wordsBytes (configWords c) ++ more) place ≡ createIn c place
-as-create c more place b = go (decLt (length place) stateSize)
+as-create c more place b = go (decLt (length place) stateSize) (modeFits (c .mode)) refl
   where
-    go : Dec (length place < stateSize) → createWith (wordsBytes (configWords c) ++ more) place ≡ createIn c place
-    go (yes h) = no-room-with _ place (words-long c more) h ∙ sym (no-room c place h)
-    go (no h) = with-mode _ place (words-long c more) (omega (arith, h)) _ refl (read-words c more b 0 (omega arith)) ∙ ap (λ (x : CbrConfig). createIn x place) (config-read-back c more b)
+    word : wordAt (wordsBytes (configWords c) ++ more) 0 ≡ modeNumber (c .mode)
+    word = read-words c more b 0 (omega arith)
 
-another-mode : (config place : List ℕ) → configSize ≤ length config → stateSize ≤ length place → (wordAt config 0 ≡ 2 → ⊥) → createWith config place ≡ refused 12 0 0 0
-unfolding createWith pick
-another-mode config place l h n = rw (le-ltb (length config) configSize l, le-ltb (length place) stateSize h, mode-unfit config n)
+    go : Dec (length place < stateSize) → (t : Bool) → modeFits (c .mode) ≡ t → createWith (wordsBytes (configWords c) ++ more) place ≡ createIn c place
+    go (yes h) t e = no-room-with _ place (words-long c more) h ∙ sym (no-room c place h)
+    go (no h) true e =
+        let m = modes-numbered .has-number (c .mode) e in
+        with-mode _ place (words-long c more) (omega (arith, h)) _ refl (rw word (m .0)) ∙ ap (λ (x : CbrConfig). createIn x place) (config-read-back c more b (m .1))
+    go (no h) false e =
+        let u = unfit-mode (c .mode) e in
+        let five : modeNumber (c .mode) ≡ 5 = rw (u .0, u .1) in
+        no-such-mode _ place (words-long c more) (omega (arith, h)) (rw (word, five) (no-other 5 (λ z. omega arith) (λ z. omega arith) (λ z. omega arith)))
+        ∙ sym (unwritten c place (omega (arith, h)) (u .0))
+
+another-mode : (config place : List ℕ) → configSize ≤ length config → stateSize ≤ length place → (wordAt config 0 ≡ 2 → ⊥) → (wordAt config 0 ≡ 6 → ⊥)
+    → createWith config place ≡ refused 12 0 0 0
+another-mode config place l h a b = go (isMode (wordAt config 0)) refl
+  where
+    mode-is : (n : ℕ) → wordAt config 0 ≡ n → Numbered n → configIn config .mode .standard ≡ Mpeg1
+    mode-is n e one = rw (config-is config, e, for-one)
+    mode-is n e two = absurd (a e)
+    mode-is n e six = absurd (b e)
+
+    go : (t : Bool) → isMode (wordAt config 0) ≡ t → createWith config place ≡ refused 12 0 0 0
+    go true e = with-mode config place l h _ refl e ∙ unwritten (configIn config) place h (mode-is (wordAt config 0) refl (one-of (wordAt config 0) e))
+    go false e = no-such-mode config place l h e
 
 pub config-read : ConfigRead
 config-read = record { as-create = as-create; too-short = too-short; no-place = no-room-with; other-mode = another-mode }
 
--- 0 says that the bytes are long enough, that there is room, and that the mode is 2
+-- 0 says that the bytes are long enough, that there is room, and that there is the mode
 pub from-config : OwedFromConfig
 unfolding createWith createIn pick
-from-config config place n = go (ltb (length config) configSize) (ltb (length place) stateSize) (modeFits config) refl refl refl n
+from-config config place n = go (ltb (length config) configSize) (ltb (length place) stateSize) (hasMode config) refl refl refl n
   where
-    go : (a b m : Bool) → ltb (length config) configSize ≡ a → ltb (length place) stateSize ≡ b → modeFits config ≡ m
+    go : (a b m : Bool) → ltb (length config) configSize ≡ a → ltb (length place) stateSize ≡ b → hasMode config ≡ m
         → number (pick a (refused 12 0 0 0) (pick b (refused 19 0 0 0) (pick (not m) (refused 12 0 0 0) (create (configIn config))))) ≡ 0 → FromConfig config place
     go true b m e f g h = absurd (omega arith)
     go false true m e f g h = absurd (omega arith)

@@ -10,7 +10,7 @@ use Rattle.bits.proofs.Flags.{pick-elim}
 use Rattle.bits.proofs.Numbering.{and-then, wider}
 use Rattle.vbv.proofs.Numbering.{model-numbers}
 use Rattle.verify.specs.Check.{Accepted}
-use Rattle.pictures.specs.declared.VbvStandard.the-variants.{Mpeg1, Mpeg2}
+use Rattle.layout.specs.Mode.{modeFor}
 use Rattle.verify.proofs.Numbering.{check-numbers, enough-numbers}
 use Rattle.rate_control.specs.declared.CbrConfig.{CbrConfig}
 use Rattle.rate_control.proofs.Refusing.{writer-numbers}
@@ -22,24 +22,22 @@ use Rattle.hipokuta.specs.Numbers.{EntryNumbers}
 abbrev Checks : Answer Accepted → Type 0
 Checks a = Numbered (19 ∷ 12 ∷ 14 ∷ 3 ∷ 1 ∷ 2 ∷ 6 ∷ 4 ∷ 5 ∷ 15 ∷ 7 ∷ 8 ∷ []) [] (11 ∷ 9 ∷ 10 ∷ []) a
 
-vbv-check-numbered : (s : List ℕ) (standard : ℕ) (report recs refusal : List ℕ) → Checks (checked s standard report recs refusal)
+vbv-check-numbered : (s : List ℕ) (mode : ℕ) (report recs refusal : List ℕ) → Checks (checked s mode report recs refusal)
 unfolding checked
-vbv-check-numbered s standard report recs refusal =
+vbv-check-numbered s mode report recs refusal =
     pick-elim Checks _ (λ e. by-number refl) λ e.
-    pick-elim Checks _ (λ e. wider refl refl refl (check-numbers Mpeg1 s _)) λ e.
-    pick-elim Checks _ (λ e. wider refl refl refl (check-numbers Mpeg2 s _)) λ e.
-    by-number refl
+    pick-elim Checks _ (λ e. by-number refl) λ e.
+    wider refl refl refl (check-numbers (modeFor mode) s _)
 
 abbrev Reports : {X : Type 0} → Answer X → Type 0
 Reports a = Numbered (19 ∷ 12 ∷ 14 ∷ 3 ∷ 1 ∷ 2 ∷ 6 ∷ 4 ∷ 5 ∷ 7 ∷ 8 ∷ []) [] (11 ∷ 9 ∷ 10 ∷ []) a
 
-vbv-report-numbered : (s : List ℕ) (standard : ℕ) (report refusal : List ℕ) → Reports (reportAlone s standard report refusal)
+vbv-report-numbered : (s : List ℕ) (mode : ℕ) (report refusal : List ℕ) → Reports (reportAlone s mode report refusal)
 unfolding reportAlone
-vbv-report-numbered s standard report refusal =
+vbv-report-numbered s mode report refusal =
     pick-elim Reports _ (λ e. by-number refl) λ e.
-    pick-elim Reports _ (λ e. and-then _ (wider refl refl refl (enough-numbers Mpeg1 s _ (omega arith))) λ a. a-value) λ e.
-    pick-elim Reports _ (λ e. and-then _ (wider refl refl refl (enough-numbers Mpeg2 s _ (omega arith))) λ a. a-value) λ e.
-    by-number refl
+    pick-elim Reports _ (λ e. by-number refl) λ e.
+    and-then _ (wider refl refl refl (enough-numbers (modeFor mode) s _ (omega arith))) λ a. a-value
 
 cbr-create-numbered : (c : CbrConfig) (place : List ℕ) → Numbered (19 ∷ 12 ∷ 6 ∷ []) [] [] (createIn c place)
 unfolding createIn

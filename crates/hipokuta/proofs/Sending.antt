@@ -34,7 +34,8 @@ use Rattle.layout.specs.State.{stateSize, stateBytes, writerAt, stateAt}
 use Rattle.words.specs.Words.{wordsBytes, laid, wordAt}
 use Rattle.layout.specs.declared.CbrState.{CbrState}
 use Rattle.layout.proofs.Answering.{length-refused-answer}
-use Rattle.layout.proofs.Configured.{mode-fits, mode-unfit}
+use Rattle.layout.specs.Mode.{isMode}
+use Rattle.layout.proofs.Configured.{mode-fits}
 use Rattle.layout.proofs.Held.{holds, holds-none}
 use Rattle.layout.proofs.RoundTrip.{state-fits}
 use Rattle.words.proofs.Laying.{laid-short}
@@ -80,17 +81,17 @@ module _ (config place : List ℕ) where
     unfolding createWith stateAfter pick
     no-place-with h = rw (le-ltb (length config) configSize long, lt-ltb (length place) stateSize h) (refl, refl)
 
-    module _ (room : stateSize ≤ length place) (mode : ℕ) (m : mode ≡ wordAt config 0) where
-      pub other-mode : (mode ≡ 2 → ⊥) → CreatesWith 12 place
+    module _ (room : stateSize ≤ length place) (b : Bool) (m : b ≡ isMode (wordAt config 0)) where
+      pub other-mode : b ≡ false → CreatesWith 12 place
       unfolding createWith stateAfter pick
-      other-mode n = rw (le-ltb (length config) configSize long, le-ltb (length place) stateSize room, mode-unfit config (λ e. n (m ∙ e))) (refl, refl)
+      other-mode n = rw (le-ltb (length config) configSize long, le-ltb (length place) stateSize room, mode-fits config, ← m, n) (refl, refl)
 
-      -- with room and mode 2 it is the creation with what the bytes hold
-      pub with-mode : mode ≡ 2 → createWith config place ≡ createIn (configIn config) place
+      -- with room and a mode it is the creation with what the bytes hold
+      pub with-mode : b ≡ true → createWith config place ≡ createIn (configIn config) place
       unfolding createWith createIn pick
-      with-mode h = rw (le-ltb (length config) configSize long, le-ltb (length place) stateSize room, mode-fits config (sym m ∙ h))
+      with-mode h = rw (le-ltb (length config) configSize long, le-ltb (length place) stateSize room, mode-fits config, ← m, h)
 
-      pub created-with : mode ≡ 2 → (r : CbrCreated) → createdAnswer r ≡ create (configIn config) → (n : ℕ) (after : List ℕ) → Puts r place n after
+      pub created-with : b ≡ true → (r : CbrCreated) → createdAnswer r ≡ create (configIn config) → (n : ℕ) (after : List ℕ) → Puts r place n after
           → CreatesWith n after
       created-with h r e n after t = rw (with-mode h) (created-in (configIn config) place room r e n after t)
 

@@ -20,7 +20,7 @@ use Rattle.rate_control.specs.Offer.{Offer, offer, left, outAfter, withdraw}
 use Rattle.rate_control.specs.declared.CbrConfig.{CbrConfig}
 use Rattle.rate_control.specs.declared.CbrWriter.{CbrWriter}
 use Rattle.words.specs.Words.{wordsBytes, laid}
-use Rattle.layout.specs.Config.{configSize, modeFits, configIn}
+use Rattle.layout.specs.Config.{configSize, hasMode, configIn}
 use Rattle.layout.specs.State.{stateSize, stateBytes, stateFits, writerAt}
 use Rattle.layout.specs.Answers.{answerSize, answerWords}
 use Rattle.hipokuta.specs.Lent.{Slice}
@@ -55,7 +55,7 @@ unfoldable pub createWith : List ℕ → List ℕ → Answer CbrWriter
 createWith config place =
     refuse 12 (ltb (length config) configSize)
     (refuse 19 (ltb (length place) stateSize)
-    (refuse 12 (not (modeFits config))
+    (refuse 12 (not (hasMode config))
     (create (configIn config))))
 
 -- ---- an offer

@@ -5,11 +5,11 @@ use mathlib.Core.List.{List}
 use Prim.Native.Nat.{ℕ}
 use Rattle.words.specs.Words.{wordAt}
 use Rattle.layout.specs.Mode.{isMode, modeFor}
-use Rattle.layout.specs.Config.{modeFits, configIn}
+use Rattle.layout.specs.Config.{hasMode, configIn}
 
 module _ (s : List ℕ) where
-  pub mode-fits : modeFits s ≡ isMode (wordAt s 0)
-  unfolding modeFits
+  pub mode-fits : hasMode s ≡ isMode (wordAt s 0)
+  unfolding hasMode
   mode-fits = refl
 
   pub config-is : configIn s

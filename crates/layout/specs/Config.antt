@@ -12,8 +12,8 @@ abbrev pub configSize : ℕ
 configSize = 72
 
 -- its mode is one (which of them are written, creation says)
-unfoldable pub modeFits : List ℕ → Bool
-modeFits s = isMode (wordAt s 0)
+unfoldable pub hasMode : List ℕ → Bool
+hasMode s = isMode (wordAt s 0)
 
 unfoldable pub configIn : List ℕ → CbrConfig
 configIn s = record {

@@ -1,4 +1,6 @@
 use native.Mathlib.Omega.{arith}
+use mathlib.Core.Path.{ap, _∙_}
+use Rattle.layout.specs.Mode.{isMode}
 use Rattle.hipokuta.proofs.Sending.{config-short, no-place-with, other-mode, created-with}
 use borrow.Author.Needs.{needs}
 use Rattle.hipokuta.proofs.send.cbr_create_config.Statement.{statement}
@@ -13,6 +15,9 @@ returns-2 c = no-place-with _ _ (omega arith) (omega arith)
 word-at-requires : tie.Need-word-at-requires
 word-at-requires c κs = search needs
 
+is-mode-requires : tie.Need-is-mode-requires
+is-mode-requires c κs = search needs
+
 create-from-requires : tie.Need-create-from-requires
 create-from-requires c κs = search needs
 
@@ -23,10 +28,10 @@ same-length : tie.Need-same-length
 same-length c = search needs
 
 returns-3 : tie.Need-returns-3
-returns-3 c = created-with _ _ (omega arith) (omega arith) _ (c .before .before .before .before .before .before .word-at .ensures) (c .before .before .before .before .before .if3 .taken) (c .before .before .before .create-from .result) (c .before .before .before .create-from .ensures .0) _ _ (c .before .before .put-created .ensures)
+returns-3 c = created-with _ _ (omega arith) (omega arith) _ (c .before .before .before .before .before .before .is-mode .ensures ∙ ap isMode (c .before .before .before .before .before .before .before .word-at .ensures)) (c .before .before .before .before .before .if3 .taken) (c .before .before .before .create-from .result) (c .before .before .before .create-from .ensures .0) _ _ (c .before .before .put-created .ensures)
 
 returns-4 : tie.Need-returns-4
-returns-4 c = other-mode _ _ (omega arith) (omega arith) _ (c .before .word-at .ensures) (c .if3 .left)
+returns-4 c = other-mode _ _ (omega arith) (omega arith) _ (c .before .is-mode .ensures ∙ ap isMode (c .before .before .word-at .ensures)) (c .if3 .left)
 
 pub cbr-create-config-spec : {M : Type 1} → statement M
 cbr-create-config-spec =
@@ -35,6 +40,7 @@ cbr-create-config-spec =
     returns
     returns-2
     word-at-requires
+    is-mode-requires
     create-from-requires
     put-created-requires
     same-length
