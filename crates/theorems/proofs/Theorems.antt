@@ -19,19 +19,27 @@ use Rattle.verify.proofs.Accepted.{accepted-exactly, nothing-cut}
 use Rattle.verify.proofs.Due.{check-due}
 use Rattle.verify.proofs.Numbering.{check-numbers}
 use Rattle.pictures.proofs.Order.{steps-give, seen-rising}
-use Rattle.pictures.proofs.Showing.{sequence-declares}
+use Rattle.pictures.proofs.Showing.{sequence-declares, picture-shows}
+use Rattle.pictures.proofs.Cadences.{sequence-opens}
+use Rattle.cadence.proofs.Table.{periods-table, leaves-table, worked}
+use Rattle.cadence.proofs.History.{by-history}
+use Rattle.cadence.proofs.Plain.{outside-film, without-flag}
 use Rattle.pictures.proofs.Due.{front-due}
 use Rattle.pictures.proofs.Numbering.{front-numbers}
 use Rattle.verify.proofs.Bounds.{records-small}
 use Rattle.verify.proofs.Periods.{periods-told}
 use Rattle.verify.proofs.Rates.{value-reports}
+use Rattle.verify.proofs.AsBefore.{plain-mode}
 use Rattle.layers.proofs.Declaring.{headers-declare}
+use Rattle.layers.proofs.Telling.{layer-tells}
 use Rattle.rate_control.proofs.Demand.{owed}
+use Rattle.rate_control.proofs.Lasting.{plain-writer}
+use Rattle.layout.proofs.Modes.{modes-numbered}
 use Rattle.rate_control.proofs.Refusing.{writer-numbers}
 use Rattle.rate_control.proofs.Figures.{writer-figures, target-figures, value-targets, rules, steering}
 use Rattle.hipokuta.proofs.FromC.{from-c, config-read, from-config}
 use Rattle.hipokuta.proofs.Refusals.{refusals}
-use Rattle.hipokuta.proofs.Places.{reports}
+use Rattle.hipokuta.proofs.Places.{reports, modes}
 use Rattle.hipokuta.proofs.Numbers.{numbers}
 use Rattle.theorems.specs.Theorems.{Theorems}
 
@@ -66,8 +74,16 @@ theorems = record {
   steps-give-pictures = steps-give;
   seen-rising = seen-rising;
   sequence-declares = sequence-declares;
+  sequence-opens = sequence-opens;
+  picture-shows = picture-shows;
   front-is-due = front-due;
   front-numbers = front-numbers;
+  film-periods = periods-table;
+  film-leaves = leaves-table;
+  film-worked = worked;
+  film-by-history = by-history;
+  outside-film = outside-film;
+  without-flag = without-flag;
   accepted-exactly = accepted-exactly;
   check-due = check-due;
   nothing-cut = nothing-cut;
@@ -75,13 +91,18 @@ theorems = record {
   periods-told = periods-told;
   records-small = records-small;
   value-reports = value-reports;
+  plain-mode = plain-mode;
   headers-declare = headers-declare;
+  layer-tells = layer-tells;
+  plain-writer = plain-writer;
   demand-3 = owed;
   writer-numbers = writer-numbers;
   from-c = from-c;
   config-read = config-read;
   from-config = from-config;
   refusals = refusals;
+  modes-numbered = modes-numbered;
+  modes = modes;
   reports = reports;
   entry-numbers = numbers;
   writer-figures = writer-figures;

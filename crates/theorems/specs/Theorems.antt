@@ -14,17 +14,24 @@ use Rattle.verify.specs.Accepted.{AcceptedExactly, NothingCut}
 use Rattle.verify.specs.Due.{CheckDue}
 use Rattle.verify.specs.Numbers.{CheckNumbers}
 use Rattle.pictures.specs.Order.{StepsGivePictures, SeenRising}
-use Rattle.pictures.specs.Due.{SequenceDeclares, FrontIsDue}
+use Rattle.pictures.specs.Due.{SequenceDeclares, SequenceOpens, PictureShows, FrontIsDue}
 use Rattle.pictures.specs.Numbers.{FrontNumbers}
+use Rattle.cadence.specs.Table.{Periods, Leaves, Worked}
+use Rattle.cadence.specs.History.{ByHistory}
+use Rattle.cadence.specs.Plain.{OutsideFilm, WithoutFlag}
 use Rattle.verify.specs.Periods.{PeriodsTold}
+use Rattle.verify.specs.Plain.{PlainMode}
 use Rattle.verify.specs.Rates.{ValueReports}
 use Rattle.verify.specs.Sizes.{RecordsSmall}
 use Rattle.layers.specs.Headers.{HeadersDeclare}
+use Rattle.layers.specs.Layer.{LayerTells}
 use Rattle.rate_control.specs.Demand.{Demand3}
+use Rattle.rate_control.specs.Plain.{PlainWriter}
+use Rattle.layout.specs.Mode.{ModesNumbered}
 use Rattle.rate_control.specs.Numbers.{WriterNumbers}
 use Rattle.rate_control.specs.Figures.{WriterFigures, TargetFigures, ValueTargets, Rules, Steering}
 use Rattle.hipokuta.specs.Calls.{OwedFromC, ConfigRead, OwedFromConfig, OwedOfRefusals}
-use Rattle.hipokuta.specs.Check.{OwedOfReports}
+use Rattle.hipokuta.specs.Check.{OwedOfReports, OwedOfModes}
 use Rattle.hipokuta.specs.Numbers.{EntryNumbers}
 
 pub record Theorems : Type 0 where
@@ -81,9 +88,21 @@ pub record Theorems : Type 0 where
   pub seen-rising : SeenRising
   -- A sequence header declares R, B and the frame rate of its fields, of MPEG-2 with the extensions n and d.
   pub sequence-declares : SequenceDeclares
+  -- It opens the cadence of its flags (request 05), of a stream the first; and a picture's headers show its type, structure and flags, field by field.
+  pub sequence-opens : SequenceOpens
+  pub picture-shows : PictureShows
   -- What every report asks first is answered as it is due: 14, 3, 1 or 2, 6, every picture header, 4, or what the headers show.
   pub front-is-due : FrontIsDue
   pub front-numbers : FrontNumbers
+  -- ---- how long a picture lasts (request 05)
+  -- Film mode row by row, and what each picture leaves; worked lists; by the pictures before, with no state.
+  pub film-periods : Periods
+  pub film-leaves : Leaves
+  pub film-worked : Worked
+  pub film-by-history : ByHistory
+  -- Outside film a field lasts 1 and a frame 2; and so it is in film mode where no picture has the flag.
+  pub outside-film : OutsideFilm
+  pub without-flag : WithoutFlag
   -- ---- the check
   -- A stream is accepted, with these records, exactly when it passes the tests before the run and at every removal the start code has come, the coded delay is within one tick of the
   -- expected, which is at most 65,534, and the buffer holds at most B bits, all bits of the picture among them.
@@ -94,16 +113,22 @@ pub record Theorems : Type 0 where
   pub nothing-cut : NothingCut
   -- A refusal is one of paper 01's numbers; only 9 to 11 carry picture, coded and expected.
   pub check-numbers : CheckNumbers
-  -- A record tells the field periods up to the next removal: 1 for a field picture, 2 for a frame, so 2 throughout MPEG-1.
+  -- A record tells the field periods up to the next removal: outside film 1 for a field picture, 2 for a frame, so 2 throughout MPEG-1; in film mode what the pictures before tell.
   pub periods-told : PeriodsTold
-  -- In a record the delays have 16 bits, the data bits are at most 2^48, the occupancy is at most the largest buffer and the periods are at most 6.
+  -- In a record the delays have 16 bits, the data bits are at most 2^48, the occupancy is at most the largest buffer and the periods are 1 to 6.
   pub records-small : RecordsSmall
   -- Of a frame rate only the value counts (request 02): streams that show the same pictures, R, B and value get the same report, records or refusal.
   pub value-reports : ValueReports
+  -- Plain mode is as before (request 05); and where no picture has repeat_first_field film is plain.
+  pub plain-mode : PlainMode
   -- ---- the writer
   -- The first headers declare a writer's parameters exactly when they show its R, its B and a frame rate of its value, by whatever code, n and d.
   pub headers-declare : HeadersDeclare
-  -- Demand 3: of every creation, and of every list of offers and withdrawals on a writer that was created.
+  -- A layer that fits tells what its offer says; only a film writer takes repeat_first_field 1, and otherwise both take the same.
+  pub layer-tells : LayerTells
+  -- A plain writer is as before: a picture lasts as its offer says, and no cadence is kept.
+  pub plain-writer : PlainWriter
+  -- Demand 3, of a film writer with the film check and of a plain one with the plain check: of every creation, and of every list of offers and withdrawals on a writer that was created.
   pub demand-3 : Demand3
   -- A writer's calls are refused with paper 01's numbers, whatever its state; an offer's 9 names its picture.
   pub writer-numbers : WriterNumbers
@@ -114,6 +139,9 @@ pub record Theorems : Type 0 where
   pub from-config : OwedFromConfig
   -- From C a refusal leaves state and output part as they were, but that 21 closes the pending picture.
   pub refusals : OwedOfRefusals
+  -- The modes and their numbers; 1, 2 and 6 in the check, and no other.
+  pub modes-numbered : ModesNumbered
+  pub modes : OwedOfModes
   -- The report alone is that of the check with a record place for each picture, and its count says how many that are.
   pub reports : OwedOfReports
   -- What an entry returns is 0 for an answer that is no refusal, or one of paper 01's numbers for that entry.

@@ -14,6 +14,7 @@ use Rattle.verify.specs.Answers.{refusal, refusalOf, verifiedAnswer}
 use Rattle.verify.specs.Check.{Accepted, verdict, reportOf, reported, records}
 use Rattle.verify.specs.Layout.{recordSize, recordsBytes}
 use Rattle.pictures.specs.declared.VbvStandard.the-variants.{Mpeg2}
+use Rattle.verify.specs.Mode.{plain}
 use Rattle.verify.specs.declared.VbvVerified.{VbvVerified}
 use Rattle.verify.specs.declared.VbvVerified.the-variants.{Report, Refused}
 use Rattle.verify.specs.declared.VbvVerifyError.{VbvVerifyError}
@@ -36,9 +37,9 @@ too-long s h = rw (lt-leb (length s) 65536 h)
 
 -- the records' part is as long as before, so the records fit it
 pub pictures-fit : (s : List ℕ) (places : ℕ) (r : VbvVerified) (x : VbvStreamReport) (old new : List ℕ) → r ≡ Report x
-    → verifiedAnswer r ≡ reported (verdict Mpeg2 s places) → new ≡ over (recordsBytes (records (verdict Mpeg2 s places))) old → recordSize * x .pictures ≤ length new
+    → verifiedAnswer r ≡ reported (verdict (plain Mpeg2) s places) → new ≡ over (recordsBytes (records (verdict (plain Mpeg2) s places))) old → recordSize * x .pictures ≤ length new
 pictures-fit s places r x old new q h w =
-    let v = verdict Mpeg2 s places in
+    let v = verdict (plain Mpeg2) s places in
     rw (w, over-is (recordsBytes (records v)) old, length-append (recordsBytes (records v)) (drop (length (recordsBytes (records v))) old))
     (omega (arith, picture-count r v x h q, length-records (records v)))
 
@@ -60,16 +61,16 @@ text-reported (value a) x h = let e : x ≡ reportOf a = cc in rw e
 text-reported (refused n k c y) x h = absurd (clash cc)
 
 module _ (s : List ℕ) (places : ℕ) (h : length s ≤ 65536) (l : places ≡ 1024) (r : VbvVerified) where
-  pub printed-refused : (e : VbvVerifyError) → r ≡ Refused e → verifiedAnswer r ≡ reported (verdict Mpeg2 s places) → refusalText (refusalOf e) ≡ printed s
+  pub printed-refused : (e : VbvVerifyError) → r ≡ Refused e → verifiedAnswer r ≡ reported (verdict (plain Mpeg2) s places) → refusalText (refusalOf e) ≡ printed s
   unfolding printed pick
-  printed-refused e q t = rw (le-leb (length s) 65536 h, ← l) (text-refused (verdict Mpeg2 s places) e (ap verifiedAnswer (sym q) ∙ t))
+  printed-refused e q t = rw (le-leb (length s) 65536 h, ← l) (text-refused (verdict (plain Mpeg2) s places) e (ap verifiedAnswer (sym q) ∙ t))
 
-  pub printed-report : (x : VbvStreamReport) (old new : List ℕ) → r ≡ Report x → verifiedAnswer r ≡ reported (verdict Mpeg2 s places)
-      → new ≡ over (recordsBytes (records (verdict Mpeg2 s places))) old
+  pub printed-report : (x : VbvStreamReport) (old new : List ℕ) → r ≡ Report x → verifiedAnswer r ≡ reported (verdict (plain Mpeg2) s places)
+      → new ≡ over (recordsBytes (records (verdict (plain Mpeg2) s places))) old
       → reportText x ++ (ascii "delay expected data_bits occupancy_before periods\n" ++ linesOf (x .pictures) new) ≡ printed s
   unfolding printed pick
   printed-report x old new q t w =
-      let rs = records (verdict Mpeg2 s places) in
+      let rs = records (verdict (plain Mpeg2) s places) in
       let e : linesOf (x .pictures) new ≡ recordLines rs
-      = rw (picture-count r (verdict Mpeg2 s places) x t q, w, over-is (recordsBytes rs) old) (lines-are rs (drop (length (recordsBytes rs)) old) (records-small Mpeg2 s places)) in
-      rw (le-leb (length s) 65536 h, e, ← l) (text-reported (verdict Mpeg2 s places) x (ap verifiedAnswer (sym q) ∙ t))
+      = rw (picture-count r (verdict (plain Mpeg2) s places) x t q, w, over-is (recordsBytes rs) old) (lines-are rs (drop (length (recordsBytes rs)) old) (records-small (plain Mpeg2) s places)) in
+      rw (le-leb (length s) 65536 h, e, ← l) (text-reported (verdict (plain Mpeg2) s places) x (ap verifiedAnswer (sym q) ∙ t))

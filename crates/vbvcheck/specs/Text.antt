@@ -10,6 +10,7 @@ use Rattle.bits.specs.Bits.{pick}
 use Rattle.bits.specs.Refusals.{Answer, value, refused}
 use Rattle.verify.specs.Check.{Accepted, verdict, reportOf}
 use Rattle.pictures.specs.declared.VbvStandard.the-variants.{Mpeg2}
+use Rattle.verify.specs.Mode.{plain}
 use Rattle.verify.specs.declared.VbvPictureRecord.{VbvPictureRecord}
 use Rattle.verify.specs.declared.VbvStreamReport.{VbvStreamReport}
 use Rattle.bits.specs.declared.VbvRefusal.{VbvRefusal}
@@ -51,4 +52,4 @@ verdictText (value a) = reportText (reportOf a) ++ (ascii "delay expected data_b
 verdictText (refused n k c e) = refusalText (record { number = n; picture = k; coded = c; expected = e })
 
 unfoldable pub printed : List ℕ → List ℕ
-printed s = pick (leb (length s) 65536) (verdictText (verdict Mpeg2 s 1024)) (ascii "too long\n")
+printed s = pick (leb (length s) 65536) (verdictText (verdict (plain Mpeg2) s 1024)) (ascii "too long\n")
