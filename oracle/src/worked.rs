@@ -1,5 +1,6 @@
-//! Lists of pictures whose periods in film mode are worked out by hand, and the table that the request comes to, as rules of a
-//! state that moves from picture to picture: cadence.rs, which has neither, is held to both before it is used.
+//! Figures of request 05 that were settled apart from this model: lists of pictures with their periods in film mode, a channel with
+//! its delays and its report, and the table that the request comes to, as rules of a state that moves from picture to picture.
+//! cadence.rs, which has no such state, and the models of writer and check are held to them before they are used.
 
 use crate::cadence::{self, Facts, SEQUENCES, Sequence, periods};
 use crate::check::judged;
@@ -104,7 +105,7 @@ fn agree(s: Sequence, before: &[Facts], now: State, more: usize) {
     }
 }
 
-/// A channel worked out by hand: fields 2500 and 20, rate code 4, interlaced, low_delay 0; frames of 4,021 bytes (I) or 4,022.
+/// A channel: fields 2500 and 20, rate code 4, interlaced, low_delay 0; frames of 4,021 bytes (I) or 4,022.
 const CHANNEL: &str = "I' P B' B P' B B' P";
 const DELAYS: [u64; 8] = [22118, 22226, 23835, 25443, 25550, 25658, 25765, 27373];
 const PERIODS: [u64; 8] = [2, 3, 3, 2, 2, 2, 3, 3];
