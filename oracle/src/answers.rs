@@ -1,7 +1,10 @@
 //! The original's answer to a case, as FORMAT.md lays it out.
 
-use crate::check::{NOT_READ, OF_FIELDS, OF_FRAMES, OTHERWISE, WITH_RATE};
+use crate::check::{
+    ACROSS, AS_PLAIN, FILM_ALONE, NOT_READ, OF_FIELDS, OF_FOUR, OF_FRAMES, OF_SIX, OF_THREE, OTHERWISE, WITH_RATE,
+};
 use crate::format::{ACCEPTED, Answer, number, words};
+use crate::mode::{FILM, MPEG1, MPEG1_FILM, Mode, PLAIN};
 use crate::{check, lists, model};
 use original::gop_header::{Mpeg2Gop, TimeCode, nominal_pictures_per_second, write_gop_header};
 use original::picture_header::{
@@ -13,12 +16,12 @@ use original::sequence_header::{AspectRatio, Mpeg2SequenceHeader};
 use original::stream_writer::{
     SequenceHeaderParams, profile_and_level_indication, write_sequence_extension, write_sequence_header,
 };
-use original::vbv::{VbvStandard, frame_rate_value, oracle_extended};
+use original::vbv::{frame_rate_value, oracle_extended};
 use original::{Error, Result};
 use oxideav_core::bits::BitWriter;
 
 /// The kinds of cases by their number, with the refusals that each can give and what else has to be met.
-pub const KINDS: [(&str, &[u8]); 19] = [
+pub const KINDS: [(&str, &[u8]); 23] = [
     ("Mpeg2SequenceHeader::parse", &[1, 2]),
     ("Mpeg2SequenceExtension::parse", &[1, 2]),
     ("Mpeg2Sequence::from_buf", &[1, 2]),
@@ -33,7 +36,7 @@ pub const KINDS: [(&str, &[u8]); 19] = [
     ("nominal_pictures_per_second", &[6]),
     ("profile_and_level_indication", &[]),
     ("frame_rate_value", &[6, 12]),
-    ("VbvCbrModel", &[7, 8, 9, 10, 12, 13, 14]),
+    ("VbvCbrModel", &[7, 8, 9, 10, 12, 13, 14, model::BEYOND]),
     ("patch_vbv_delay", &[20]),
     ("verify_cbr_stream, MPEG-1", &[1, 2, 3, 4, 5, 6, 7, 8, 9, 10, 11, 12, 15, OF_FRAMES, NOT_READ]),
     (
@@ -41,7 +44,54 @@ pub const KINDS: [(&str, &[u8]); 19] = [
         &[1, 2, 3, 4, 5, 6, 7, 8, 9, 10, 11, 12, 15, OF_FIELDS, OF_FRAMES, WITH_RATE, OTHERWISE],
     ),
     ("CbrWriter", &lists::OWED),
+    (
+        "verify_in_mode, MPEG-2 film",
+        &[
+            1,
+            2,
+            3,
+            4,
+            5,
+            6,
+            7,
+            8,
+            9,
+            10,
+            11,
+            12,
+            15,
+            OF_FIELDS,
+            OF_FRAMES,
+            OF_THREE,
+            OF_FOUR,
+            OF_SIX,
+            FILM_ALONE,
+            AS_PLAIN,
+            ACROSS,
+            ACROSS + 1,
+            ACROSS + 2,
+            ACROSS + 3,
+            ACROSS + 4,
+        ],
+    ),
+    (
+        "verify_in_mode, MPEG-2",
+        &[1, 2, 3, 4, 5, 6, 7, 8, 9, 10, 11, 12, 15, OF_FIELDS, OF_FRAMES, WITH_RATE, OTHERWISE],
+    ),
+    ("verify_in_mode, MPEG-1", &[1, 2, 3, 4, 5, 6, 8, 9, 10, 11, 12, 15, OF_FRAMES]),
+    ("verify_in_mode, MPEG-1 film", &[12]),
 ];
+
+/// The mode of a kind that is a check.
+pub fn mode(kind: u8) -> Mode {
+    match kind {
+        17 | 22 => MPEG1,
+        18 | 21 => PLAIN,
+        20 => FILM,
+        23 => MPEG1_FILM,
+        _ => unreachable!("no check is of kind {kind}"),
+    }
+}
 
 pub fn answer(kind: u8, input: &[u8]) -> Answer {
     match kind {
@@ -64,9 +114,8 @@ pub fn answer(kind: u8, input: &[u8]) -> Answer {
         14 => frame_rate([input[0], input[1], input[2]]),
         15 => model::calls(input),
         16 => model::patched(input),
-        17 => check::checked(VbvStandard::Mpeg1, input),
-        18 => check::checked(VbvStandard::Mpeg2, input),
         19 => lists::answer(input),
+        17..=23 => check::checked(mode(kind), input),
         _ => unreachable!("no kind {kind}"),
     }
 }

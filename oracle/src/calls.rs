@@ -1,7 +1,9 @@
 //! Inputs for kinds 14 to 16: lists of model calls, drawn around what the model allows at each step, and headers to patch.
 
 use crate::draw::Draw;
-use crate::model::{BUFFER_UNIT, Call, FAR, MOST_BUFFER, MOST_FRD, MOST_FRN, MOST_RATE, Model, RATE_UNIT, widest};
+use crate::model::{
+    BUFFER_UNIT, Call, FAR, MOST_BUFFER, MOST_FRD, MOST_FRN, MOST_RATE, Model, PERIODS, RATE_UNIT, widest,
+};
 use crate::streams::frame_rate;
 
 /// One input of a kind.
@@ -25,8 +27,8 @@ pub fn every(put: &mut impl FnMut(&[u8])) {
     }
 }
 
-/// Around each boundary: all rate codes, with each n and d in range, the two above and the greatest; parameters around each limit; parts around the length needed, with each byte of
-/// the start code changed.
+/// Around each boundary: all rate codes, with each n and d in range, the two above and the greatest; parameters around each
+/// limit; parts around the length needed, with each byte of the start code changed.
 pub fn edges(kind: u8, d: &mut Draw, put: &mut impl FnMut(&[u8])) {
     match kind {
         14 => {
@@ -80,6 +82,10 @@ fn params(d: &mut Draw) -> [u64; 4] {
     };
     let mut all = [rate, buffer, frn, frd];
     if d.one_in(16) {
+        // Three frames of these deliver more than 2^55 bits.
+        all = [MOST_RATE - d.next() % (1 << 33), 1 + d.next() % MOST_BUFFER, 1, MOST_FRD - d.next() % (1 << 10)];
+    }
+    if d.one_in(16) {
         all[d.below(4)] = d.value(64);
     }
     all
@@ -126,7 +132,7 @@ fn call(model: &mut Model, params: [u64; 4], position: u64, d: &mut Draw) -> Cal
     let [whole, _, previous, _] = model.state();
     let started = model.call(Call { which: 4, place: 0, small: 0 }).is_ok();
     let which = if started || d.one_in(8) { [1, 2, 2, 2, 3, 3, 3, 3, 3, 4, 5, 5, 6][d.below(13)] } else { 1 };
-    let mut small = d.below(2) as u16;
+    let mut small = d.below(PERIODS.len()) as u16;
     let place = match which {
         1 => {
             let full = 90_000 * u128::from(params[1].saturating_sub(position)) / u128::from(params[0]);

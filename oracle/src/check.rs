@@ -1,14 +1,18 @@
-//! Kinds 17 and 18: the check of a stream. The original has no refusal 15, and its 9 and 10 name the picture alone: these
-//! the oracle completes from pictures that it finds itself, run through the original's model. A record's first four words are
-//! the original's. It has no such field as the fifth, `periods` (request 04): that is by the oracle's own rule. Of an MPEG-2 stream
-//! with n or d not 0 the original is the patched copy (request 02).
+//! Kinds 17 and 18, and in any mode 20 to 23: the check of a stream. The original has no refusal 15, and its 9 and 10 name the
+//! picture alone: these the oracle completes from pictures that it finds itself, run through the original's model. A record's
+//! first four words are the original's. It has no such field as the fifth, `periods` (request 04): that is by the oracle's own
+//! rule. Of an MPEG-2 stream with n or d not 0 the original is the patched copy (request 02). In film mode (request 05) the
+//! original decides what comes before the run, and the run is film.rs's.
 
+use crate::cadence::{self, Facts, Sequence};
+use crate::film;
 use crate::format::{ACCEPTED, Answer, Met, number, pattern, words};
 use crate::layout::VBV_RECORD_BYTES;
+use crate::mode::{FILM, MPEG1_FILM, Mode};
 use crate::model::{BUFFER_UNIT, RATE_UNIT, refusal};
 use crate::place::lay;
 use crate::spans::{picture_codes, spans};
-use original::picture_header::{Mpeg2PictureHeader, PictureStructure};
+use original::picture_header::{Mpeg2PictureHeader, PictureCodingType, PictureStructure};
 use original::sequence_extension::Mpeg2Sequence;
 use original::sequence_header::Mpeg2SequenceHeader;
 use original::vbv::{
@@ -17,24 +21,48 @@ use original::vbv::{
 };
 
 const PLACES: Met = (15, "fewer record places than pictures");
+const NO_MODE: Met = (12, "film in MPEG-1");
 
 /// What else is counted, records by their fifth word: numbers above those of lists.rs.
 pub const OF_FIELDS: u8 = 136;
 pub const OF_FRAMES: u8 = 137;
+/// In film mode 3, 4 and 6 too, and accepted streams that a plain check refuses or reports otherwise.
+pub const OF_THREE: u8 = 151;
+pub const OF_FOUR: u8 = 152;
+pub const OF_SIX: u8 = 153;
+pub const FILM_ALONE: u8 = 154;
+pub const AS_PLAIN: u8 = 155;
+/// Pairs of fields, by what stands between the two.
+pub const ACROSS: u8 = 156;
+const BETWEEN: [(u8, Met); 5] = [
+    (0xB3, (ACROSS, "pairs of fields with a sequence header between them")),
+    (0xB8, (ACROSS + 1, "pairs of fields with a group header between them")),
+    (0xB2, (ACROSS + 2, "pairs of fields with user data between them")),
+    (0xB5, (ACROSS + 3, "pairs of fields with an extension between them")),
+    (0xB7, (ACROSS + 4, "pairs of fields with a sequence_end_code between them")),
+];
 /// And accepted streams by n and d of the first sequence extension.
 pub const WITH_RATE: u8 = 138;
 pub const OTHERWISE: u8 = 139;
 pub const NOT_READ: u8 = 140;
 
 fn counted(periods: u64) -> Met {
-    if periods == 1 { (OF_FIELDS, "records with periods 1") } else { (OF_FRAMES, "records with periods 2") }
+    match periods {
+        1 => (OF_FIELDS, "records with periods 1"),
+        2 => (OF_FRAMES, "records with periods 2"),
+        3 => (OF_THREE, "records with periods 3"),
+        4 => (OF_FOUR, "records with periods 4"),
+        6 => (OF_SIX, "records with periods 6"),
+        _ => unreachable!("no picture lasts {periods}"),
+    }
 }
 
-struct Picture {
-    position: u64,
-    end: u64,
-    delay: u16,
+pub struct Picture {
+    pub position: u64,
+    pub end: u64,
+    pub delay: u16,
     structure: PictureStructure,
+    pub facts: Facts,
 }
 
 impl Picture {
@@ -62,21 +90,37 @@ fn pictures(standard: VbvStandard, stream: &[u8]) -> Vec<Picture> {
             None => stream.len(),
         };
         let (offset, _) = codes[at];
-        let (delay, structure) = told(standard, &stream[offset..]);
-        found.push(Picture { position: 8 * (offset as u64 + 4), end: 8 * end as u64, delay, structure });
+        let (delay, structure, facts) = told(standard, &stream[offset..]);
+        found.push(Picture { position: 8 * (offset as u64 + 4), end: 8 * end as u64, delay, structure, facts });
     }
     found
 }
 
-/// A picture's delay and structure; MPEG-1 pictures are all frames.
-fn told(standard: VbvStandard, picture: &[u8]) -> (u16, PictureStructure) {
+/// A picture's delay, structure and what film mode asks of it; MPEG-1 pictures are all frames, and have none of the latter.
+fn told(standard: VbvStandard, picture: &[u8]) -> (u16, PictureStructure, Facts) {
     match standard {
-        VbvStandard::Mpeg1 => (Mpeg2PictureHeader::parse(picture).unwrap().vbv_delay, PictureStructure::Frame),
+        VbvStandard::Mpeg1 => {
+            let facts = Facts { anchor: false, field: false, repeat: false, top: false };
+            (Mpeg2PictureHeader::parse(picture).unwrap().vbv_delay, PictureStructure::Frame, facts)
+        }
         _ => {
             let (header, extension) = Mpeg2PictureHeader::parse_with_extension(picture).unwrap();
-            (header.vbv_delay, extension.picture_structure)
+            let facts = Facts {
+                anchor: header.picture_coding_type != PictureCodingType::Bidirectional,
+                field: extension.picture_structure != PictureStructure::Frame,
+                repeat: extension.repeat_first_field,
+                top: extension.top_field_first,
+            };
+            (header.vbv_delay, extension.picture_structure, facts)
         }
     }
+}
+
+/// What film mode asks of a stream's first sequence extension and of its pictures, whose headers the original has parsed.
+pub fn shown(stream: &[u8]) -> (Sequence, Vec<Facts>) {
+    let e = sequence(stream).unwrap().extension;
+    let facts = pictures(VbvStandard::Mpeg2, stream).iter().map(|p| p.facts).collect();
+    (Sequence { progressive: e.progressive_sequence, low_delay: e.low_delay }, facts)
 }
 
 /// The fifth words of the records of a stream that the original accepts.
@@ -124,7 +168,34 @@ fn params(standard: VbvStandard, stream: &[u8]) -> VbvParams {
 }
 
 /// What else is counted of an accepted stream.
-fn accepted(standard: VbvStandard, stream: &[u8]) -> Vec<Met> {
+fn accepted(mode: Mode, stream: &[u8], five: [u64; 5], part: &[u8]) -> Vec<Met> {
+    if mode.film {
+        let mut plain = pattern(part.len());
+        let same = judged(Mode { film: false, ..mode }, stream, &mut plain) == (ACCEPTED, five) && plain == part;
+        let mut met = across(stream);
+        met.push(match same {
+            true => (AS_PLAIN, "accepted as a plain check does, with the same report and records"),
+            false => (FILM_ALONE, "accepted where a plain check refuses, or has another report or records"),
+        });
+        return met;
+    }
+    accepted_plain(mode.standard, stream)
+}
+
+/// Pairs of fields with something between the two.
+fn across(stream: &[u8]) -> Vec<Met> {
+    let codes = oracle_scan_start_codes(stream);
+    let spans = spans(&codes);
+    let between = |second: usize| codes[spans[second - 1].1..spans[second].0].iter().map(|c| c.1);
+    let seconds = cadence::second_fields(&shown(stream).1);
+    let mut met = vec![];
+    for second in seconds {
+        met.extend(BETWEEN.iter().filter(|(code, _)| between(second).any(|c| c == *code)).map(|b| b.1));
+    }
+    met
+}
+
+fn accepted_plain(standard: VbvStandard, stream: &[u8]) -> Vec<Met> {
     if !sequence(stream).is_some_and(|s| extended(&s)) {
         return vec![];
     }
@@ -200,8 +271,12 @@ fn report(report: &VbvStreamReport, all: &[Picture], part: &mut [u8]) -> [u64; 5
     [report.bit_rate, report.buffer_size_bits, report.pictures.len() as u64, least as u64, greatest as u64]
 }
 
-/// What the original, or its patched copy, makes of a stream: its number and five words, the records stored in the part.
-pub fn judged(standard: VbvStandard, stream: &[u8], part: &mut [u8]) -> (Met, [u64; 5]) {
+/// What a stream is answered in a mode: its number and five words, the records stored in the part.
+pub fn judged(mode: Mode, stream: &[u8], part: &mut [u8]) -> (Met, [u64; 5]) {
+    if mode == MPEG1_FILM {
+        return (NO_MODE, [0; 5]);
+    }
+    let standard = mode.standard;
     let result = verify(standard, stream);
     let run = match &result {
         Err(VbvVerifyError::Parse(e)) => matches!(refusal(*e).0, 7 | 8),
@@ -210,13 +285,38 @@ pub fn judged(standard: VbvStandard, stream: &[u8], part: &mut [u8]) -> (Met, [u
     let all = if run { pictures(standard, stream) } else { vec![] };
     match result {
         _ if part.len() / VBV_RECORD_BYTES < all.len() => (PLACES, [0; 5]),
+        _ if run && mode == FILM => {
+            let (s, facts) = shown(stream);
+            film::run(&params(standard, stream), &all, &cadence::periods(s, &facts), part)
+        }
+        _ if run => {
+            // The run that film mode has is the original's, where the periods are plain.
+            let (mut own, plain) = (part.to_vec(), all.iter().map(Picture::periods).collect::<Vec<_>>());
+            let ran = film::run(&params(standard, stream), &all, &plain, &mut own);
+            let answer = original(standard, stream, result, &all, part);
+            assert!(ran.0.0 == answer.0.0 && ran.1 == answer.1 && own == part, "the film run is not the original's");
+            answer
+        }
+        _ => original(standard, stream, result, &all, part),
+    }
+}
+
+/// What the original, or its patched copy, has made of a stream.
+fn original(
+    standard: VbvStandard,
+    stream: &[u8],
+    result: Result<VbvStreamReport, VbvVerifyError>,
+    all: &[Picture],
+    part: &mut [u8],
+) -> (Met, [u64; 5]) {
+    match result {
         Ok(r) => {
             assert_eq!(r.pictures.len(), all.len(), "the oracle's own pictures are not the original's");
-            assert!(agree(&r, &all, params(standard, stream).frame_rate), "the original's removals have other periods");
-            (ACCEPTED, report(&r, &all, part))
+            assert!(agree(&r, all, params(standard, stream).frame_rate), "the original's removals have other periods");
+            (ACCEPTED, report(&r, all, part))
         }
         Err(VbvVerifyError::Parse(e)) => (refusal(e), [0; 5]),
-        Err(VbvVerifyError::Violation(v)) => violation(standard, stream, &all, v),
+        Err(VbvVerifyError::Violation(v)) => violation(standard, stream, all, v),
         Err(_) => unreachable!("no other refusal"),
     }
 }
@@ -227,13 +327,16 @@ pub fn fifths(part: &[u8], pictures: u64) -> impl Iterator<Item = u64> {
 }
 
 /// The number, five words, and the record part.
-pub fn checked(standard: VbvStandard, input: &[u8]) -> Answer {
+pub fn checked(mode: Mode, input: &[u8]) -> Answer {
     let mut part = pattern(number(&input[..2]) as usize);
-    let (met, five) = judged(standard, &input[2..], &mut part);
+    let (met, five) = judged(mode, &input[2..], &mut part);
     let mut answer = Answer::of(met);
     if met == ACCEPTED {
         answer.met.extend(fifths(&part, five[2]).map(counted));
-        answer.met.extend(accepted(standard, &input[2..]));
+        answer.met.extend(accepted(mode, &input[2..], five, &part));
+        if mode == FILM {
+            answer.film = Some(shown(&input[2..]));
+        }
     }
     words(&mut answer.bytes, &five);
     answer.bytes.extend(part);
@@ -241,9 +344,9 @@ pub fn checked(standard: VbvStandard, input: &[u8]) -> Answer {
 }
 
 /// The answer for a stream with places for all of its pictures, in the lines of `vbvcheck`.
-pub fn lines(standard: VbvStandard, stream: &[u8]) -> String {
+pub fn lines(mode: Mode, stream: &[u8]) -> String {
     let mut part = vec![0; VBV_RECORD_BYTES * picture_codes(stream)];
-    let ((refused, _), words) = judged(standard, stream, &mut part);
+    let ((refused, _), words) = judged(mode, stream, &mut part);
     let line = |words: &[u64]| words.iter().map(u64::to_string).collect::<Vec<_>>().join(" ") + "\n";
     if refused != 0 {
         return "refused picture coded expected\n".to_string() + &line(&[&[refused.into()], &words[..3]].concat());

@@ -1,12 +1,14 @@
-//! Inputs for kinds 17 and 18: a record part's length and a stream, good, damaged, cut or at random.
+//! Inputs for kinds 17, 18 and 20: a record part's length and a stream, good, damaged, cut or at random. Those of kind 20 are those
+//! of 21 to 23 too.
 
-use crate::check::verify;
+use crate::answers::mode;
+use crate::check::{lines, verify};
 use crate::draw::Draw;
 use crate::headers::damage;
 use crate::layout::VBV_RECORD_BYTES;
+use crate::mode::FILM;
 use crate::spans::picture_codes;
 use crate::streams::{self, Fault, Form};
-use original::vbv::VbvStandard;
 
 /// The record part has room for that many records, and the input fits its bytes.
 const MOST_PLACES: usize = 120;
@@ -34,10 +36,14 @@ pub fn with_room(stream: &[u8]) -> Vec<u8> {
     input(VBV_RECORD_BYTES * picture_codes(stream).max(3), stream)
 }
 
-/// What the original answers, in words.
+/// What the original answers, in words; in film mode the lines of the answer, one after the other.
 pub fn told(kind: u8, input: &[u8]) -> String {
-    let standard = if kind == 18 { VbvStandard::Mpeg2 } else { VbvStandard::Mpeg1 };
-    match verify(standard, &input[2..]) {
+    if mode(kind) == FILM {
+        let answer = lines(FILM, &input[2..]);
+        let numbers = answer.lines().skip(1).filter(|line| !line.starts_with("delay"));
+        return numbers.collect::<Vec<_>>().join("; ");
+    }
+    match verify(mode(kind).standard, &input[2..]) {
         Err(refusal) => refusal.to_string(),
         Ok(r) => {
             let records = r
@@ -53,9 +59,13 @@ pub fn told(kind: u8, input: &[u8]) -> String {
 
 /// Some of kind 17 have MPEG-2's extensions, which an MPEG-1 check does not read: its fields are frames, and its rate is that of
 /// the code alone. Most of these are made so that they pass it.
+/// Of kind 20 most are made for film mode, the others for a plain check.
 fn form(kind: u8, d: &mut Draw) -> Form {
+    if kind == 20 {
+        return Form { mpeg2: true, extensions: true, film: !d.one_in(16) };
+    }
     let extensions = kind == 18 || d.one_in(16);
-    Form { mpeg2: kind == 18 || extensions && d.one_in(4), extensions }
+    Form { mpeg2: kind == 18 || extensions && d.one_in(4), extensions, film: false }
 }
 
 fn a_stream(form: Form, d: &mut Draw) -> Vec<u8> {
@@ -85,7 +95,7 @@ fn noise(d: &mut Draw) -> Vec<u8> {
 /// followed by a zero; and each with every number of record places.
 pub fn edges(kind: u8, d: &mut Draw, put: &mut impl FnMut(&[u8])) {
     for _ in 0..8 {
-        let stream = short(Form { mpeg2: kind == 18, extensions: kind == 18 }, d);
+        let stream = short(Form { mpeg2: kind != 17, extensions: kind != 17, film: kind == 20 }, d);
         let n = picture_codes(&stream);
         for part in 0..VBV_RECORD_BYTES * (n + 1) {
             put(&input(part, &stream));

@@ -49,7 +49,27 @@ impl OracleWriter {
         self.0.emit(headers, kind, interval, last, encode).is_ok()
     }
 
-    /// The same, but with memory for what it puts out.
+    /// The same of a picture that lasts so many field periods. It has an interval of one and one of two; for more it is given
+    /// that of one field at so many times its frd.
+    pub fn emit_lasting(
+        &mut self,
+        headers: &[u8],
+        kind: usize,
+        periods: u64,
+        last: bool,
+        layer: impl FnMut(u8) -> Option<Vec<u8>>,
+    ) -> bool {
+        let (interval, times) = match periods {
+            2 => (RemovalInterval::Frame, 1),
+            _ => (RemovalInterval::Field, periods as u32),
+        };
+        self.0.frd *= times;
+        let accepted = self.emit(headers, kind, interval, last, layer);
+        self.0.frd /= times;
+        accepted
+    }
+
+    /// This writer with memory for what it puts out.
     pub fn with_room(self, mut out: Vec<u8>) -> Self {
         out.clear();
         Self(CbrWriter { out, ..self.0 })

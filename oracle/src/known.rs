@@ -1,8 +1,13 @@
 //! Headers and streams with a name: one for each difference from the standards in which the original wins, and those of rates with
-//! extensions, in which it does not (docs/DIFFERENCES.md).
+//! extensions, in which it does not (docs/DIFFERENCES.md); and the worked lists of film mode as streams.
+
+use crate::cadence::SEQUENCES;
+use crate::draw::Draw;
+use crate::streams;
+use crate::worked::{LISTS, pictures, sequence};
 
 /// Name, kind, and the bytes of the header or stream.
-const KNOWN: [(&str, u8, &str); 40] = [
+const KNOWN: [(&str, u8, &str); 44] = [
     ("low 18 rate bits of zero are refused", 1, "000001B301001013000020A0"),
     ("constrained_parameters_flag 1", 1, "000001B301001013027120A4"),
     ("reserved aspect and rate codes", 1, "000001B3010010F9027120A0"),
@@ -124,10 +129,51 @@ const KNOWN: [(&str, u8, &str); 40] = [
         18,
         "000001B301001013027120A0 000001B5148200010000 000001B8FFF7FFE0 000001000012B33380 000001B58FFFF34180 00000101",
     ),
+    (
+        "repeat_first_field of the first picture: a field more between the second and the third",
+        20,
+        "000001B301001013027120A0 000001B5148200010000 0000010000091940 000001B58FFFF34380 00000101 \
+         0000010000098948 000001B58FFFF34180 00000101 00000100000A3190 000001B58FFFF34180 00000101",
+    ),
+    (
+        "the same with the delay of a plain check",
+        20,
+        "000001B301001013027120A0 000001B5148200010000 0000010000091940 000001B58FFFF34380 00000101 \
+         0000010000098948 000001B58FFFF34180 00000101 000001000009F950 000001B58FFFF34180 00000101",
+    ),
+    (
+        "low_delay 1: a field more between the first and the second",
+        20,
+        "000001B301001013027120A0 000001B5148200010080 00000100000AB330 000001B58FFFF34380 00000101 \
+         00000100000B5B78 000001B58FFFF34180 00000101",
+    ),
+    (
+        "two pictures, the first with repeat_first_field, in either mode",
+        20,
+        "000001B301001013027120A0 000001B5148200010000 00000100000AB330 000001B58FFFF34380 00000101 00000100000B2338 \
+         000001B58FFFF34180 00000101",
+    ),
 ];
 
 /// Those of a kind: name and bytes. Of kinds 8 and 10 these are a writer's numbers and output part.
-pub fn known(kind: u8) -> Vec<(&'static str, Vec<u8>)> {
+pub fn known(kind: u8) -> Vec<(String, Vec<u8>)> {
+    let worked = if kind == 20 { worked() } else { vec![] };
+    named(kind).into_iter().map(|(name, bytes)| (name.to_string(), bytes)).chain(worked).collect()
+}
+
+/// The lists of worked.rs as streams, in each sequence.
+fn worked() -> Vec<(String, Vec<u8>)> {
+    let mut all = vec![];
+    for (letters, _) in LISTS {
+        for (column, name) in SEQUENCES.iter().enumerate() {
+            let stream = streams::of(&pictures(letters), sequence(column), &mut Draw(column as u64));
+            all.push((format!("{letters}, {name}"), stream));
+        }
+    }
+    all
+}
+
+fn named(kind: u8) -> Vec<(&'static str, Vec<u8>)> {
     let mut inputs: Vec<_> = KNOWN.iter().filter(|k| k.1 == kind).map(|&(name, _, hex)| (name, bytes(hex))).collect();
     match kind {
         1 => inputs.push(("a matrix of zeros", [bytes("000001B301001013027120A2"), vec![0; 64]].concat())),

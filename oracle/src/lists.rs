@@ -1,15 +1,19 @@
-//! Kind 19: lists of calls of the constant-rate writer. The answer is the model's (writer.rs); on the way the original's `emit`
-//! runs beside it, and then the original's check over what was handed out. Where n or d is not 0, a writer's or a header's, the
-//! original is its patched copy (request 02).
+//! Kind 19: lists of calls of the constant-rate writer, plain or film. The answer is the model's (writer.rs); on the way the
+//! original's `emit` runs beside it, and then the check over what was handed out. Where n or d is not 0, a writer's or a
+//! header's, the original is its patched copy (request 02). A film writer's pictures last as the model says, in `emit` too, and
+//! its check is film.rs's (request 05).
 
-use crate::check::{extended, periods, sequence, verify};
+use crate::check::{extended, judged, sequence};
 use crate::format::{ACCEPTED, Answer, Met, number, pattern, words};
-use crate::model::{BUFFER_UNIT, RATE_UNIT, interval};
+use crate::layout::VBV_RECORD_BYTES;
+use crate::mode::{FILM, Mode, PLAIN};
+use crate::model::{BUFFER_UNIT, RATE_UNIT};
+use crate::state::cadence;
 use crate::writer::{Config, Offer, Told, Writer};
 use original::rate_control::OracleWriter;
-use original::vbv::VbvStandard;
 
 /// Answers that are no refusals, and what else is counted: above all numbers that a refusal may have.
+pub const PASSED: u8 = 128;
 pub const SET: u8 = 129;
 pub const AGAIN: u8 = 130;
 pub const WITHDRAWN: u8 = 131;
@@ -21,13 +25,24 @@ pub const FINISHED: u8 = 135;
 const PATCHED: u8 = 141;
 const SHOWN_OTHERWISE: u8 = 142;
 const AS_25: u8 = 143;
+/// Above those of film in check.rs.
+const OF_FILM: u8 = 161;
+const FILM_ALONE: u8 = 162;
+const WITH_FLAG: u8 = 163;
+const SAME_REPORT: u8 = 164;
+const FILM_OFFERED: u8 = 165;
+const NOT_PASSED: u8 = 166;
+/// Above model.rs's.
+const FILM_LISTS: u8 = 168;
+/// And the number of a film writer's refusal, or 30 for Again.
+const TO_FILM: u8 = 200;
 
 /// All codes, n and d whose rate is 25/1.
 pub const ALL_25: [[u64; 3]; 8] =
     [[3, 0, 0], [3, 1, 1], [3, 2, 2], [3, 3, 3], [6, 0, 1], [6, 1, 3], [6, 2, 5], [6, 3, 7]];
 
 /// What the answers are called.
-const REASONS: [Met; 29] = [
+const REASONS: [Met; 48] = [
     ACCEPTED,
     (6, "rate code not 1 to 8"),
     (7, "position beyond delivered bits"),
@@ -45,7 +60,9 @@ const REASONS: [Met; 29] = [
     (WITHDRAWN, "withdrawn"),
     (EMITTED, "placed by emit, with the same bytes, quantisers, stuffing and model"),
     (NOT_EMITTED, "of those refused 7, 9, 21 and 22 refused by emit"),
-    (CHECKED, "lists with a picture, their bytes accepted by the original's check with these records"),
+    (PASSED, "checks of what was handed out, in either mode, that accept"),
+    (NOT_PASSED, "checks of what a film writer handed out, in plain mode, that refuse"),
+    (CHECKED, "lists with a picture, their bytes accepted by the check of the writer's mode with these records"),
     (FINISHED, "of these finished"),
     (PATCHED, "of these with n or d not 0 in their header, accepted by the patched copy"),
     (SHOWN_OTHERWISE, "of these with another code, n or d in their header than the writer's"),
@@ -57,6 +74,23 @@ const REASONS: [Met; 29] = [
     (AS_25 + 5, "of these at 25/1 as code 6, n 1, d 3"),
     (AS_25 + 6, "of these at 25/1 as code 6, n 2, d 5"),
     (AS_25 + 7, "of these at 25/1 as code 6, n 3, d 7"),
+    (FILM_LISTS, "lists of a film writer"),
+    (OF_FILM, "lists of a film writer with a picture, accepted by the film check with these records"),
+    (FILM_ALONE, "of these refused, or reported otherwise, by the plain check"),
+    (WITH_FLAG, "pictures placed by a film writer with repeat_first_field 1"),
+    (SAME_REPORT, "lists of a plain writer with a picture, reported alike by the film check"),
+    (FILM_OFFERED, "pictures placed by a film writer after a layer of theirs was sent back"),
+    (TO_FILM, "offers to a film writer placed"),
+    (TO_FILM + 7, "offers to a film writer refused 7"),
+    (TO_FILM + 9, "offers to a film writer refused 9"),
+    (TO_FILM + 14, "offers to a film writer refused 14"),
+    (TO_FILM + 17, "offers to a film writer refused 17"),
+    (TO_FILM + 18, "offers to a film writer refused 18"),
+    (TO_FILM + 19, "offers to a film writer refused 19"),
+    (TO_FILM + 20, "offers to a film writer refused 20"),
+    (TO_FILM + 21, "offers to a film writer refused 21"),
+    (TO_FILM + 22, "offers to a film writer refused 22"),
+    (TO_FILM + 30, "offers to a film writer asked for again"),
 ];
 
 /// All of them have to be met.
@@ -71,7 +105,7 @@ pub const OWED: [u8; REASONS.len() - 1] = {
 };
 
 /// Where an input has the number of its calls, in one byte, and where the calls begin.
-pub const COUNT: usize = 12;
+pub const COUNT: usize = 13;
 pub const CALLS: usize = COUNT + 1;
 
 fn met(number: u8) -> Met {
@@ -80,7 +114,8 @@ fn met(number: u8) -> Met {
 
 /// An input's bytes, with no calls yet.
 pub fn config(c: &Config) -> Vec<u8> {
-    let mut bytes = u32::try_from(c.rate).unwrap().to_le_bytes().to_vec();
+    let mut bytes = vec![u8::try_from(c.mode).unwrap()];
+    bytes.extend(u32::try_from(c.rate).unwrap().to_le_bytes());
     bytes.extend(u16::try_from(c.buffer).unwrap().to_le_bytes());
     bytes.extend([c.rate_code, c.n, c.d, c.q, c.between, c.anchors, 0].map(|b| u8::try_from(b).unwrap()));
     bytes
@@ -100,7 +135,7 @@ pub fn add_state(input: &mut Vec<u8>, end: u64, whole: u64) {
 
 pub fn add_offer(input: &mut Vec<u8>, o: &Offer, part: usize) {
     input[COUNT] += 1;
-    input.extend([1, o.kind as u8, o.field.into(), o.last.into()]);
+    input.extend([1, o.kind as u8, o.interval, o.last.into()]);
     for n in [o.headers.len(), o.layer.len(), part] {
         input.extend(u16::try_from(n).unwrap().to_le_bytes());
     }
@@ -108,10 +143,21 @@ pub fn add_offer(input: &mut Vec<u8>, o: &Offer, part: usize) {
     input.extend(&o.layer);
 }
 
+/// A check of what a list handed out, in a mode; the output part has a place for each record.
+pub fn add_check(input: &mut Vec<u8>, mode: Mode, stream: &[u8], pictures: usize) {
+    input[COUNT] += 1;
+    input.extend([3, mode.number() as u8, 0, 0]);
+    for n in [stream.len(), 0, VBV_RECORD_BYTES * pictures] {
+        input.extend(u16::try_from(n).unwrap().to_le_bytes());
+    }
+    input.extend(stream);
+}
+
 pub enum Call {
     Withdrawal,
     Offer(Offer),
     State(u64, u64),
+    Check(Mode, Vec<u8>),
 }
 
 /// A call, the length of its output part, and the bytes after it.
@@ -123,11 +169,12 @@ pub fn call(s: &[u8]) -> (Call, usize, &[u8]) {
         1 => Call::Offer(Offer {
             headers: s[10..middle].to_vec(),
             kind: s[1].into(),
-            field: s[2] == 1,
+            interval: s[2],
             last: s[3] == 1,
             layer: s[middle..end].to_vec(),
         }),
-        _ => Call::State(number(&s[10..18]), number(&s[18..26])),
+        2 => Call::State(number(&s[10..18]), number(&s[18..26])),
+        _ => Call::Check(Mode::of(s[1].into()).unwrap(), s[10..middle].to_vec()),
     };
     (call, length(8), &s[end..])
 }
@@ -144,7 +191,7 @@ struct Beside {
     whole: bool,
     handed_out: Vec<u8>,
     /// Of each placed picture its delay, bits and field periods.
-    pictures: Vec<(u16, u64, u64)>,
+    pictures: Vec<[u64; 3]>,
     quantisers: Vec<u8>,
     met: Vec<Met>,
 }
@@ -155,11 +202,11 @@ impl Beside {
         Self { config, original, tries, compared: true, whole: true, handed_out, pictures, quantisers, met }
     }
 
-    /// Runs `emit` with the tries' layers, in turn.
-    fn emit(&self, original: &mut OracleWriter, qs: &mut Vec<u8>) -> bool {
+    /// Runs `emit` with the tries' layers, in turn, of a picture that lasts so many periods.
+    fn emit(&self, original: &mut OracleWriter, periods: u64, qs: &mut Vec<u8>) -> bool {
         let o = &self.tries[0];
         let mut layers = self.tries.iter().map(|t| t.layer.clone());
-        original.emit(&o.headers, o.kind, interval(o.field.into()), o.last, |q| {
+        original.emit_lasting(&o.headers, o.kind, periods, o.last, |q| {
             qs.push(q);
             layers.next()
         })
@@ -181,24 +228,25 @@ impl Beside {
     }
 
     /// After an offer that was placed, asked for again or refused.
-    fn offered(&mut self, after: &Writer, o: &Offer, told: Told, part: &[u8]) {
+    fn offered(&mut self, before: &Writer, after: &Writer, o: &Offer, told: Told, part: &[u8]) {
         if !matches!(told, Told::Refused(17..=20 | 14)) {
             self.tries.push(o.clone());
         }
         match told {
-            Told::Placed { q, delay, bytes, .. } => {
+            Told::Placed { q, delay, bytes, periods, .. } => {
                 self.handed_out.extend(&part[..bytes as usize]);
-                self.pictures.push((delay, 8 * bytes, if o.field { 1 } else { 2 }));
+                self.pictures.push([delay.into(), 8 * bytes, periods]);
                 self.quantisers.push(q);
                 self.compared &= self.alike();
                 if self.compared {
-                    self.placed(after, q);
+                    self.placed(after, q, periods);
                 }
+                self.count_film(after);
                 self.tries.clear();
             }
             Told::Refused(n @ (7 | 9 | 21 | 22)) => {
                 if self.compared && self.alike() {
-                    self.refused(n);
+                    self.refused(n, before.periods(o));
                 }
                 self.tries.pop();
                 if n == 21 {
@@ -209,19 +257,29 @@ impl Beside {
         }
     }
 
-    fn refused(&mut self, n: u8) {
+    /// Counts what a film writer placed.
+    fn count_film(&mut self, after: &Writer) {
+        if after.film && after.pictures.last().is_some_and(|p| p.repeat) {
+            self.met.push(met(WITH_FLAG));
+        }
+        if after.film && 1 < self.tries.len() {
+            self.met.push(met(FILM_OFFERED));
+        }
+    }
+
+    fn refused(&mut self, n: u8, periods: u64) {
         let (mut copy, mut qs) = (self.original.copy(), vec![]);
-        assert!(!self.emit(&mut copy, &mut qs), "emit does not refuse where the answer is {n}");
+        assert!(!self.emit(&mut copy, periods, &mut qs), "emit does not refuse where the answer is {n}");
         // It finds 7 before it asks for a layer, and 9 only where the size lets it.
         let asked = if n == 7 { 0 } else { self.tries.len() };
         assert!(n == 9 || qs.len() == asked, "emit refuses for another reason than {n}");
         self.met.push(met(NOT_EMITTED));
     }
 
-    fn placed(&mut self, after: &Writer, q: u8) {
+    fn placed(&mut self, after: &Writer, q: u8, periods: u64) {
         let mut original = self.original.copy();
         let mut qs = vec![];
-        assert!(self.emit(&mut original, &mut qs), "emit refuses a placed picture");
+        assert!(self.emit(&mut original, periods, &mut qs), "emit refuses a placed picture");
         assert_eq!(qs.len(), self.tries.len(), "emit asks for another number of layers");
         assert_eq!(qs.last(), Some(&q));
         assert!(original.out() == self.handed_out, "emit puts other bytes");
@@ -233,21 +291,34 @@ impl Beside {
         self.met.push(met(EMITTED));
     }
 
-    /// The original's check accepts what was handed out, with these records, and their periods are those of the offers.
-    fn checked(&mut self, finished: bool) {
+    /// The writer's own check accepts what was handed out, with these records: delay, expected delay, data bits and periods.
+    fn checked(&mut self, w: &Writer) {
         if self.pictures.is_empty() || !self.whole {
             return;
         }
-        let report = verify(VbvStandard::Mpeg2, &self.handed_out).expect("the check refuses");
-        let records = report.pictures.iter().map(|p| (p.vbv_delay, p.expected_delay, p.data_bits));
-        assert!(records.eq(self.pictures.iter().map(|&(delay, bits, _)| (delay, delay, bits))), "other records");
-        let told = periods(VbvStandard::Mpeg2, &self.handed_out);
-        assert!(told.iter().eq(self.pictures.iter().map(|(.., periods)| periods)), "other periods");
+        let [own, other] = if w.film { [FILM, PLAIN] } else { [PLAIN, FILM] };
+        let (mut part, mut others) = (self.records(), self.records());
+        let (told, report) = judged(own, &self.handed_out, &mut part);
+        assert_eq!(told, ACCEPTED, "the check refuses what was handed out");
+        assert_eq!(report[2], self.pictures.len() as u64);
+        for (record, &[delay, bits, periods]) in part.chunks(VBV_RECORD_BYTES).zip(&self.pictures) {
+            let [coded, expected, data, _, lasts] = [0, 8, 16, 24, 32].map(|at| number(&record[at..at + 8]));
+            assert_eq!([coded, expected, data, lasts], [delay, delay, bits, periods], "another record");
+        }
         self.met.push(met(CHECKED));
-        if finished {
+        if w.finished {
             self.met.push(met(FINISHED));
         }
+        let alike = judged(other, &self.handed_out, &mut others) == (ACCEPTED, report) && part == others;
+        assert!(w.film || alike, "the film check reports a plain writer's stream otherwise");
+        let film = [met(OF_FILM), met(FILM_ALONE)];
+        let counted: &[Met] = if !w.film { &[met(SAME_REPORT)] } else { &film[..2 - usize::from(alike)] };
+        self.met.extend(counted);
         self.rate_shown();
+    }
+
+    fn records(&self) -> Vec<u8> {
+        pattern(VBV_RECORD_BYTES * self.pictures.len())
     }
 
     /// Counts how the header of what was handed out shows the rate.
@@ -271,13 +342,14 @@ fn state(out: &mut Vec<u8>, w: &Writer) {
     out.extend(w.q);
     out.extend(w.pending.map_or([0, 0], |(kind, q)| [kind as u8 + 1, q]));
     out.push(w.finished.into());
+    out.extend(cadence(w).map(|word| word as u8));
     words(out, &[w.stuffing]);
     words(out, &w.model());
 }
 
 fn in_words(told: Told) -> (u8, [u64; 4]) {
     match told {
-        Told::Placed { q, delay, bytes, stuffing } => (0, [q.into(), delay.into(), bytes, stuffing]),
+        Told::Placed { q, delay, bytes, stuffing, .. } => (0, [q.into(), delay.into(), bytes, stuffing]),
         Told::Again(q) => (AGAIN, [q.into(), 0, 0, 0]),
         Told::Refused(n) => (n, [0; 4]),
     }
@@ -286,14 +358,15 @@ fn in_words(told: Told) -> (u8, [u64; 4]) {
 /// What the writer of an input is created with.
 pub fn configured(input: &[u8]) -> Config {
     Config {
-        rate: number(&input[..4]),
-        buffer: number(&input[4..6]),
-        rate_code: input[6].into(),
-        n: input[7].into(),
-        d: input[8].into(),
-        q: input[9].into(),
-        between: input[10].into(),
-        anchors: input[11].into(),
+        mode: input[0].into(),
+        rate: number(&input[1..5]),
+        buffer: number(&input[5..7]),
+        rate_code: input[7].into(),
+        n: input[8].into(),
+        d: input[9].into(),
+        q: input[10].into(),
+        between: input[11].into(),
+        anchors: input[12].into(),
     }
 }
 
@@ -308,7 +381,7 @@ fn original(c: &Config) -> OracleWriter {
 }
 
 /// Makes a call on the model, with the original beside it: the answer's number and words.
-fn called(call: Call, w: &mut Writer, beside: &mut Beside, part: &mut [u8]) -> (u8, [u64; 4]) {
+fn called(call: &Call, w: &mut Writer, beside: &mut Beside, part: &mut [u8]) -> (u8, [u64; 4]) {
     match call {
         Call::Withdrawal => {
             w.withdraw();
@@ -316,14 +389,20 @@ fn called(call: Call, w: &mut Writer, beside: &mut Beside, part: &mut [u8]) -> (
             (WITHDRAWN, [0; 4])
         }
         Call::State(end, whole) => {
-            w.set(end, whole);
+            w.set(*end, *whole);
             beside.set();
             (SET, [0; 4])
         }
         Call::Offer(o) => {
-            let told = w.offer(&o, part);
-            beside.offered(w, &o, told, part);
+            let before = w.clone();
+            let told = w.offer(o, part);
+            beside.offered(&before, w, o, told, part);
             in_words(told)
+        }
+        Call::Check(mode, stream) => {
+            assert_eq!(*stream, beside.handed_out, "another stream than what was handed out");
+            let ((number, _), [a, b, c, d, e]) = judged(*mode, stream, part);
+            if number == 0 { (PASSED, [a, c, d, e]) } else { (number, [a, b, c, d]) }
         }
     }
 }
@@ -337,21 +416,31 @@ pub fn answer(input: &[u8]) -> Answer {
     let original = original(&c);
     assert_eq!(original.targets(), w.targets);
     let mut beside = Beside::new(c, original);
-    let mut answer = Answer { bytes: vec![0], met: vec![] };
+    let mut answer = Answer { bytes: vec![0], met: vec![], film: None };
+    if w.film {
+        answer.met.push(met(FILM_LISTS));
+    }
     words(&mut answer.bytes, &w.targets);
     let mut rest = &input[CALLS..];
     while !rest.is_empty() {
         let (call, part, after) = call(rest);
         rest = after;
         let mut part = pattern(part);
-        let (number, told) = called(call, &mut w, &mut beside, &mut part);
-        answer.met.push(met(number));
+        let (number, told) = called(&call, &mut w, &mut beside, &mut part);
+        let refused = matches!(call, Call::Check(..)) && number != PASSED;
+        answer.met.push(met(if refused { NOT_PASSED } else { number }));
+        if w.film && matches!(call, Call::Offer(..)) {
+            answer.met.push(met(TO_FILM + if number == AGAIN { 30 } else { number }));
+        }
         answer.bytes.push(number);
         words(&mut answer.bytes, &told);
         state(&mut answer.bytes, &w);
         answer.bytes.extend(part);
     }
-    beside.checked(w.finished);
+    beside.checked(&w);
     answer.met.extend(beside.met);
+    if w.film && beside.whole {
+        answer.film = Some((w.sequence, w.pictures));
+    }
     answer
 }

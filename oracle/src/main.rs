@@ -2,28 +2,32 @@
 //!
 //!     cases [known] [short] [edges] [every] SEED COUNT KIND..|19|small
 //!
-//! known: first the headers and streams that have a name; short: then all inputs of at most two bytes; edges: then those around each
-//! boundary; every: then all 2^24 of kind 14; then COUNT drawn ones. Kind 19, lists of calls of the writer, goes to another program and stands alone;
-//! small: the same, but only lists of few bytes.
+//! known: first the headers and streams that have a name; short: then all inputs of at most two bytes; edges: then those around
+//! each boundary; every: then all 2^24 of kind 14; then COUNT drawn ones. Kind 19, lists of calls of the writer, goes to
+//! another program and stands alone; small: the same, but only lists of few bytes.
 //!
-//!     cases stream 1|2 FILE
+//! Kind 20, streams in film mode, brings 21 to 23: the same streams in the other modes.
 //!
-//! The original's answer for an MPEG-1 or MPEG-2 stream, as `vbvcheck` would print it.
+//!     cases stream 1|2|6 FILE
+//!
+//! The original's answer for an MPEG-1 or MPEG-2 stream, as `vbvcheck` would print it; 6: in film mode.
 
 use oracle::answers::{KINDS, answer};
 use oracle::draw::Draw;
-use oracle::{calls, check, checks, headers, known, lists, sends, writers};
-use original::vbv::VbvStandard;
+use oracle::mode::Mode;
+use oracle::rows::Rows;
+use oracle::{calls, check, checks, headers, known, lists, sends, worked, writers};
 use std::collections::BTreeMap;
 use std::io::{BufWriter, Stdout, Write, stdout};
 use std::process::exit;
 
 /// How often each kind is drawn.
-const WEIGHTS: [usize; 19] = [12, 8, 16, 12, 8, 16, 6, 10, 2, 6, 3, 1, 1, 2, 24, 4, 40, 60, 1];
+const WEIGHTS: [usize; 20] = [12, 8, 16, 12, 8, 16, 6, 10, 2, 6, 3, 1, 1, 2, 24, 4, 40, 60, 1, 20];
 
 struct Cases {
     out: BufWriter<Stdout>,
     seen: BTreeMap<(u8, u8, &'static str), u64>,
+    rows: Rows,
     count: u64,
 }
 
@@ -33,18 +37,27 @@ impl Cases {
         for (number, reason) in answer.met {
             *self.seen.entry((kind, number, reason)).or_default() += 1;
         }
+        if let Some((sequence, pictures)) = answer.film {
+            self.rows.count(sequence, &pictures);
+        }
         self.count += 1;
         let length = |bytes: &[u8]| u16::try_from(bytes.len()).unwrap().to_le_bytes();
         let case = [&[kind], &length(input)[..], &length(&answer.bytes), input, &answer.bytes].concat();
         self.out.write_all(&case).unwrap_or_else(|_| exit(1));
     }
 
+    /// A stream of kind 20 is a case of each mode.
+    fn put_all(&mut self, kind: u8, input: &[u8]) {
+        let kinds = if kind == 20 { 20..=23 } else { kind..=kind };
+        kinds.for_each(|kind| self.put(kind, input));
+    }
+
     fn known(&mut self, kind: u8) {
         for (name, bytes) in known::known(kind) {
             let input = if kind < 17 { bytes } else { checks::with_room(&bytes) };
-            self.put(kind, &input);
+            self.put_all(kind, &input);
             match kind {
-                17 | 18 => eprintln!("known: {name}: {}", checks::told(kind, &input)),
+                17 | 18 | 20 => eprintln!("known: {name}: {}", checks::told(kind, &input)),
                 _ => eprintln!("known: {name}: {}", answer(kind, &input).bytes[0]),
             }
         }
@@ -57,12 +70,12 @@ impl Cases {
     }
 
     fn edges(&mut self, kind: u8, d: &mut Draw) {
-        let put = &mut |input: &[u8]| self.put(kind, input);
+        let put = &mut |input: &[u8]| self.put_all(kind, input);
         match kind {
             1..=7 => headers::edges(kind, d, put),
             8..=13 => writers::edges(kind, d, put),
             14..=16 => calls::edges(kind, d, put),
-            17 | 18 => checks::edges(kind, d, put),
+            17 | 18 | 20 => checks::edges(kind, d, put),
             _ => {}
         }
     }
@@ -70,20 +83,24 @@ impl Cases {
     /// Says what was made; false where a refusal that a kind can give is missing, or what else it has to meet.
     fn report(&self, kinds: &[u8]) -> bool {
         let mut complete = true;
-        for &kind in kinds {
+        let others = if kinds.contains(&20) { 21..24 } else { 0..0 };
+        for kind in kinds.iter().copied().chain(others) {
             let (name, refusals) = KINDS[kind as usize - 1];
             let of = |number: u8| self.seen.iter().filter(move |((k, n, _), _)| (*k, *n) == (kind, number));
             eprintln!("{name}: {} accepted", of(0).map(|(_, n)| n).sum::<u64>());
             for &number in refusals {
                 for ((_, _, reason), n) in of(number) {
                     match number {
-                        lists::SET.. => eprintln!("    {n} {reason}"),
+                        lists::PASSED.. => eprintln!("    {n} {reason}"),
                         _ => eprintln!("    {n} refused {number}: {reason}"),
                     }
                 }
                 complete &= of(number).next().is_some();
             }
-            complete &= of(0).next().is_some();
+            complete &= kind == 23 || of(0).next().is_some();
+        }
+        if kinds.iter().any(|&kind| 19 <= kind) {
+            complete &= self.rows.report();
         }
         eprintln!("cases {}", self.count);
         complete
@@ -96,19 +113,18 @@ fn drawn(kind: u8, d: &mut Draw) -> Vec<u8> {
         1..=7 => headers::drawn(kind, d),
         8..=13 => writers::drawn(kind, d),
         14..=16 => calls::drawn(kind, d),
-        17 | 18 => checks::drawn(kind, d),
+        17 | 18 | 20 => checks::drawn(kind, d),
         _ => sends::drawn(d),
     }
 }
 
 /// Prints the original's answer for a stream in a file.
-fn stream(standard: &str, file: &str) {
-    let standard = if standard == "1" { VbvStandard::Mpeg1 } else { VbvStandard::Mpeg2 };
+fn stream(mode: Mode, file: &str) {
     let bytes = std::fs::read(file).unwrap_or_else(|e| {
         eprintln!("cases: {file}: {e}");
         exit(2)
     });
-    print!("{}", check::lines(standard, &bytes));
+    print!("{}", check::lines(mode, &bytes));
 }
 
 /// What the command line asks for.
@@ -136,7 +152,7 @@ fn asked(mut words: Vec<String>) -> Option<Asked> {
     if small {
         kinds.push(19);
     }
-    let some = !kinds.is_empty() && kinds.iter().all(|k| (1..=19).contains(k));
+    let some = !kinds.is_empty() && kinds.iter().all(|k| (1..=20).contains(k));
     let alone = !kinds.contains(&19) || kinds.len() == 1;
     (some && alone).then_some(Asked { known, short, edges, every, small, seed: *seed, count: *count, kinds })
 }
@@ -144,7 +160,8 @@ fn asked(mut words: Vec<String>) -> Option<Asked> {
 /// Writes all cases that are asked for.
 fn write(asked: &Asked) -> Cases {
     let mut d = Draw(asked.seed);
-    let mut cases = Cases { out: BufWriter::new(stdout()), seen: BTreeMap::new(), count: 0 };
+    let (out, seen, rows) = (BufWriter::new(stdout()), BTreeMap::new(), Rows::default());
+    let mut cases = Cases { out, seen, rows, count: 0 };
     for &kind in &asked.kinds {
         if asked.known {
             cases.known(kind);
@@ -163,7 +180,7 @@ fn write(asked: &Asked) -> Cases {
     for _ in 0..asked.count {
         let kind = lots[d.below(lots.len())];
         let input = if asked.small { sends::small(&mut d) } else { drawn(kind, &mut d) };
-        cases.put(kind, &input);
+        cases.put_all(kind, &input);
     }
     cases.out.flush().unwrap_or_else(|_| exit(1));
     cases
@@ -171,16 +188,17 @@ fn write(asked: &Asked) -> Cases {
 
 fn main() {
     let words: Vec<String> = std::env::args().skip(1).collect();
-    if let [mode, standard @ ("1" | "2"), file] = &words.iter().map(String::as_str).collect::<Vec<_>>()[..] {
-        if *mode == "stream" {
-            return stream(standard, file);
-        }
+    if let ["stream", number, file] = words.iter().map(String::as_str).collect::<Vec<_>>()[..]
+        && let Some(mode) = number.parse().ok().and_then(Mode::of)
+    {
+        return stream(mode, file);
     }
     let Some(asked) = asked(words) else {
         eprintln!("usage: cases [known] [short] [edges] [every] SEED COUNT KIND..|19|small");
-        eprintln!("       cases stream 1|2 FILE");
+        eprintln!("       cases stream 1|2|6 FILE");
         exit(2);
     };
+    worked::hold();
     if !write(&asked).report(&asked.kinds) {
         exit(1);
     }

@@ -26,6 +26,9 @@ const STARTED_TWICE: Met = (13, "started twice");
 const FAR_OUT: Met = (14, "a position or an end above 2^48");
 const BACK: Met = (14, "an end below the previous one");
 
+/// What else is counted: states that six of the greatest field periods lead to, and fewer do not. A number above those of check.rs.
+pub const BEYOND: u8 = 167;
+
 /// A call: which (1 to 6), its position or end, its delay or its interval.
 #[derive(Clone, Copy)]
 pub struct Call {
@@ -40,8 +43,22 @@ pub struct Model {
     started: bool,
 }
 
-pub fn interval(code: u16) -> RemovalInterval {
-    if code == 0 { RemovalInterval::Frame } else { RemovalInterval::Field }
+/// The field periods of an interval by its code: a frame, a field, three fields, two frames, three frames.
+pub const PERIODS: [u32; 5] = [2, 1, 3, 4, 6];
+
+/// The code of an interval of so many periods.
+pub fn interval_of(periods: u64) -> u16 {
+    PERIODS.iter().position(|&n| u64::from(n) == periods).expect("an interval") as u16
+}
+
+/// The original's interval, and the frd to give with it. It has frames and fields alone; as it multiplies a field's time by frd, a
+/// frd that is so many times as great makes an interval of so many fields.
+pub fn interval(code: u16, frd: u32) -> (RemovalInterval, u32) {
+    match code {
+        0 => (RemovalInterval::Frame, frd),
+        1 => (RemovalInterval::Field, frd),
+        _ => (RemovalInterval::Field, PERIODS[usize::from(code)] * frd),
+    }
 }
 
 /// The number of the original's refusal of a model or of a stream.
@@ -98,15 +115,23 @@ impl Model {
                 Err(e) => plain(refusal(e)),
             },
             3 if c.place < self.state()[2] => plain(BACK),
-            3 => match self.model.remove_picture(c.place, interval(c.small), self.frd) {
-                Ok(()) => Ok(self.state().to_vec()),
-                Err(VbvViolation::Overflow { picture }) => Err(((9, "overflow"), vec![picture as u64])),
-                Err(VbvViolation::Underflow { picture }) => Err(((10, "underflow"), vec![picture as u64])),
-                Err(_) => unreachable!("no mismatch in a removal"),
-            },
+            3 => self.remove(c.place, c.small),
             4 => Ok(vec![self.model.max_end_bits()]),
-            5 => Ok(vec![self.model.min_end_bits(interval(c.small), self.frd)]),
+            5 => {
+                let (interval, frd) = interval(c.small, self.frd);
+                Ok(vec![self.model.min_end_bits(interval, frd)])
+            }
             _ => Ok(vec![u64::try_from(self.model.occupancy_before_removal_bits()).unwrap()]),
+        }
+    }
+
+    fn remove(&mut self, end: u64, code: u16) -> Result<Vec<u64>, (Met, Vec<u64>)> {
+        let (interval, frd) = interval(code, self.frd);
+        match self.model.remove_picture(end, interval, frd) {
+            Ok(()) => Ok(self.state().to_vec()),
+            Err(VbvViolation::Overflow { picture }) => Err(((9, "overflow"), vec![picture as u64])),
+            Err(VbvViolation::Underflow { picture }) => Err(((10, "underflow"), vec![picture as u64])),
+            Err(_) => unreachable!("no mismatch in a removal"),
         }
     }
 }
@@ -126,6 +151,9 @@ pub fn calls(input: &[u8]) -> Answer {
             Err(refused) => refused,
         };
         answer.met.push(met);
+        if met == ACCEPTED && call.which == 3 && 1 << 55 < value[0] {
+            answer.met.push((BEYOND, "states of more than 2^55 whole bits"));
+        }
         answer.bytes.push(met.0);
         words(&mut answer.bytes, &value);
     }

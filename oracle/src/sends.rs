@@ -2,15 +2,16 @@
 
 use crate::draw::Draw;
 use crate::headers::{self, Field, damage, filler, pack, user_data};
-use crate::lists::{ALL_25, COUNT, add_offer, add_state, add_withdrawal, answer, config};
+use crate::lists::{ALL_25, COUNT, add_check, add_offer, add_state, add_withdrawal, answer, config};
+use crate::mode::{FILM, MPEG1, MPEG1_FILM, PLAIN};
 use crate::model::{BUFFER_UNIT, FAR, RATE_UNIT};
 use crate::streams::{frame_rate, least_rate};
-use crate::writer::{Config, Offer, Told, Writer};
+use crate::writer::{Config, FIELD, FRAME, Offer, Told, Writer};
 
-/// Bytes that a layer, a part and a list with its answer have at most.
+/// Bytes that a layer, a part, and a list with its answer have at most; what it hands out is checked twice, and so is in it twice.
 const MOST_LAYER: u64 = 6_000;
 const MOST_PART: u64 = 9_000;
-const MOST_LIST: usize = 40_000;
+const MOST_LIST: usize = 60_000;
 
 /// A code, n and d: of the table, of 25/1, near the table's, or any.
 fn a_rate(d: &mut Draw) -> [u64; 3] {
@@ -28,6 +29,7 @@ fn a_config(d: &mut Draw) -> Config {
     let more = [0, d.below(8), d.below(100), d.below(100), d.below(600), d.below(600), d.below(3000), d.below(1 << 18)];
     let [rate_code, n, of_d] = a_rate(d);
     let mut c = Config {
+        mode: if d.one_in(2) { FILM } else { PLAIN }.number(),
         rate: (least_rate(buffer) + more[d.below(8)] as u64).min(262_143),
         buffer,
         rate_code,
@@ -46,7 +48,8 @@ fn a_config(d: &mut Draw) -> Config {
     let faults = if d.one_in(12) { 1 + d.below(2) } else { 0 };
     for _ in 0..faults {
         let byte = u64::from(d.byte());
-        match d.below(10) {
+        match d.below(11) {
+            10 => c.mode = if d.one_in(2) { MPEG1 } else { MPEG1_FILM }.number(),
             0 => c.rate = [0, 262_144, d.next() % (1 << 32)][d.below(3)],
             1 => c.buffer = [0, 1024, d.next() % (1 << 16)][d.below(3)],
             2 | 3 => c.rate_code = [0, 9, byte][d.below(3)],
@@ -133,8 +136,17 @@ fn some_headers(w: &Writer, c: &Config, d: &mut Draw) -> Vec<u8> {
     h
 }
 
+/// What a layer shows.
+#[derive(Clone, Copy)]
+struct Shown {
+    kind: usize,
+    field: bool,
+    /// Any repeat_first_field.
+    film: bool,
+}
+
 /// A picture header and its extension as fields, perhaps with something in them that does not fit.
-fn front(kind: usize, field: bool, d: &mut Draw) -> (Vec<Field>, Vec<Field>) {
+fn front(Shown { kind, field, film }: Shown, d: &mut Draw) -> (Vec<Field>, Vec<Field>) {
     let extra = if d.one_in(16) { d.below(10) } else { 0 };
     let mut header = headers::picture_header(kind as u64 + 1, extra, d);
     for i in 0..kind {
@@ -146,7 +158,7 @@ fn front(kind: usize, field: bool, d: &mut Draw) -> (Vec<Field>, Vec<Field>) {
     }
     let mut extension = headers::picture_coding_extension(d);
     extension[7].1 = if field { 1 + d.below(2) as u64 } else { 3 };
-    extension[14].1 = 0;
+    extension[14].1 = (film && d.one_in(2)).into();
     if d.one_in(16) {
         match d.below(3) {
             0 => {
@@ -164,8 +176,8 @@ fn front(kind: usize, field: bool, d: &mut Draw) -> (Vec<Field>, Vec<Field>) {
 }
 
 /// A layer of a length, or of the least that is possible.
-fn a_layer(kind: usize, field: bool, length: u64, d: &mut Draw) -> Vec<u8> {
-    let (header, extension) = front(kind, field, d);
+fn a_layer(shown: Shown, length: u64, d: &mut Draw) -> Vec<u8> {
+    let (header, extension) = front(shown, d);
     let mut l = pack(&header);
     if d.one_in(16) {
         l.extend(vec![0; d.below(4)]);
@@ -240,15 +252,23 @@ fn an_offer(w: &Writer, c: &Config, before: Option<&Offer>, close: bool, d: &mut
         _ => Offer {
             headers: some_headers(w, c, d),
             kind,
-            field: d.one_in(4),
+            interval: an_interval(w.film, d),
             last: close || d.one_in(16),
             layer: vec![],
         },
     };
     let n = if pending.is_some() && d.one_in(2) { w.room(o.headers.len()) + 1 } else { length(w, &o, d) };
-    let (shown, field) = (if d.one_in(64) { d.below(3) } else { o.kind }, o.field != d.one_in(64));
-    o.layer = a_layer(shown, field, n, d);
+    let kind = if d.one_in(64) { d.below(3) } else { o.kind };
+    o.layer = a_layer(Shown { kind, field: (o.interval == FIELD) != d.one_in(64), film: w.film }, n, d);
     o
+}
+
+/// Frame or field, now and then another, which no offer may have.
+fn an_interval(film: bool, d: &mut Draw) -> u8 {
+    if d.one_in(96) {
+        return 2 + d.below(3) as u8;
+    }
+    if d.one_in(if film { 2 } else { 4 }) { FIELD } else { FRAME }
 }
 
 /// The length of an output part, mostly enough.
@@ -282,14 +302,16 @@ pub fn drawn(d: &mut Draw) -> Vec<u8> {
     let far = d.one_in(40);
     let mut before = None;
     let mut size = 0;
+    let (mut handed_out, mut pictures, mut whole) = (vec![], 0, true);
     for n in 0..calls {
         if w.finished && !d.one_in(3) {
             break;
         }
         if far && d.one_in(3) {
-            let (end, whole) = a_far_state(&c, d);
-            w.set(end, whole);
-            add_state(&mut input, end, whole);
+            let (end, delivered) = a_far_state(&c, d);
+            w.set(end, delivered);
+            add_state(&mut input, end, delivered);
+            whole = false;
             size += 120;
             continue;
         }
@@ -301,23 +323,31 @@ pub fn drawn(d: &mut Draw) -> Vec<u8> {
         }
         let o = an_offer(&w, &c, before.as_ref(), n + 2 >= calls, d);
         let part = a_part(&w, &o, d);
-        size += o.headers.len() + o.layer.len() + part + 100;
-        if MOST_LIST < size {
+        size += o.headers.len() + o.layer.len() + part + 200;
+        if MOST_LIST < size + 2 * (handed_out.len() + part) {
             break;
         }
-        w.offer(&o, &mut vec![0; part]);
+        let mut out = vec![0; part];
+        if let Told::Placed { bytes, .. } = w.offer(&o, &mut out) {
+            handed_out.extend(&out[..bytes as usize]);
+            pictures += 1;
+        }
         add_offer(&mut input, &o, part);
         before = Some(o);
+    }
+    if whole && 0 < pictures {
+        add_check(&mut input, FILM, &handed_out, pictures);
+        add_check(&mut input, PLAIN, &handed_out, pictures);
     }
     input
 }
 
-/// One list that has at most 4,000 bytes with its answer, more often than not of at least four calls.
+/// One list that has at most 6,000 bytes with its answer, more often than not of at least four calls.
 pub fn small(d: &mut Draw) -> Vec<u8> {
     loop {
         let input = drawn(d);
         let few = input[COUNT] < 4 && !d.one_in(4);
-        if !few && input.len() + answer(&input).bytes.len() <= 4_000 {
+        if !few && input.len() + answer(&input).bytes.len() <= 6_000 {
             return input;
         }
     }

@@ -1,6 +1,8 @@
 //! A writer's state as bytes, read and written by docs/LAYOUT.md and docs/DECISIONS.md alone.
 
+use crate::cadence::{LED_BY_OTHER, Sequence, leaving, left};
 use crate::layout::CBR_STATE_BYTES;
+use crate::mode::{FILM, Mode, PLAIN};
 use crate::model::{FAR, MOST_FRD, MOST_FRN, MOST_RATE, widest};
 use crate::writer::Writer;
 
@@ -15,7 +17,22 @@ pub fn words(w: &Writer) -> [u64; WORDS] {
     let params = [w.rate, w.buffer, w.frn, w.frd].map(|n| n as u64);
     let [rate, buffer, frn, frd] = params;
     let (started, finished) = (w.started.into(), w.finished.into());
-    [rate, buffer, frn, frd, whole, rest, end, removed, started, i, p, b, q_i, q_p, q_b, kind, q, w.stuffing, finished]
+    let model = [rate, buffer, frn, frd, whole, rest, end, removed, started];
+    all(model, [i, p, b, q_i, q_p, q_b, kind, q, w.stuffing, finished], cadence(w))
+}
+
+/// The model's words, the writer's, and those of its mode and cadence.
+fn all(model: [u64; 9], writer: [u64; 10], cadence: [u64; 6]) -> [u64; WORDS] {
+    [&model[..], &writer, &cadence].concat().try_into().unwrap()
+}
+
+/// The mode and what a film writer's placed pictures leave, zeros of a plain one.
+pub fn cadence(w: &Writer) -> [u64; 6] {
+    if !w.film {
+        return [PLAIN.number(), 0, 0, 0, 0, 0];
+    }
+    let [repeat, top, open] = left(&w.pictures);
+    [FILM.number(), w.sequence.progressive.into(), w.sequence.low_delay.into(), repeat, top, open]
 }
 
 /// The words that bytes begin with.
@@ -30,22 +47,26 @@ pub fn limits(s: &[u64; WORDS]) -> [u64; WORDS] {
     let rest = (180_000 * u128::from(s[2])).saturating_sub(1) as u64;
     let bytes = s[6] / 8;
     let q = if s[15] == 0 { 0 } else { 31 };
-    [MOST_RATE, buffer, MOST_FRN, MOST_FRD, 1 << 55, rest, FAR, bytes, 1, FAR, FAR, FAR, 31, 31, 31, 3, q, bytes, 1]
+    let (flag, open) = if s[19] == FILM.number() { (1, LED_BY_OTHER) } else { (0, 0) };
+    let model = [MOST_RATE, buffer, MOST_FRN, MOST_FRD, 1 << 57, rest, FAR, bytes, 1];
+    all(model, [FAR, FAR, FAR, 31, 31, 31, 3, q, bytes, 1], [FILM.number(), flag, flag, flag, flag, open])
 }
 
 /// The least value of each word.
 fn least(s: &[u64; WORDS]) -> [u64; WORDS] {
     let q = (s[15] != 0).into();
-    [1, 1, 1, 1, 0, 0, 0, 0, 0, 0, 0, 0, 1, 1, 1, 0, q, 0, 0]
+    all([1, 1, 1, 1, 0, 0, 0, 0, 0], [0, 0, 0, 1, 1, 1, 0, q, 0, 0], [PLAIN.number(), 0, 0, 0, 0, 0])
 }
 
 /// The writer that bytes hold: none, where they are too few or a value is out of its range.
 pub fn held(bytes: &[u8]) -> Option<Writer> {
     let s = words_of(bytes)?;
     let (least, limits) = (least(&s), limits(&s));
-    if (0..WORDS).any(|k| s[k] < least[k] || limits[k] < s[k]) || s[6] % 8 != 0 {
+    let modes = [PLAIN, FILM].map(Mode::number);
+    if (0..WORDS).any(|k| s[k] < least[k] || limits[k] < s[k]) || s[6] % 8 != 0 || !modes.contains(&s[19]) {
         return None;
     }
+    let film = s[19] == FILM.number();
     Some(Writer {
         rate: s[0].into(),
         buffer: s[1].into(),
@@ -60,5 +81,8 @@ pub fn held(bytes: &[u8]) -> Option<Writer> {
         placed: s[7],
         stuffing: s[17],
         finished: s[18] == 1,
+        film,
+        sequence: Sequence { progressive: s[20] == 1, low_delay: s[21] == 1 },
+        pictures: if film { leaving([s[22], s[23], s[24]]) } else { vec![] },
     })
 }

@@ -1,8 +1,10 @@
-//! Streams for kinds 17 and 18, made picture by picture with the original's model: valid ones, and ones with a fault.
+//! Streams for kinds 17, 18 and 20, made picture by picture with the original's model: valid ones, and ones with a fault. Those for
+//! film mode last as cadence.rs says.
 
+use crate::cadence::{Facts, Sequence, last_periods};
 use crate::draw::Draw;
 use crate::headers::{self, filler, pack};
-use crate::model::{BUFFER_UNIT, Call, Model, RATE_UNIT};
+use crate::model::{BUFFER_UNIT, Call, Model, RATE_UNIT, interval_of};
 
 const FRAME_RATES: [(u64, u64); 8] =
     [(24_000, 1001), (24, 1), (25, 1), (30_000, 1001), (30, 1), (50, 1), (60_000, 1001), (60, 1)];
@@ -16,12 +18,15 @@ pub fn frame_rate(code: u64, n: u64, d: u64) -> (u64, u64) {
 /// Bytes that a picture is at most filled up with to reach its least end; more where long intervals ask for them.
 const FILL: u64 = 240;
 const LONG_FILL: u64 = 3_000;
+const FILM_FILL: u64 = 800;
 
-/// Which check a stream is made for: fields, n and d count in MPEG-2's alone. And whether it has MPEG-2's extensions.
+/// Which check a stream is made for: fields, n and d count in MPEG-2's alone, flags in film mode's. And whether it has MPEG-2's
+/// extensions.
 #[derive(Clone, Copy)]
 pub struct Form {
     pub mpeg2: bool,
     pub extensions: bool,
+    pub film: bool,
 }
 
 #[derive(Clone, Copy, PartialEq)]
@@ -83,6 +88,10 @@ struct Plan {
     fill: u64,
     /// Of eight pictures, how many are fields.
     fields: usize,
+    /// Of the first sequence extension, in film mode.
+    sequence: Sequence,
+    /// Kinds (0, 1, 2 for I, P, B) and facts of the pictures, where they are not drawn.
+    given: Vec<(usize, Facts)>,
     /// Zeros at the end of a header serve as those of the next start code.
     shared: bool,
     end_code: bool,
@@ -93,6 +102,7 @@ struct Stream {
     plan: Plan,
     model: Option<Model>,
     bytes: Vec<u8>,
+    pictures: Vec<Facts>,
 }
 
 /// The least rate field that allows a buffer field.
@@ -109,14 +119,20 @@ fn plan(form: Form, fault: Fault, d: &mut Draw) -> Plan {
     let mut pictures = if d.one_in(8) { 1 + d.below(30) } else { 1 + d.below(7) };
     let (rate_bits, buffer_bits) = if form.mpeg2 && d.one_in(2) { (30, 18) } else { (18, 10) };
     let mut buffer = if d.one_in(3) { d.nonzero(buffer_bits) } else { 1 + d.below(3) as u64 };
-    let more = [0, d.below(3), d.below(60), d.below(1 << 18)][d.below(4)] as u64;
+    let most = if form.film { 400 } else { 1 << 18 };
+    let more = [0, d.below(3), d.below(60), d.below(most)][d.below(4)] as u64;
     let mut rate = (least_rate(buffer) + more).min((1 << rate_bits) - 1);
     if rate % (1 << 18) == 0 {
         rate += 1;
     }
     let mut rate_code = 1 + d.below(8) as u64;
     let mut more_rate = if form.extensions && d.one_in(2) { (d.value(2), d.value(5)) } else { (0, 0) };
-    let fill = if more_rate.1 != 0 && d.one_in(4) { LONG_FILL } else { FILL };
+    let mut fill = if more_rate.1 != 0 && d.one_in(4) { LONG_FILL } else { FILL };
+    let mut sequence = Sequence::default();
+    if form.film {
+        fill = fill.max(FILM_FILL);
+        sequence = Sequence { progressive: d.one_in(2), low_delay: d.one_in(2) };
+    }
     if fill == LONG_FILL {
         pictures = pictures.min(7);
     }
@@ -144,7 +160,13 @@ fn plan(form: Form, fault: Fault, d: &mut Draw) -> Plan {
         rate_code,
         more_rate,
         fill,
-        fields: if form.extensions { [0, 0, 4, 8][d.below(4)] } else { 0 },
+        fields: match form {
+            Form { film: true, .. } => [0, 3, 5, 8][d.below(4)],
+            Form { extensions: true, .. } => [0, 0, 4, 8][d.below(4)],
+            _ => 0,
+        },
+        sequence,
+        given: vec![],
         shared: d.one_in(4),
         end_code: d.one_in(2),
     }
@@ -153,10 +175,34 @@ fn plan(form: Form, fault: Fault, d: &mut Draw) -> Plan {
 /// One stream.
 pub fn drawn(form: Form, fault: Fault, d: &mut Draw) -> Vec<u8> {
     let plan = plan(form, fault, d);
+    made(plan, d)
+}
+
+/// A valid stream of pictures of these kinds and facts, in film mode.
+pub fn of(pictures: &[(usize, Facts)], sequence: Sequence, d: &mut Draw) -> Vec<u8> {
+    let form = Form { mpeg2: true, extensions: true, film: true };
+    let plan = Plan {
+        pictures: pictures.len(),
+        rate: least_rate(1) + 20,
+        buffer: 1,
+        rate_code: 4,
+        more_rate: (0, 0),
+        fill: FILM_FILL,
+        sequence,
+        given: pictures.to_vec(),
+        shared: false,
+        end_code: true,
+        ..plan(form, Fault::None, d)
+    };
+    made(plan, d)
+}
+
+fn made(plan: Plan, d: &mut Draw) -> Vec<u8> {
+    let form = plan.form;
     let (n, of_d) = if form.mpeg2 { plan.more_rate } else { (0, 0) };
     let (frn, frd) = frame_rate(plan.rate_code.clamp(1, 8), n, of_d);
     let model = Model::new([RATE_UNIT * plan.rate, BUFFER_UNIT * plan.buffer, frn, frd]).ok();
-    let mut stream = Stream { plan, model, bytes: vec![] };
+    let mut stream = Stream { plan, model, bytes: vec![], pictures: vec![] };
     let late = stream.plan.fault == Fault::Late;
     if !late && stream.plan.fault != Fault::NoSequence {
         stream.sequence(d);
@@ -200,6 +246,10 @@ impl Stream {
                 extension[9].1 = self.plan.buffer >> 10;
             }
             (extension[11].1, extension[12].1) = self.plan.more_rate;
+            if self.plan.form.film {
+                let Sequence { progressive, low_delay } = self.plan.sequence;
+                (extension[3].1, extension[10].1) = (progressive.into(), low_delay.into());
+            }
             self.put(&pack(&extension));
         }
     }
@@ -207,11 +257,18 @@ impl Stream {
     /// What may stand before a picture: another sequence header, a group header, user data.
     fn between(&mut self, n: usize, d: &mut Draw) {
         if n != 0 && d.one_in(16) {
-            let declared = (self.plan.rate, self.plan.buffer, self.plan.more_rate);
+            let declared = (self.plan.rate, self.plan.buffer, self.plan.more_rate, self.plan.sequence);
             (self.plan.rate, self.plan.buffer) = (d.nonzero(18), d.value(10));
             self.plan.more_rate = (d.value(2), d.value(5));
+            if self.plan.form.film {
+                self.plan.sequence = Sequence { progressive: d.one_in(2), low_delay: d.one_in(2) };
+            }
             self.sequence(d);
-            (self.plan.rate, self.plan.buffer, self.plan.more_rate) = declared;
+            (self.plan.rate, self.plan.buffer, self.plan.more_rate, self.plan.sequence) = declared;
+        }
+        if n != 0 && self.plan.form.film && d.one_in(16) {
+            let other = [&[0, 0, 1, 0xB5][..], &filler(3, d)].concat();
+            self.put(if d.one_in(2) { &[0, 0, 1, 0xB7] } else { &other });
         }
         if d.one_in(8) {
             self.put(&headers::group(d));
@@ -225,13 +282,18 @@ impl Stream {
 
     fn picture(&mut self, n: usize, d: &mut Draw) {
         let field = d.below(8) < self.plan.fields;
-        self.picture_header(n, field, d);
+        let facts = self.picture_header(n, field, d);
+        self.pictures.push(facts);
         if self.faulty(n, Fault::NoSlice) {
             return;
         }
         let last = n + 1 == self.plan.pictures;
-        let tail = if last && self.plan.end_code { 4 } else { 0 };
-        let interval = (field && self.plan.form.mpeg2).into();
+        let end_code = if last { self.plan.end_code } else { self.plan.form.film && d.one_in(16) };
+        let tail = if end_code { 4 } else { 0 };
+        let interval = match self.plan.form {
+            Form { film: true, .. } => interval_of(last_periods(self.plan.sequence, &self.pictures)),
+            form => (field && form.mpeg2).into(),
+        };
         let end = self.end(n, interval, tail, last, d);
         self.slices(end - tail, d);
         if tail != 0 {
@@ -243,26 +305,36 @@ impl Stream {
         }
     }
 
-    fn picture_header(&mut self, n: usize, field: bool, d: &mut Draw) {
+    /// Puts a picture's headers; what they show of it is returned.
+    fn picture_header(&mut self, n: usize, field: bool, d: &mut Draw) -> Facts {
         let zeros = self.bytes.iter().rev().take(2).take_while(|&&b| b == 0).count();
         let at = self.bytes.len() - if self.plan.shared { zeros } else { 0 };
         let delay = self.delay(n, 8 * (at as u64 + 4), d);
         let extra = if d.one_in(16) { d.below(4) } else { 0 };
-        let mut header = headers::picture_header(1 + d.below(3) as u64, extra, d);
+        let given = self.plan.given.get(n).copied();
+        let kind = given.map_or(1 + d.below(3), |(kind, _)| kind + 1) as u64;
+        let mut header = headers::picture_header(kind, extra, d);
         header[3].1 = delay;
         let bad = self.plan.fault == Fault::LastHeader && n + 1 == self.plan.pictures;
         if bad && d.one_in(2) {
             header[2].1 = [0, 5, 6, 7][d.below(4)];
         }
         self.put(&pack(&header));
+        let mut facts = Facts { anchor: header[2].1 != 3, field, repeat: false, top: false };
         if self.plan.form.extensions {
             let mut extension = headers::picture_coding_extension(d);
-            extension[7].1 = if field { 1 + d.below(2) as u64 } else { 3 };
+            if let Some((_, given)) = given {
+                facts = given;
+                (extension[8].1, extension[14].1) = (given.top.into(), given.repeat.into());
+            }
+            extension[7].1 = if facts.field { 1 + d.below(2) as u64 } else { 3 };
             if bad {
                 extension[1 + d.below(7)].1 = 0;
             }
+            (facts.repeat, facts.top) = (extension[14].1 == 1, extension[8].1 == 1);
             self.put(&pack(&extension));
         }
+        facts
     }
 
     /// The delay to code for a picture whose start code ends at a position.

@@ -1,16 +1,20 @@
-//! The constant-rate writer as paper 01 tells it ('A placed picture'), at the rates of request 02: a model of the papers' rules
-//! in plain numbers of 128 bits. It parses with the original's functions; everything else is its own, its numbers (400, 16,384, 2^48) too: so it is
-//! independent of what it is compared with.
+//! The constant-rate writer as paper 01 tells it ('A placed picture'), at the rates of request 02, plain or film (request 05):
+//! a model of the papers' rules in plain numbers of 128 bits. It parses with the original's functions; everything else is its
+//! own, its numbers (400, 16,384, 2^48) too: so it is independent of what it is compared with. A film writer keeps the list of
+//! the pictures that it has placed, and asks cadence.rs how long the next one lasts.
 
+use crate::cadence::{Facts, Sequence, last_periods};
 use original::picture_header::{Mpeg2PictureHeader, PictureCodingType, PictureStructure};
 use original::sequence_extension::Mpeg2Sequence;
 
 const FRAME_RATES: [(u128, u128); 8] =
     [(24_000, 1001), (24, 1), (25, 1), (30_000, 1001), (30, 1), (50, 1), (60_000, 1001), (60, 1)];
 
-/// What a writer is created with, as wide as an entry can say it; n and d are those of the frame rate's extension.
+/// What a writer is created with, as wide as an entry can say it; n and d are those of the frame rate's extension. The mode is
+/// MPEG-2's 2, or 6 for film; any other is out of range.
 #[derive(Clone, Copy)]
 pub struct Config {
+    pub mode: u64,
     pub rate: u64,
     pub buffer: u64,
     pub rate_code: u64,
@@ -27,19 +31,23 @@ fn frame_rate(code: u64, n: u64, d: u64) -> Option<(u128, u128)> {
     Some((frn * (u128::from(n) + 1), frd * (u128::from(d) + 1)))
 }
 
+/// An offer's interval: a frame, a field, or one of those that no offer may have.
+pub const FRAME: u8 = 0;
+pub const FIELD: u8 = 1;
+
 /// Kinds are 0, 1 and 2 for I, P and B.
 #[derive(Clone, PartialEq)]
 pub struct Offer {
     pub headers: Vec<u8>,
     pub kind: usize,
-    pub field: bool,
+    pub interval: u8,
     pub last: bool,
     pub layer: Vec<u8>,
 }
 
 #[derive(Clone, Copy, Debug, PartialEq)]
 pub enum Told {
-    Placed { q: u8, delay: u16, bytes: u64, stuffing: u64 },
+    Placed { q: u8, delay: u16, bytes: u64, stuffing: u64, periods: u64 },
     Again(u8),
     Refused(u8),
 }
@@ -60,6 +68,10 @@ pub struct Writer {
     pub placed: u64,
     pub stuffing: u64,
     pub finished: bool,
+    pub film: bool,
+    /// Of a film writer: what the headers of its first picture said, and the pictures placed.
+    pub sequence: Sequence,
+    pub pictures: Vec<Facts>,
 }
 
 /// Where an offered picture lies: in bits from the stream's first, its start code's end, its own end, and that with stuffing; in
@@ -70,6 +82,7 @@ struct Spot {
     end: u128,
     delivered: u128,
     next: u128,
+    periods: u64,
 }
 
 /// Start codes with their places, found left to right.
@@ -99,7 +112,19 @@ fn header_bits(layer: &[u8], kind: usize) -> usize {
     at + 1
 }
 
-fn layer_fits(o: &Offer) -> bool {
+/// What film mode asks of a layer that parses.
+fn facts(layer: &[u8]) -> Facts {
+    let (header, extension) = Mpeg2PictureHeader::parse_with_extension(layer).expect("a layer that fits");
+    Facts {
+        anchor: header.picture_coding_type != PictureCodingType::Bidirectional,
+        field: extension.picture_structure != PictureStructure::Frame,
+        repeat: extension.repeat_first_field,
+        top: extension.top_field_first,
+    }
+}
+
+/// 'Only a film writer takes layers with repeat_first_field 1; its offers' interval still says frame or field.'
+fn layer_fits(film: bool, o: &Offer) -> bool {
     let layer = &o.layer;
     let Ok((header, extension)) = Mpeg2PictureHeader::parse_with_extension(layer) else { return false };
     let kind = match header.picture_coding_type {
@@ -108,10 +133,12 @@ fn layer_fits(o: &Offer) -> bool {
         PictureCodingType::Bidirectional => 2,
         _ => return false,
     };
-    let structure = (extension.picture_structure == PictureStructure::Frame) != o.field;
+    let frame = extension.picture_structure == PictureStructure::Frame;
+    let structure = o.interval == if frame { FRAME } else { FIELD };
+    let repeat = extension.repeat_first_field && !film;
     let pel = [header.full_pel_forward_vector, header.full_pel_backward_vector].iter().all(|f| *f != Some(true));
     let seven = [header.fwd_f_code, header.bwd_f_code].iter().flatten().all(|&c| c == 7);
-    if kind != o.kind || !structure || extension.repeat_first_field || !pel || !seven {
+    if kind != o.kind || !structure || repeat || !pel || !seven {
         return false;
     }
     let bits = header_bits(layer, kind);
@@ -133,7 +160,8 @@ fn layer_fits(o: &Offer) -> bool {
 
 impl Writer {
     pub fn create(c: Config) -> Result<Self, u8> {
-        let fits = (1..=262_143).contains(&c.rate)
+        let fits = [2, 6].contains(&c.mode)
+            && (1..=262_143).contains(&c.rate)
             && (1..=1023).contains(&c.buffer)
             && c.n <= 3
             && c.d <= 31
@@ -153,8 +181,24 @@ impl Writer {
         let weights = 40 + 16 * anchors + 9 * anchors * between;
         let targets = [40, 16, 9].map(|w| (group * w / weights) as u64);
         let (q, pending) = ([c.q as u8; 3], None);
-        let (started, delivered, end, placed, stuffing, finished) = (false, 0, 0, 0, 0, false);
-        Ok(Self { rate, buffer, frn, frd, targets, q, pending, started, delivered, end, placed, stuffing, finished })
+        Ok(Self {
+            rate,
+            buffer,
+            frn,
+            frd,
+            targets,
+            q,
+            pending,
+            started: false,
+            delivered: 0,
+            end: 0,
+            placed: 0,
+            stuffing: 0,
+            finished: false,
+            film: c.mode == 6,
+            sequence: Sequence::default(),
+            pictures: vec![],
+        })
     }
 
     pub fn units(&self) -> u128 {
@@ -209,6 +253,24 @@ impl Writer {
         (self.delivered(headers) / self.units()).saturating_sub(self.end) as u64 / 8
     }
 
+    /// 'A film writer takes them from the headers of the offer that is being judged until a picture is placed.'
+    fn sequence(&self, headers: &[u8]) -> Sequence {
+        if self.started {
+            return self.sequence;
+        }
+        let e = Mpeg2Sequence::from_buf(headers).expect("headers that fit").extension;
+        Sequence { progressive: e.progressive_sequence, low_delay: e.low_delay }
+    }
+
+    /// How many field periods an offered picture lasts, if headers and layer fit.
+    pub fn periods(&self, o: &Offer) -> u64 {
+        if !self.film {
+            return if o.interval == FIELD { 1 } else { 2 };
+        }
+        let before = if self.started { &self.pictures[..] } else { &[] };
+        last_periods(self.sequence(&o.headers), &[before, &[facts(&o.layer)]].concat())
+    }
+
     pub fn asked(&self, kind: usize) -> u8 {
         self.pending.map_or(self.q[kind], |p| p.1)
     }
@@ -231,7 +293,7 @@ impl Writer {
         if !self.headers_fit(&o.headers) {
             return Some(18);
         }
-        (!layer_fits(o)).then_some(20)
+        (!layer_fits(self.film, o)).then_some(20)
     }
 
     fn spot(&self, o: &Offer) -> Spot {
@@ -239,13 +301,14 @@ impl Writer {
         let tail = if o.last { 4 } else { 0 };
         let content = self.end + 8 * (o.headers.len() + o.layer.len() + tail) as u128;
         let delivered = self.delivered(o.headers.len());
-        let next = delivered + self.rate * self.frd * if o.field { 90_000 } else { 180_000 };
+        let periods = self.periods(o);
+        let next = delivered + self.rate * self.frd * 90_000 * u128::from(periods);
         let mut end = content;
         if !o.last {
             let least = next.saturating_sub(self.buffer * units).div_ceil(units);
             end = end.max(8 * least.div_ceil(8));
         }
-        Spot { position: self.position(o.headers.len()), content, end, delivered, next }
+        Spot { position: self.position(o.headers.len()), content, end, delivered, next, periods }
     }
 
     /// What an offer is refused for before its size counts.
@@ -288,6 +351,13 @@ impl Writer {
         let q = self.asked(o.kind);
         self.put(o, delay, stuffing as usize, part);
         self.steer(o, q);
+        if self.film {
+            if !self.started {
+                self.sequence = self.sequence(&o.headers);
+                self.pictures.clear();
+            }
+            self.pictures.push(facts(&o.layer));
+        }
         self.pending = None;
         self.started = true;
         self.delivered = at.next;
@@ -295,7 +365,7 @@ impl Writer {
         self.placed += 1;
         self.stuffing += stuffing;
         self.finished = o.last;
-        Told::Placed { q, delay, bytes: part.len() as u64, stuffing }
+        Told::Placed { q, delay, bytes: part.len() as u64, stuffing, periods: at.periods }
     }
 
     fn too_large(&mut self, kind: usize) -> Told {

@@ -5,6 +5,7 @@ pub(crate) fn print_name(kind: usize) -> bool {
     match kind {
         1..=7 => print_parser(kind),
         8..=13 => print_writer(kind),
+        20..=23 => print_mode(kind),
         _ => print_buffer(kind),
     }
 }
@@ -40,5 +41,14 @@ fn print_buffer(kind: usize) -> bool {
         17 => io::write_all(STDOUT_FILENO, b"verify_cbr_stream, MPEG-1"),
         18 => io::write_all(STDOUT_FILENO, b"verify_cbr_stream, MPEG-2"),
         _ => io::write_all(STDOUT_FILENO, b"CbrWriter"),
+    }
+}
+
+fn print_mode(kind: usize) -> bool {
+    match kind {
+        20 => io::write_all(STDOUT_FILENO, b"verify_in_mode, MPEG-2 film"),
+        21 => io::write_all(STDOUT_FILENO, b"verify_in_mode, MPEG-2"),
+        22 => io::write_all(STDOUT_FILENO, b"verify_in_mode, MPEG-1"),
+        _ => io::write_all(STDOUT_FILENO, b"verify_in_mode, MPEG-1 film"),
     }
 }

@@ -1,4 +1,6 @@
 // What the writer answers to a list of calls, as oracle/FORMAT.md lays it out (kind 19).
+use cadence::OpenField;
+use cadence::VbvCadence;
 use cases::add_one;
 use cases::put::put;
 use cases::put::put_bytes;
@@ -18,8 +20,15 @@ use rate_control::CbrWriter;
 use rate_control::Pending;
 use vbv::RemovalInterval;
 use vbv::VbvCbrModel;
+use verify::VbvMode;
+use verify::VbvRefusal;
+use verify::VbvStandard;
+use verify::VbvStreamReport;
+use verify::VbvVerified;
 
 // The numbers of answers that are no refusals, beside 0 of a placed picture.
+pub(crate) const PASSED: u8 = 128;
+
 pub(crate) const SET: u8 = 129;
 
 pub(crate) const AGAIN: u8 = 130;
@@ -37,10 +46,12 @@ struct Called {
     number: u8,
 }
 
-// What stands before a call's bytes: the call, the lengths of headers and layer, and that of the output part.
+// What stands before a call's bytes: the call, its kind or its mode, the lengths of headers and layer, and that of the output
+// part.
 struct Head {
     which: u8,
     kind: PictureKind,
+    mode: VbvMode,
     interval: RemovalInterval,
     last: bool,
     headers: u16,
@@ -57,14 +68,15 @@ struct Told {
 // The answer to a list, at the start of out: its length. Each call is counted by its answer's number.
 pub(crate) fn list(s: &[u8], out: &mut [u8], given: &mut [u64]) -> usize {
     let created = CbrWriter::create(CbrConfig {
-        bit_rate_value: number32(s, 0),
-        vbv_buffer_size_value: number16(s, 4),
-        frame_rate_code: byte(s, 6),
-        frame_rate_extension_n: byte(s, 7),
-        frame_rate_extension_d: byte(s, 8),
-        initial_quantiser_scale_code: byte(s, 9),
-        b_between: byte(s, 10),
-        anchors_per_gop: byte(s, 11),
+        mode: mode(byte(s, 0)),
+        bit_rate_value: number32(s, 1),
+        vbv_buffer_size_value: number16(s, 5),
+        frame_rate_code: byte(s, 7),
+        frame_rate_extension_n: byte(s, 8),
+        frame_rate_extension_d: byte(s, 9),
+        initial_quantiser_scale_code: byte(s, 10),
+        b_between: byte(s, 11),
+        anchors_per_gop: byte(s, 12),
     });
     let answer = created.answer;
     match answer {
@@ -74,6 +86,23 @@ pub(crate) fn list(s: &[u8], out: &mut [u8], given: &mut [u64]) -> usize {
             put(out, 0, number)
         }
         CbrCreation::Created => put_created(s, created.writer, out, given),
+    }
+}
+
+// The mode of its number; MPEG-1 with film, which is none, is 5.
+fn mode(number: u8) -> VbvMode {
+    match number {
+        1 => VbvMode::plain(VbvStandard::Mpeg1),
+        2 => VbvMode::plain(VbvStandard::Mpeg2),
+        5 => film(VbvStandard::Mpeg1),
+        _ => film(VbvStandard::Mpeg2),
+    }
+}
+
+fn film(standard: VbvStandard) -> VbvMode {
+    VbvMode {
+        standard,
+        film: true,
     }
 }
 
@@ -87,9 +116,9 @@ fn put_created(s: &[u8], writer: CbrWriter, out: &mut [u8], given: &mut [u64]) -
 
 fn put_calls(s: &[u8], writer: CbrWriter, out: &mut [u8], from: usize, given: &mut [u64]) -> usize {
     let mut now = writer;
-    let mut at: usize = 13;
+    let mut at: usize = 14;
     let mut next = from;
-    let mut left = byte(s, 12);
+    let mut left = byte(s, 13);
     while left > 0 {
         let called = call(s, at, now, out, next);
         add_one(given, called.number as usize);
@@ -115,13 +144,16 @@ fn call(s: &[u8], at: usize, writer: CbrWriter, out: &mut [u8], next: usize) -> 
     let h = read_head(&s[at..]);
     let middle = 10 + h.headers as usize;
     let end = middle + h.layer as usize;
-    let room = 79 + h.part as usize;
+    let room = 85 + h.part as usize;
     if s.len() - at < end || out.len() - next < room {
         return nothing;
     }
     let first = at + 10;
     let layer = at + middle;
     let after = at + end;
+    if h.which == 3 {
+        return check_sent(h, &s[first..layer], after, writer, out, next);
+    }
     if h.which == 2 {
         return set(writer, &s[first..layer], after, out, next);
     }
@@ -143,6 +175,7 @@ fn read_head(c: &[u8]) -> Head {
     Head {
         which: byte(c, 0),
         kind: kind(byte(c, 1)),
+        mode: mode(byte(c, 1)),
         interval: interval(byte(c, 2)),
         last: byte(c, 3) == 1,
         headers: number16(c, 4),
@@ -160,10 +193,13 @@ fn kind(code: u8) -> PictureKind {
 }
 
 fn interval(code: u8) -> RemovalInterval {
-    if code == 0 {
-        return RemovalInterval::Frame;
+    match code {
+        0 => RemovalInterval::Frame,
+        1 => RemovalInterval::Field,
+        2 => RemovalInterval::ThreeFields,
+        3 => RemovalInterval::TwoFrames,
+        _ => RemovalInterval::ThreeFrames,
     }
-    RemovalInterval::Field
 }
 
 fn offer(
@@ -185,10 +221,10 @@ fn offer(
     if out.len() < next {
         return nothing;
     }
-    if out.len() - next < 79 + part {
+    if out.len() - next < 85 + part {
         return nothing;
     }
-    let start = next + 79;
+    let start = next + 85;
     let end = start + part;
     put_pattern(out, start, h.part);
     let kind = h.kind;
@@ -203,6 +239,68 @@ fn offer(
         at,
         next: end,
         number: told.number,
+    }
+}
+
+// What was handed out, checked in a mode, with the records in the output part.
+fn check_sent(
+    h: Head,
+    stream: &[u8],
+    at: usize,
+    writer: CbrWriter,
+    out: &mut [u8],
+    next: usize,
+) -> Called {
+    let nothing = Called {
+        writer,
+        at,
+        next,
+        number: MISSING,
+    };
+    let part = h.part as usize;
+    if out.len() < next {
+        return nothing;
+    }
+    if out.len() - next < 85 + part {
+        return nothing;
+    }
+    let start = next + 85;
+    let end = start + part;
+    put_pattern(out, start, h.part);
+    let mode = h.mode;
+    let told = verified_in_words(verify::verify_in_mode(stream, mode, &mut out[start..end]));
+    put_told(out, next, told, writer);
+    Called {
+        writer,
+        at,
+        next: end,
+        number: told.number,
+    }
+}
+
+fn verified_in_words(verified: VbvVerified) -> Told {
+    match verified {
+        VbvVerified::Refused(e) => refusal_in_words(e.refusal()),
+        VbvVerified::Report(report) => report_in_words(report),
+    }
+}
+
+fn report_in_words(r: VbvStreamReport) -> Told {
+    Told {
+        number: PASSED,
+        words: [
+            r.bit_rate,
+            r.pictures,
+            r.min_occupancy_after_bits,
+            r.max_occupancy_before_bits,
+        ],
+    }
+}
+
+fn refusal_in_words(r: VbvRefusal) -> Told {
+    Told {
+        number: r.number,
+        words: [r.picture, r.coded as u64, r.expected as u64, 0],
     }
 }
 
@@ -233,6 +331,7 @@ fn set(writer: CbrWriter, far: &[u8], at: usize, out: &mut [u8], next: usize) ->
     let target_bits = writer.target_bits;
     let q = writer.q;
     let pending = writer.pending;
+    let cadence = writer.cadence;
     let after = CbrWriter {
         model: VbvCbrModel {
             params,
@@ -247,6 +346,7 @@ fn set(writer: CbrWriter, far: &[u8], at: usize, out: &mut [u8], next: usize) ->
         pending,
         stuffing_bytes: writer.stuffing_bytes,
         finished: writer.finished,
+        cadence,
     };
     let told = Told {
         number: SET,
@@ -280,11 +380,7 @@ fn in_words(answer: CbrAnswer) -> Told {
 }
 
 fn refused(e: CbrError) -> Told {
-    let r = e.refusal();
-    Told {
-        number: r.number,
-        words: [r.picture, r.coded as u64, r.expected as u64, 0],
-    }
+    refusal_in_words(e.refusal())
 }
 
 fn put_told(out: &mut [u8], at: usize, told: Told, writer: CbrWriter) -> usize {
@@ -299,9 +395,11 @@ fn put_writer(out: &mut [u8], at: usize, w: CbrWriter) -> usize {
     let q = w.q;
     let waiting = w.pending;
     let model = w.model;
+    let cadence = w.cadence;
     let pending = put_bytes(out, at, &q);
     let finished = put_pending(out, pending, waiting);
-    let next = put(out, finished, w.finished as u8);
+    let mode = put(out, finished, w.finished as u8);
+    let next = put_cadence(out, mode, cadence);
     let words = [
         w.stuffing_bytes,
         model.whole,
@@ -310,6 +408,35 @@ fn put_writer(out: &mut [u8], at: usize, w: CbrWriter) -> usize {
         model.removed,
     ];
     put_words(out, next, &words)
+}
+
+// The mode's number, the sequence's flags, the previous anchor's, and the open field.
+fn put_cadence(out: &mut [u8], at: usize, k: VbvCadence) -> usize {
+    let waiting = k.waiting;
+    let bytes = [
+        mode_number(k.film),
+        k.progressive as u8,
+        k.low_delay as u8,
+        k.repeat as u8,
+        k.top as u8,
+        open_code(waiting),
+    ];
+    put_bytes(out, at, &bytes)
+}
+
+fn mode_number(film: bool) -> u8 {
+    if film {
+        return 6;
+    }
+    2
+}
+
+fn open_code(waiting: OpenField) -> u8 {
+    match waiting {
+        OpenField::Closed => 0,
+        OpenField::LedByAnchor => 1,
+        OpenField::LedByOther => 2,
+    }
 }
 
 // 0, or the kind's code and 1; and the quantiser.

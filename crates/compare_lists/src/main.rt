@@ -4,6 +4,7 @@ mod calls; // the writer's answers to a list
 
 use calls::AGAIN;
 use calls::MISSING;
+use calls::PASSED;
 use calls::SET;
 use calls::WITHDRAWN;
 use libc::STDOUT_FILENO;
@@ -19,6 +20,7 @@ fn answer(kind: u8, input: &[u8], out: &mut [u8], given: &mut [u64]) -> usize {
 fn print_name(number: u8) -> bool {
     match number {
         0 => io::write_all(STDOUT_FILENO, b"placed"),
+        PASSED => io::write_all(STDOUT_FILENO, b"check passed"),
         SET => io::write_all(STDOUT_FILENO, b"set by hand"),
         AGAIN => io::write_all(STDOUT_FILENO, b"again"),
         WITHDRAWN => io::write_all(STDOUT_FILENO, b"withdrawn"),

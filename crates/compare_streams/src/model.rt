@@ -120,10 +120,13 @@ fn call(out: &mut [u8], at: usize, c: &[u8], model: VbvCbrModel) -> Called {
 }
 
 fn interval(code: u16) -> RemovalInterval {
-    if code == 0 {
-        return RemovalInterval::Frame;
+    match code {
+        0 => RemovalInterval::Frame,
+        1 => RemovalInterval::Field,
+        2 => RemovalInterval::ThreeFields,
+        3 => RemovalInterval::TwoFrames,
+        _ => RemovalInterval::ThreeFrames,
     }
-    RemovalInterval::Field
 }
 
 fn put_started(out: &mut [u8], at: usize, before: VbvCbrModel, started: VbvModel) -> Called {

@@ -1,5 +1,7 @@
 // Prints the figures of paper 01 that are not proved: the bytes of three headers, and an end that the model accepts; and those of
-// request 02.
+// requests 02 and 05.
+mod channel; // request 05: a channel that a film writer sends
+mod film; // request 05: how long pictures last
 mod rates; // request 02
 
 use headers::Written;
@@ -151,4 +153,6 @@ fn main() {
     group_header();
     model_end();
     rates::print_rates();
+    film::print_film();
+    channel::print_channel();
 }

@@ -8,6 +8,8 @@ use vbv::FrameRate;
 use vbv::VbvParams;
 use vbv::frame_rate_value;
 use vbv::params_of;
+use verify::VbvMode;
+use verify::VbvStandard;
 
 // Codes 1 to 8, n 0 to 3, d 0 to 31.
 const TRIPLES: u16 = 1024;
@@ -106,6 +108,7 @@ fn print_same(rate: VbvParams) {
 // Fields 2500 and 20, two B pictures between anchors, four anchors.
 fn print_targets(code: u8, n: u8, d: u8) {
     let made = CbrWriter::create(CbrConfig {
+        mode: VbvMode::plain(VbvStandard::Mpeg2),
         bit_rate_value: 2500,
         vbv_buffer_size_value: 20,
         frame_rate_code: code,

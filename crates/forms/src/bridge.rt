@@ -3,6 +3,7 @@ ghost use mathlib.Core.Path.{_≡_};
 ghost use lib.ListN.{replicate};
 ghost use Rattle.verify.specs.Answers.{verifiedAnswer};
 ghost use Rattle.verify.specs.Check.{verdict, reported, records as recordsOf};
+ghost use Rattle.verify.specs.Mode.{plain as plainOf};
 ghost use Rattle.bits.specs.Answers.{over};
 ghost use Rattle.vbv.specs.Model.{startModel, removePicture};
 ghost use Rattle.bits.specs.Refusals.{orElse};
@@ -42,7 +43,7 @@ pub(crate) fn places(
     standard: VbvStandard,
     filling: VbvPictureRecord,
 ) -> [VbvPictureRecord; 4]
-    ensures { λ r. ⌜ r ≡ over (recordsOf (verdict standard (now (stream .entry)) 4)) (replicate 4 filling) ⌝ }
+    ensures { λ r. ⌜ r ≡ over (recordsOf (verdict (plainOf standard) (now (stream .entry)) 4)) (replicate 4 filling) ⌝ }
 {
     let mut records = [filling; 4];
     verify::lent::verify_cbr_stream(stream, standard, &mut records);
@@ -51,7 +52,7 @@ pub(crate) fn places(
 
 // What the check answers with those places.
 pub(crate) fn answer(stream: &[u8], standard: VbvStandard, filling: VbvPictureRecord) -> VbvVerified
-    ensures { λ r. ⌜ verifiedAnswer r ≡ reported (verdict standard (now (stream .entry)) 4) ⌝ }
+    ensures { λ r. ⌜ verifiedAnswer r ≡ reported (verdict (plainOf standard) (now (stream .entry)) 4) ⌝ }
 {
     let mut records = [filling; 4];
     verify::lent::verify_cbr_stream(stream, standard, &mut records)

@@ -1,5 +1,6 @@
-//! The writer: lists of calls drawn like those of kind 19, its state kept as bytes, and what the model of paper 01 and request 02
-//! (writer.rs) comes to. It is created by arguments or, always where n or d is not 0, by words (create.rs).
+//! The writer: lists of calls drawn like those of kind 19, its state kept as bytes, and what the model of the papers
+//! (writer.rs) comes to. It is created by arguments or, always where it is a film writer or n or d is not 0, by words
+//! (create.rs).
 //!
 //! Before some of a list's calls stands another one, on a copy of the state: damaged or cut short, with a kind, an interval or a
 //! flag out of range, or with a place for the answer that is too short. What a damaged state holds is decoded here once more
@@ -14,11 +15,13 @@ use oracle::layout::{CBR_AGAIN, CBR_ANSWER_BYTES, CBR_FIELD, CBR_FRAME, CBR_PLAC
 use oracle::lists::{CALLS, Call, call, configured};
 use oracle::place::{Left, Place, lay};
 use oracle::state::{WORDS, held, limits, words, words_of};
-use oracle::writer::{Offer, Told, Writer};
+use oracle::writer::{FIELD, FRAME, Offer, Told, Writer};
 
 const OFFERS: &str = "offers";
 const STOPPED: &str = "offers stopped before the writer";
 const DAMAGED: &str = "offers on a damaged state that fits";
+const DAMAGED_FILM: &str = "offers on a damaged state of a film writer that fits";
+const FILM_OFFERS: &str = "offers to a film writer";
 const WITHDRAWALS: &str = "withdrawals";
 
 /// The writer's answers to offers.
@@ -47,12 +50,14 @@ const STOPS: [&str; 7] = [
 ];
 
 /// What has to be met.
-pub const OWED: [Owed; 6] = [
+pub const OWED: [Owed; 8] = [
     CREATIONS,
     CREATIONS_BY_WORDS,
     (OFFERS, &ANSWERS),
     (STOPPED, &STOPS),
     (DAMAGED, &ANSWERS),
+    (FILM_OFFERS, &ANSWERS),
+    (DAMAGED_FILM, &ANSWERS),
     (WITHDRAWALS, &["accepted", "nothing pending", "on a damaged state that fits", "refused 12"]),
 ];
 
@@ -76,13 +81,13 @@ struct Sent {
 }
 
 impl Sent {
-    /// Adds what an offer left, if it was placed.
-    fn offered(&mut self, left: &mut Left, field: bool) {
+    /// Adds what an offer left, if it was placed, to last so many periods.
+    fn offered(&mut self, left: &mut Left, periods: u64) {
         let answer: Vec<u64> = left.at("answer").chunks(8).map(number).collect();
         if answer[0] == CBR_PLACED {
             let (delay, bytes) = (answer[6], answer[7]);
             self.stream.extend(&left.at("out")[..bytes as usize]);
-            self.placed.push([delay, 8 * bytes, if field { 1 } else { 2 }]);
+            self.placed.push([delay, 8 * bytes, periods]);
         }
     }
 }
@@ -101,7 +106,9 @@ fn refused(n: u8, picture: u64) -> [u64; 9] {
 /// The words of an answer; a 9 names the picture, of which so many were placed before.
 fn answer_words(told: Told, placed: u64) -> [u64; 9] {
     match told {
-        Told::Placed { q, delay, bytes, stuffing } => [CBR_PLACED, 0, 0, 0, 0, q.into(), delay.into(), bytes, stuffing],
+        Told::Placed { q, delay, bytes, stuffing, .. } => {
+            [CBR_PLACED, 0, 0, 0, 0, q.into(), delay.into(), bytes, stuffing]
+        }
         Told::Again(q) => [CBR_AGAIN, 0, 0, 0, 0, q.into(), 0, 0, 0],
         Told::Refused(9) => refused(9, placed),
         Told::Refused(n) => refused(n, 0),
@@ -117,32 +124,33 @@ fn stop(holds: bool, state: &[u8], c: &Offering) -> Option<(u8, &'static str)> {
     Some((if at == no_state.len() { 19 } else { 12 }, STOPS[at]))
 }
 
-/// What is expected of an offer on a state that holds a writer, or none; and what it is counted as.
-fn expected(writer: Option<&mut Writer>, state: &[u8], c: &Offering) -> (Left, String) {
+/// What is expected of an offer on a state that holds a writer, or none; how many periods a placed picture lasts, else 0; and
+/// what it is counted as.
+fn expected(writer: Option<&mut Writer>, state: &[u8], c: &Offering) -> (Left, u64, String) {
     let mut left = Left::before(&[("state", state), ("out", &c.out), ("answer", &c.answer)]);
     if let Some((number, why)) = stop(writer.is_some(), state, c) {
         left.number = number.into();
-        return (left.with("answer", &refused(number, 0)), why.into());
+        return (left.with("answer", &refused(number, 0)), 0, why.into());
     }
     let w = writer.unwrap();
     let offer = Offer {
         headers: c.headers.to_vec(),
         kind: c.kind.into(),
-        field: c.interval == CBR_FIELD,
+        interval: if c.interval == CBR_FIELD { FIELD } else { FRAME },
         last: c.last == 1,
         layer: c.layer.to_vec(),
     };
     let placed = w.placed;
     let told = w.offer(&offer, left.at("out"));
-    let why = match told {
-        Told::Placed { .. } => "placed".into(),
-        Told::Again(_) => "again".into(),
+    let (periods, why) = match told {
+        Told::Placed { periods, .. } => (periods, "placed".into()),
+        Told::Again(_) => (0, "again".into()),
         Told::Refused(n) => {
             left.number = n.into();
-            format!("refused {n}")
+            (0, format!("refused {n}"))
         }
     };
-    (left.with("state", &words(w)).with("answer", &answer_words(told, placed)), why)
+    (left.with("state", &words(w)).with("answer", &answer_words(told, placed)), periods, why)
 }
 
 /// The entry's own.
@@ -180,6 +188,7 @@ fn withdrawn(state: &[u8], d: &mut Draw) -> Left {
 fn another(s: &[u64; WORDS], k: usize, d: &mut Draw) -> u64 {
     let (buffer, end) = (s[1] % (1 << 33), s[6] % (1 << 49));
     match d.below(6) {
+        _ if k == 19 && d.one_in(2) => d.below(9) as u64,
         0 => d.value(64),
         1 => s[k] ^ 1 << d.below(64),
         2 if k == 4 => end + d.next() % (buffer + 1),
@@ -202,6 +211,13 @@ fn damaged(state: &[u8], d: &mut Draw) -> Vec<u8> {
             let (mut s, by) = (words_of(&bytes).unwrap(), 2 + d.below(4) as u64);
             (s[2], s[3]) = (s[2].wrapping_mul(by), s[3].wrapping_mul(by).wrapping_add(d.one_in(4).into()));
             lay(&mut bytes, &s);
+        } else if d.one_in(8) {
+            // A film writer with any cadence, or a plain one with what is left of it.
+            let (mut s, open) = (words_of(&bytes).unwrap(), d.below(3) as u64);
+            s[19] = if d.one_in(4) { 2 } else { 6 };
+            s[20..24].fill_with(|| d.value(1));
+            s[24] = open;
+            lay(&mut bytes, &s);
         } else if d.one_in(4) {
             bytes[d.below(CBR_STATE_BYTES)] = d.byte();
         } else {
@@ -214,14 +230,26 @@ fn damaged(state: &[u8], d: &mut Draw) -> Vec<u8> {
 }
 
 impl Run {
-    /// Compares an offer, and leaves the state that is expected; the other places are returned.
-    fn offer(&mut self, what: &'static str, writer: Option<&mut Writer>, state: &mut Vec<u8>, c: &Offering) -> Left {
-        let (mut expected, why) = expected(writer, state, c);
+    /// Compares an offer, and leaves the state that is expected; the other places and a placed picture's periods are returned.
+    fn offer(
+        &mut self,
+        plain: &'static str,
+        writer: Option<&mut Writer>,
+        state: &mut Vec<u8>,
+        c: &Offering,
+    ) -> (Left, u64) {
+        let film = writer.as_ref().is_some_and(|w| w.film);
+        let (mut expected, periods, why) = expected(writer, state, c);
         let found = offered(state, c, &mut self.d);
-        let what = if STOPS.contains(&why.as_str()) { STOPPED } else { what };
+        let what = match plain {
+            _ if STOPS.contains(&why.as_str()) => STOPPED,
+            DAMAGED if film => DAMAGED_FILM,
+            OFFERS if film => FILM_OFFERS,
+            _ => plain,
+        };
         self.met(what, &why, &found, &expected);
         *state = std::mem::take(expected.at("state"));
-        expected
+        (expected, periods)
     }
 
     fn withdraw(&mut self, why: &'static str, writer: Option<&mut Writer>, state: &mut Vec<u8>) {
@@ -259,9 +287,28 @@ impl Run {
         self.withdraw("on a damaged state that fits", writer.as_mut(), &mut copy);
     }
 
+    /// An offer of a list, in half of the cases after one with something about it that is out of range.
+    fn listed(&mut self, w: &mut Writer, state: &mut Vec<u8>, o: &Offer, part: usize) -> (Left, u64) {
+        let n = CBR_ANSWER_BYTES + self.d.below(3) * self.d.below(16);
+        let c = Offering {
+            headers: &o.headers,
+            kind: o.kind as u8,
+            interval: [CBR_FRAME, CBR_FIELD, 3, 4, 6][usize::from(o.interval)],
+            last: o.last.into(),
+            layer: &o.layer,
+            out: pattern(part),
+            answer: self.d.bytes(n),
+        };
+        if self.d.one_in(2) {
+            self.odd_offer(state, &c);
+        }
+        self.offer(OFFERS, Some(w), state, &c)
+    }
+
     /// One list: creation, each call on what the one before left, and the check of what was handed out.
     pub fn list(&mut self, input: &[u8]) {
         let Some((mut w, mut state)) = self.create(configured(input)) else { return };
+        let film = w.film;
         let mut sent = Sent { whole: true, stream: vec![], placed: vec![] };
         let mut rest = &input[CALLS..];
         while !rest.is_empty() {
@@ -279,26 +326,14 @@ impl Run {
                     self.withdraw(why, Some(&mut w), &mut state);
                 }
                 Call::Offer(o) => {
-                    let n = CBR_ANSWER_BYTES + self.d.below(3) * self.d.below(16);
-                    let c = Offering {
-                        headers: &o.headers,
-                        kind: o.kind as u8,
-                        interval: if o.field { CBR_FIELD } else { CBR_FRAME },
-                        last: o.last.into(),
-                        layer: &o.layer,
-                        out: pattern(part),
-                        answer: self.d.bytes(n),
-                    };
-                    if self.d.one_in(2) {
-                        self.odd_offer(&state, &c);
-                    }
-                    let mut left = self.offer(OFFERS, Some(&mut w), &mut state, &c);
-                    sent.offered(&mut left, o.field);
+                    let (mut left, periods) = self.listed(&mut w, &mut state, &o, part);
+                    sent.offered(&mut left, periods);
+                }
+                Call::Check(mode, stream) => {
+                    assert!(sent.whole && stream == sent.stream, "another stream than what was handed out");
+                    self.sent(film, mode, &sent.stream, &sent.placed);
                 }
             }
-        }
-        if sent.whole && !sent.placed.is_empty() {
-            self.sent(&sent.stream, &sent.placed);
         }
     }
 }

@@ -12,10 +12,10 @@ use oracle::state::words;
 use oracle::writer::{Config, Writer};
 
 const WORDS: usize = CBR_CONFIG_BYTES / 8;
-/// The mode of a constant rate in MPEG-2, the only one that there is.
-const MODE: u64 = 2;
+/// The modes of a writer: MPEG-2, plain or film.
+const MODES: [u64; 2] = [2, 6];
 /// The greatest value of each word, and the bits of its argument; of mode and code those that one can be cut to.
-const MOST: [u64; WORDS] = [MODE, 262_143, 1023, 8, 3, 31, 31, 15, 255];
+const MOST: [u64; WORDS] = [6, 262_143, 1023, 8, 3, 31, 31, 15, 255];
 const BITS: [u32; WORDS] = [8, 32, 16, 8, 8, 8, 8, 8, 8];
 
 /// By arguments; what has to be met.
@@ -26,11 +26,14 @@ pub const CREATIONS_BY_WORDS: Owed = (
         ACCEPTED,
         ACCEPTED_RATE,
         ACCEPTED_MORE,
+        ACCEPTED_FILM,
         "12: words and state place too short",
         "12: words too short",
         "19: a short state place, with another mode",
         "19: a short state place",
-        "12: a mode that is 2 when cut",
+        "12: a mode that is 2 or 6 when cut",
+        "12: MPEG-1",
+        "12: MPEG-1 with film",
         "12: a mode below 16",
         "12: another mode",
         "12: a word that fits when cut",
@@ -44,26 +47,29 @@ pub const CREATIONS_BY_WORDS: Owed = (
 const ACCEPTED: &str = "accepted";
 const ACCEPTED_RATE: &str = "accepted, n or d not 0";
 const ACCEPTED_MORE: &str = "accepted, with bytes behind the words";
+const ACCEPTED_FILM: &str = "accepted, film";
 
 fn config(w: &[u64; WORDS]) -> Config {
-    let [_, rate, buffer, rate_code, n, d, q, between, anchors] = *w;
-    Config { rate, buffer, rate_code, n, d, q, between, anchors }
+    let [mode, rate, buffer, rate_code, n, d, q, between, anchors] = *w;
+    Config { mode, rate, buffer, rate_code, n, d, q, between, anchors }
 }
 
 fn words_of(c: &Config) -> [u64; WORDS] {
-    [MODE, c.rate, c.buffer, c.rate_code, c.n, c.d, c.q, c.between, c.anchors]
+    [c.mode, c.rate, c.buffer, c.rate_code, c.n, c.d, c.q, c.between, c.anchors]
 }
 
 /// What stops a creation by words, in order, before creation itself.
 fn stop(w: &[u64; WORDS], config_len: usize, state_len: usize) -> Option<(u8, &'static str)> {
     let (no_words, no_state) = (config_len < CBR_CONFIG_BYTES, state_len < CBR_STATE_BYTES);
-    let another = w[0] != MODE;
+    let another = !MODES.contains(&w[0]);
     let stops = [
         (no_words && no_state, 12, "12: words and state place too short"),
         (no_words, 12, "12: words too short"),
         (no_state && another, 19, "19: a short state place, with another mode"),
         (no_state, 19, "19: a short state place"),
-        (another && (w[0] % 256 == MODE || w[0] % (1 << 32) == MODE), 12, "12: a mode that is 2 when cut"),
+        (another && MODES.contains(&(w[0] % 256)), 12, "12: a mode that is 2 or 6 when cut"),
+        (w[0] == 1, 12, "12: MPEG-1"),
+        (w[0] == 5, 12, "12: MPEG-1 with film"),
         (another && w[0] < 16, 12, "12: a mode below 16"),
         (another, 12, "12: another mode"),
     ];
@@ -94,6 +100,7 @@ fn due(w: &[u64; WORDS], config_len: usize, state_len: usize) -> (Result<Writer,
     let made = Writer::create(config(w));
     let why = match made {
         Err(number) => refused(w, number),
+        Ok(_) if w[0] == MODES[1] => ACCEPTED_FILM,
         Ok(_) if (w[4], w[5]) != (0, 0) => ACCEPTED_RATE,
         Ok(_) if CBR_CONFIG_BYTES < config_len => ACCEPTED_MORE,
         Ok(_) => ACCEPTED,
@@ -123,7 +130,7 @@ fn another(k: usize, value: u64, d: &mut Draw) -> u64 {
         2 => value.wrapping_add(d.nonzero(8) << BITS[k]),
         3 => value.wrapping_add(1 << [8, 16, 32, 63][d.below(4)]),
         4 => d.below(MOST[k] as usize + 8) as u64,
-        _ if k == 0 => [0, 1, 6, 10, 14, 3 + d.below(13) as u64][d.below(6)],
+        _ if k == 0 => [0, 1, 2, 5, 6, 10, 14, 3 + d.below(13) as u64][d.below(8)],
         _ => 0,
     }
 }
@@ -162,8 +169,8 @@ impl Run {
             state.truncate([d.below(CBR_STATE_BYTES), CBR_STATE_BYTES - 1][d.below(2)]);
         }
         for _ in 0..d.below(3) {
-            // A rate code, n and d more often.
-            let k = [d.below(WORDS), 3 + d.below(3)][d.below(2)];
+            // A mode, a rate code, n and d more often.
+            let k = [d.below(WORDS), 3 + d.below(3), 0][d.below(3)];
             w[k] = another(k, w[k], d);
         }
         self.by_words(&w, length, state);
@@ -174,7 +181,7 @@ impl Run {
         if self.d.one_in(2) {
             self.odd_creation(&c);
         }
-        if (c.n, c.d) != (0, 0) || self.d.one_in(2) {
+        if c.mode != MODES[0] || (c.n, c.d) != (0, 0) || self.d.one_in(2) {
             let (length, state) = (CBR_CONFIG_BYTES + self.d.below(2) * self.d.below(16), self.state_place());
             return self.by_words(&words_of(&c), length, state);
         }

@@ -4,7 +4,7 @@ unsafe extern "C" {
     pub fn vbv_check(
         stream: *const u8,
         stream_len: usize,
-        standard: u8,
+        mode: u8,
         report: *mut u8,
         report_len: usize,
         records: *mut u8,
@@ -15,7 +15,7 @@ unsafe extern "C" {
     pub fn vbv_report(
         stream: *const u8,
         stream_len: usize,
-        standard: u8,
+        mode: u8,
         report: *mut u8,
         report_len: usize,
         refusal: *mut u8,

@@ -1,29 +1,39 @@
-//! The check and the delay patch: streams and headers drawn like those of kinds 16 to 18, and the original's answers to them.
-//! Before some of the checks stands another one, of the same stream: with a place that is too short for a report or a refusal,
-//! or for a standard that there is none of. After each check stands the report alone, of the same stream in the same places.
-//! What a list of the writer's calls handed out is checked too.
+//! The check and the delay patch: streams and headers drawn like those of kinds 16 to 18 and 20, and the original's answers to
+//! them, in film mode those of film.rs. Before some of the checks stands another one, of the same stream: with a place that is
+//! too short for a report or a refusal, or in a mode that there is none of. After each check stands the report alone, of the
+//! same stream in the same places. What a list of the writer's calls handed out is checked too, plain and in film mode.
 
 use crate::entry;
 use crate::run::{Owed, Run};
 use oracle::check::{fifths, judged};
 use oracle::draw::Draw;
 use oracle::format::number;
-use oracle::layout::{VBV_MPEG1, VBV_MPEG2, VBV_RECORD_BYTES, VBV_REFUSAL_BYTES, VBV_REPORT_BYTES};
+use oracle::layout::{VBV_RECORD_BYTES, VBV_REFUSAL_BYTES, VBV_REPORT_BYTES};
+use oracle::mode::{FILM, MPEG1, Mode, PLAIN};
 use oracle::model::patched;
 use oracle::place::{Left, Place, lay};
 use oracle::spans::picture_codes;
-use original::vbv::VbvStandard;
 
-const CHECKS: [&str; 2] = ["checks of MPEG-1 streams", "checks of MPEG-2 streams"];
+/// By mode: MPEG-1, plain, film.
+const CHECKS: [&str; 3] = ["checks of MPEG-1 streams", "checks of MPEG-2 streams", "checks in film mode"];
 const STOPPED: &str = "checks stopped before the stream";
-const REPORTS: [&str; 2] = ["reports alone of MPEG-1 streams", "reports alone of MPEG-2 streams"];
+const REPORTS: [&str; 3] =
+    ["reports alone of MPEG-1 streams", "reports alone of MPEG-2 streams", "reports alone in film mode"];
 const STOPPED_REPORTS: &str = "reports alone stopped before the stream";
 const PATCHES: &str = "patches";
-const SENT: &str = "checks of what a list handed out";
+/// By what a writer's mode and that of the check are.
+const SENT: [&str; 4] = [
+    "plain checks of what a plain writer handed out",
+    "film checks of what a plain writer handed out",
+    "plain checks of what a film writer handed out",
+    "film checks of what a film writer handed out",
+];
 /// Records of accepted streams, by their fifth word.
-const RECORDS: [&str; 2] = ["records of MPEG-1 streams", "records of MPEG-2 streams"];
-const SENT_RECORDS: &str = "records of what a list handed out";
-const PERIODS: [&str; 2] = ["periods 1", "periods 2"];
+const RECORDS: [&str; 3] = ["records of MPEG-1 streams", "records of MPEG-2 streams", "records in film mode"];
+const SENT_RECORDS: [&str; 2] =
+    ["records of what a plain writer handed out", "records of what a film writer handed out"];
+const PERIODS: [&str; 5] = ["periods 1", "periods 2", "periods 3", "periods 4", "periods 6"];
+const PLAIN_PERIODS: &[&str] = PERIODS.split_at(2).0;
 
 const MORE: &str = "accepted, with bytes after the records";
 /// The last two are the check's; the report alone has the others.
@@ -46,36 +56,45 @@ const ANSWERS: [&str; 15] = [
 ];
 const REPORT_ANSWERS: &[&str] = ANSWERS.split_at(13).0;
 /// What stops a check, in the order in which it is tested.
-const STOPS: [&str; 7] = [
-    "19: a short place, with no such standard",
+const STOPS: [&str; 9] = [
+    "19: a short place, with no such mode",
     "19: both places short",
     "19: a short report place",
     "19: a short refusal place",
-    "12: standard 0",
-    "12: standard 3",
-    "12: another standard",
+    "12: mode 0",
+    "12: mode 3",
+    "12: film alone",
+    "12: MPEG-1 with film",
+    "12: another mode",
 ];
 
 /// What has to be met.
-pub const OWED: [Owed; 11] = [
+pub const OWED: [Owed; 18] = [
     (CHECKS[0], &ANSWERS),
     (CHECKS[1], &ANSWERS),
+    (CHECKS[2], &ANSWERS),
     (STOPPED, &STOPS),
     (REPORTS[0], REPORT_ANSWERS),
     (REPORTS[1], REPORT_ANSWERS),
+    (REPORTS[2], REPORT_ANSWERS),
     (STOPPED_REPORTS, &STOPS),
     (PATCHES, &["patched", "20: fewer than 8 bytes", "20: no picture start code"]),
-    (SENT, &["accepted"]),
+    (SENT[0], &["accepted"]),
+    (SENT[1], &["accepted"]),
+    (SENT[2], &["accepted", "refused 11"]),
+    (SENT[3], &["accepted"]),
     (RECORDS[0], &["periods 2"]),
-    (RECORDS[1], &PERIODS),
-    (SENT_RECORDS, &PERIODS),
+    (RECORDS[1], PLAIN_PERIODS),
+    (RECORDS[2], &PERIODS),
+    (SENT_RECORDS[0], PLAIN_PERIODS),
+    (SENT_RECORDS[1], &PERIODS),
 ];
 
 /// A check as C asks for it.
 #[derive(Clone)]
 struct Check<'a> {
     stream: &'a [u8],
-    standard: u8,
+    mode: u8,
     report: Vec<u8>,
     records: Vec<u8>,
     refusal: Vec<u8>,
@@ -84,11 +103,17 @@ struct Check<'a> {
 /// What stops a check before it looks at the stream.
 fn stop(c: &Check) -> Option<(u64, &'static str)> {
     let (report, refusal) = (c.report.len() < VBV_REPORT_BYTES, c.refusal.len() < VBV_REFUSAL_BYTES);
-    let no_standard = ![VBV_MPEG1, VBV_MPEG2].contains(&c.standard);
-    let short = [no_standard && (report || refusal), report && refusal, report, refusal];
-    let none = [c.standard == 0, c.standard == 3, no_standard];
+    let no_mode = ![1, 2, 6].contains(&c.mode);
+    let short = [no_mode && (report || refusal), report && refusal, report, refusal];
+    let none = [c.mode == 0, c.mode == 3, c.mode == 4, c.mode == 5, no_mode];
     let at = short.into_iter().chain(none).position(|stops| stops)?;
     Some((if at < short.len() { 19 } else { 12 }, STOPS[at]))
+}
+
+/// The mode of a check that is not stopped, and which of the three it is.
+fn mode_of(c: &Check) -> (Mode, usize) {
+    let mode = Mode::of(c.mode.into()).unwrap();
+    (mode, [MPEG1, PLAIN, FILM].iter().position(|&m| m == mode).unwrap())
 }
 
 /// What is expected of a check, and what it is counted as.
@@ -98,9 +123,9 @@ fn expected(c: &Check) -> (Left, &'static str, String) {
         left.number = number;
         return (left.with("refusal", &[number, 0, 0, 0]), STOPPED, why.into());
     }
-    let standard = if c.standard == VBV_MPEG1 { VbvStandard::Mpeg1 } else { VbvStandard::Mpeg2 };
-    let what = CHECKS[usize::from(c.standard) - 1];
-    let ((number, _), words) = judged(standard, c.stream, left.at("records"));
+    let (mode, at) = mode_of(c);
+    let what = CHECKS[at];
+    let ((number, _), words) = judged(mode, c.stream, left.at("records"));
     if number == 0 {
         let more = VBV_RECORD_BYTES * (words[2] as usize) < c.records.len();
         return (left.with("report", &words), what, if more { MORE } else { ANSWERS[0] }.into());
@@ -118,7 +143,7 @@ fn checked(c: &Check, d: &mut Draw) -> Left {
         entry::vbv_check(
             stream.at(),
             stream.len,
-            c.standard,
+            c.mode,
             report.at(),
             report.len,
             records.at(),
@@ -144,7 +169,7 @@ fn reported(c: &Check, d: &mut Draw) -> Left {
     let mut stream = Place::new(c.stream, d);
     let [mut report, mut refusal] = [&c.report, &c.refusal].map(|bytes| Place::new(bytes, d));
     let number = unsafe {
-        entry::vbv_report(stream.at(), stream.len, c.standard, report.at(), report.len, refusal.at(), refusal.len)
+        entry::vbv_report(stream.at(), stream.len, c.mode, report.at(), report.len, refusal.at(), refusal.len)
     };
     Left::after(number, &[("report", &report), ("refusal", &refusal)], &[(&stream, c.stream)])
 }
@@ -160,7 +185,7 @@ fn odd<'a>(c: &Check<'a>, d: &mut Draw) -> Check<'a> {
         c.refusal.truncate(d.below(VBV_REFUSAL_BYTES));
     }
     if which == 3 || d.one_in(4) {
-        c.standard = [0, 3, 3 + d.below(253) as u8][d.below(3)];
+        c.mode = [0, 3, 4, 5, 10, 7 + d.below(249) as u8][d.below(6)];
     }
     c
 }
@@ -177,7 +202,7 @@ impl Run {
         let found = checked(c, &mut self.d);
         self.met(what, &why, &found, &left);
         if left.number == 0 {
-            self.records(RECORDS[usize::from(c.standard) - 1], &mut left);
+            self.records(RECORDS[mode_of(c).1], &mut left);
         }
         let (expected, what, why) = expected_alone(c);
         let found = reported(c, &mut self.d);
@@ -192,30 +217,36 @@ impl Run {
         }
     }
 
-    /// What a list handed out, with delay, bits and periods of each placed picture. The check accepts it, and has these
-    /// in its records, the delay twice; all else is as the original finds it.
-    pub fn sent(&mut self, stream: &[u8], placed: &[[u64; 3]]) {
+    /// What a list handed out, with delay, bits and periods of each placed picture. The check of the writer's mode accepts it,
+    /// and has these in its records, the delay twice; all else is as the original or film.rs finds it. A film check of what a
+    /// plain writer handed out is no other; a plain one of what a film writer handed out may be.
+    pub fn sent(&mut self, film: bool, mode: Mode, stream: &[u8], placed: &[[u64; 3]]) {
         let lengths = [VBV_REPORT_BYTES, VBV_RECORD_BYTES * placed.len(), VBV_REFUSAL_BYTES];
         let [report, records, refusal] = lengths.map(|n| self.d.bytes(n));
-        let c = Check { stream, standard: VBV_MPEG2, report, records, refusal };
+        let c = Check { stream, mode: mode.number() as u8, report, records, refusal };
         let (mut left, _, why) = expected(&c);
-        assert_eq!(left.number, 0, "the original's check refuses what a list handed out");
-        for (record, &[delay, bits, periods]) in left.at("records").chunks_mut(VBV_RECORD_BYTES).zip(placed) {
-            let occupancy = number(&record[24..32]);
-            lay(record, &[delay, delay, bits, occupancy, periods]);
+        let due = mode.film || !film;
+        if due {
+            assert_eq!(left.number, 0, "the check refuses what a list handed out");
+            for (record, &[delay, bits, periods]) in left.at("records").chunks_mut(VBV_RECORD_BYTES).zip(placed) {
+                let occupancy = number(&record[24..32]);
+                lay(record, &[delay, delay, bits, occupancy, periods]);
+            }
         }
         let found = checked(&c, &mut self.d);
-        self.met(SENT, &why, &found, &left);
-        self.records(SENT_RECORDS, &mut left);
+        self.met(SENT[2 * usize::from(film) + usize::from(mode.film)], &why, &found, &left);
+        if due {
+            self.records(SENT_RECORDS[usize::from(film)], &mut left);
+        }
     }
 
     /// One stream: the input has the length of its records place in front.
-    pub fn stream(&mut self, standard: u8, input: &[u8]) {
+    pub fn stream(&mut self, mode: u8, input: &[u8]) {
         let (part, stream) = input.split_at(2);
         let d = &mut self.d;
         let [report, refusal] = [VBV_REPORT_BYTES, VBV_REFUSAL_BYTES].map(|n| n + d.below(3) * d.below(16));
         let [report, records, refusal] = [report, number(part) as usize, refusal].map(|n| d.bytes(n));
-        let c = Check { stream, standard, report, records, refusal };
+        let c = Check { stream, mode, report, records, refusal };
         if self.d.one_in(4) {
             let odd = odd(&c, &mut self.d);
             self.check(&odd);

@@ -50,6 +50,7 @@ use denote.Triple.Clauses.{ensured, Lasts, lasts}
 use denote.Exit.{yes}
 use Rattle.verify.specs.Answers.{verifiedAnswer}
 use Rattle.verify.specs.Check.{verdict, reported, records}
+use Rattle.verify.specs.Mode.{plain as plainOf}
 use Rattle.pictures.specs.declared.VbvStandard.{VbvStandard}
 use Rattle.verify.specs.declared.VbvVerified.{VbvVerified}
 use Rattle.verify.specs.declared.VbvPictureRecord.{VbvPictureRecord}
@@ -112,10 +113,10 @@ module _ {M : Type 1} (𝓤 : URA M) (H : Heap 𝓤) (A : Atoms 𝓤) (W : Given
   bv = only (rvals filling)
 
   abbrev Told : VbvVerified → Type 0
-  Told r = verifiedAnswer r ≡ reported (verdict standard xs 4)
+  Told r = verifiedAnswer r ≡ reported (verdict (plainOf standard) xs 4)
 
   abbrev zs : List VbvPictureRecord
-  zs = over (records (verdict standard xs 4)) ws₀
+  zs = over (records (verdict (plainOf standard) xs 4)) ws₀
 
   abbrev x : RefT (List ℕ) × (VbvStandard × (VbvPictureRecord × Unit {0}))
   x = (s, (standard, (filling, tt)))

@@ -1,0 +1,187 @@
+//! Figures of request 05 that were settled apart from this model: lists of pictures with their periods in film mode, a channel with
+//! its delays and its report, and the table that the request comes to, as rules of a state that moves from picture to picture.
+//! cadence.rs, which has no such state, and the models of writer and check are held to them before they are used.
+
+use crate::cadence::{self, Facts, SEQUENCES, Sequence, periods};
+use crate::check::judged;
+use crate::format::number;
+use crate::headers::pack;
+use crate::layout::VBV_RECORD_BYTES;
+use crate::mode::{FILM, Mode, PLAIN};
+use crate::writer::{Config, FRAME, Offer, Told, Writer};
+
+/// I P B are frames, i p b fields; ' is repeat_first_field, ^ top_field_first, " both. Periods in each of the four sequences.
+pub const LISTS: [(&str, [&str; 4]); 16] = [
+    ("I' P P", ["2 3 2", "3 2 2", "2 4 2", "4 2 2"]),
+    ("I' B' P", ["2 3 3", "3 3 2", "2 4 4", "4 4 2"]),
+    ("B' I", ["3 2", "3 2", "4 2", "4 2"]),
+    ("I' ip P", ["2 1 2 2", "3 1 1 2", "2 1 1 2", "4 1 1 2"]),
+    ("I' p P", ["2 1 2", "3 1 2", "2 1 2", "4 1 2"]),
+    ("I' p B P", ["2 1 2 2", "3 1 2 2", "2 1 2 2", "4 1 2 2"]),
+    ("I' bb P", ["2 1 1 3", "3 1 1 2", "2 1 1 4", "4 1 1 2"]),
+    ("I' b P", ["2 1 3", "3 1 2", "2 1 4", "4 1 2"]),
+    ("I' pb P", ["2 1 2 2", "3 1 1 2", "2 1 1 2", "4 1 1 2"]),
+    ("I' bp P", ["2 1 1 3", "3 1 1 2", "2 1 1 4", "4 1 1 2"]),
+    ("ip P", ["1 1 2", "1 1 2", "1 1 2", "1 1 2"]),
+    ("I' ppp P", ["2 1 2 1 2", "3 1 1 1 2", "2 1 1 1 2", "4 1 1 1 2"]),
+    ("I\" P", ["2 3", "3 2", "2 6", "6 2"]),
+    ("I^ P", ["2 2", "2 2", "2 2", "2 2"]),
+    ("I\" B\" P", ["2 3 3", "3 3 2", "2 6 6", "6 6 2"]),
+    ("I' P' B' B P B' P", ["2 3 3 2 3 3 2", "3 3 3 2 2 3 2", "2 4 4 2 4 4 2", "4 4 4 2 2 4 2"]),
+];
+
+/// The sequence of a column.
+pub fn sequence(column: usize) -> Sequence {
+    Sequence { progressive: column / 2 == 1, low_delay: column % 2 == 1 }
+}
+
+/// The kinds (0, 1, 2 for I, P, B) and facts of a list in letters.
+pub fn pictures(letters: &str) -> Vec<(usize, Facts)> {
+    let mut all: Vec<(usize, Facts)> = vec![];
+    for c in letters.chars().filter(|c| *c != ' ') {
+        match "IPBipb".find(c) {
+            Some(at) => {
+                let field = 3 <= at;
+                all.push((at % 3, Facts { anchor: at % 3 != 2, field, repeat: false, top: false }));
+            }
+            None => {
+                let facts = &mut all.last_mut().unwrap().1;
+                facts.repeat |= c != '^';
+                facts.top |= c != '\'';
+            }
+        }
+    }
+    all
+}
+
+/// L of the table: a frame of a progressive sequence.
+fn longer(repeat: bool, top: bool) -> u64 {
+    [2, 2, 4, 6][2 * usize::from(repeat) + usize::from(top)]
+}
+
+/// The state of the table: the previous anchor's flags, and the open field (0 none, 1 led by I or P, 2 by B).
+#[derive(Clone, Copy)]
+struct State {
+    repeat: bool,
+    top: bool,
+    open: u8,
+}
+
+/// The table's row for a picture: its periods, and what stands afterwards.
+fn row(s: Sequence, now: State, x: Facts) -> (u64, State) {
+    let State { repeat: big_r, top: big_t, open } = now;
+    let (r, t) = (x.repeat, x.top);
+    let own = if s.progressive { longer(r, t) } else { 2 + u64::from(r) };
+    let anchors = if s.progressive { longer(big_r, big_t) } else { 2 + u64::from(big_r) };
+    let plain = !s.progressive && !s.low_delay;
+    match (x.field, x.anchor, open) {
+        (false, false, 1) => (own, State { repeat: false, top: false, open: 0 }),
+        (false, false, _) => (own, State { open: 0, ..now }),
+        (false, true, 1) => (if s.low_delay { own } else { 2 }, State { repeat: r, top: t, open: 0 }),
+        (false, true, _) => (if s.low_delay { own } else { anchors }, State { repeat: r, top: t, open: 0 }),
+        (true, true, 0) => (1, State { open: 1, ..now }),
+        (true, false, 0) => (1, State { open: 2, ..now }),
+        (true, _, 1) => (1 + u64::from(plain && big_r), State { repeat: false, top: false, open: 0 }),
+        (true, _, _) => (1, State { open: 0, ..now }),
+    }
+}
+
+fn all_facts() -> impl Iterator<Item = Facts> {
+    (0..16).map(|i| Facts { anchor: i & 1 != 0, field: i & 2 != 0, repeat: i & 4 != 0, top: i & 8 != 0 })
+}
+
+/// Every list of so many pictures more agrees with the table from a state on: periods, words left, and a list that leaves them.
+fn agree(s: Sequence, before: &[Facts], now: State, more: usize) {
+    for x in all_facts() {
+        let list = [before, &[x]].concat();
+        let (due, after) = row(s, now, x);
+        assert_eq!(cadence::last_periods(s, &list), due, "{list:?} {s:?}");
+        let words = [after.repeat.into(), after.top.into(), after.open.into()];
+        assert_eq!(cadence::left(&list), words, "{list:?}");
+        assert_eq!(cadence::left(&cadence::leaving(words)), words);
+        if 0 < more {
+            agree(s, &list, after, more - 1);
+        }
+    }
+}
+
+/// A channel: fields 2500 and 20, rate code 4, interlaced, low_delay 0; frames of 4,021 bytes (I) or 4,022.
+const CHANNEL: &str = "I' P B' B P' B B' P";
+const DELAYS: [u64; 8] = [22118, 22226, 23835, 25443, 25550, 25658, 25765, 27373];
+const PERIODS: [u64; 8] = [2, 3, 3, 2, 2, 2, 3, 3];
+/// R, B, pictures, least occupancy after and greatest before.
+const REPORT: [u64; 5] = [1_000_000, 327_680, 8, 213_619, 304_180];
+
+/// Its first headers: 16 by 16, square; interlaced 4:2:0; a closed group at 0.
+const HEADERS: [u8; 30] = [
+    0, 0, 1, 0xB3, 0x01, 0x00, 0x10, 0x14, 0x02, 0x71, 0x20, 0xA0, 0, 0, 1, 0xB5, 0x14, 0x82, 0x00, 0x01, 0x00, 0x00,
+    0, 0, 1, 0xB8, 0x00, 0x08, 0x00, 0x40,
+];
+
+fn layer(kind: usize, facts: Facts) -> Vec<u8> {
+    let hints = vec![(4, 7); kind];
+    let padding = if kind == 0 { 2 } else { 8 - (61 + 4 * kind as u32 + 1) % 8 };
+    let header = [&[(32, 0x100), (10, 0), (3, kind as u64 + 1), (16, 0)][..], &hints, &[(1, 0), (padding, 0)]].concat();
+    let flags = [(1, facts.top.into()), (5, 0x10), (1, facts.repeat.into()), (3, 6)];
+    let extension = [&[(32, 0x1B5), (4, 8), (16, 0xFFFF), (2, 0), (2, 3)][..], &flags].concat();
+    let mut layer = [pack(&header), pack(&extension), vec![0, 0, 1, 1]].concat();
+    layer.resize(if kind == 0 { 4021 } else { 4022 }, 0x55);
+    layer
+}
+
+/// The writer's answers to the channel's offers, up to the first refusal, and what was handed out.
+fn sent(mode: Mode) -> (Vec<Told>, Vec<u8>) {
+    let (mode, n, d) = (mode.number(), 0, 0);
+    let config = Config { mode, rate: 2500, buffer: 20, rate_code: 4, n, d, q: 8, between: 2, anchors: 4 };
+    let mut w = Writer::create(config).unwrap();
+    let (mut told, mut stream) = (vec![], vec![]);
+    for (i, (kind, facts)) in pictures(CHANNEL).into_iter().enumerate() {
+        let headers = if i == 0 { HEADERS.to_vec() } else { vec![] };
+        let mut part = vec![0; 8000];
+        told.push(
+            w.offer(&Offer { headers, kind, interval: FRAME, last: false, layer: layer(kind, facts) }, &mut part),
+        );
+        match told[i] {
+            Told::Placed { bytes, .. } => stream.extend(&part[..bytes as usize]),
+            _ => break,
+        }
+    }
+    (told, stream)
+}
+
+/// Holds writer.rs and film.rs to the channel.
+fn hold_channel() {
+    let (told, stream) = sent(FILM);
+    for (told, (delay, periods)) in told.iter().zip(DELAYS.into_iter().zip(PERIODS)) {
+        match *told {
+            Told::Placed { delay: d, stuffing: 0, periods: p, .. } => assert_eq!([d.into(), p], [delay, periods]),
+            other => panic!("{other:?}"),
+        }
+    }
+    let mut part = vec![0; 8 * VBV_RECORD_BYTES];
+    let ((refused, _), report) = judged(FILM, &stream, &mut part);
+    assert_eq!((refused, report), (0, REPORT));
+    let words: Vec<u64> = part.chunks(8).map(number).collect();
+    for (record, (delay, periods)) in words.chunks(5).zip(DELAYS.into_iter().zip(PERIODS)) {
+        assert_eq!([record[0], record[1], record[4]], [delay, delay, periods]);
+    }
+    let ((refused, _), told) = judged(PLAIN, &stream, &mut part);
+    assert_eq!((refused, told), (11, [2, 23835, 22333, 0, 0]));
+    assert_eq!(sent(PLAIN).0, [Told::Refused(20)]);
+}
+
+/// Holds cadence.rs to the lists, and to the table over all lists of up to four pictures; and the writer and its check to a
+/// channel.
+pub fn hold() {
+    hold_channel();
+    for (letters, due) in LISTS {
+        let facts: Vec<Facts> = pictures(letters).iter().map(|p| p.1).collect();
+        for (column, due) in due.iter().enumerate() {
+            let told: Vec<String> = periods(sequence(column), &facts).iter().map(u64::to_string).collect();
+            assert_eq!(told.join(" "), *due, "{letters}, {}", SEQUENCES[column]);
+        }
+    }
+    for column in 0..4 {
+        agree(sequence(column), &[], State { repeat: false, top: false, open: 0 }, 3);
+    }
+}
