@@ -23,14 +23,16 @@ AVFORMAT_LIBS := $(shell pkg-config --libs $(AVFORMAT))
 endif
 
 # The sources of each C program.
-reading = tools/stream.c tools/input.c tools/container.c tools/look.c tools/shell.c c/refusal_text.c
+reading = tools/stream.c tools/input.c tools/container.c tools/look.c tools/cadence.c tools/shell.c c/refusal_text.c
 vbvreport = tools/vbvreport.c tools/plot.c tools/label.c tools/report.c tools/place.c tools/caution.c tools/words.c \
     tools/script.c $(reading)
 cbrsend = tools/cbrsend.c tools/request.c tools/advice.c tools/sending.c tools/split.c tools/why.c tools/outfile.c \
     tools/progress.c tools/report.c tools/caution.c tools/look.c tools/place.c $(reading)
 entries = tests/c/entries.c tests/c/places.c c/refusal_text.c
-sender = tests/c/sender.c tests/c/channel.c tests/c/rules.c tests/c/places.c c/refusal_text.c
-configs = tests/c/configs.c tests/c/channel.c tests/c/rules.c tests/c/places.c c/refusal_text.c
+writing = tests/c/channel.c tests/c/rules.c tests/c/places.c tools/cadence.c c/refusal_text.c
+sender = tests/c/sender.c $(writing)
+configs = tests/c/configs.c $(writing)
+film = tests/c/film.c $(writing)
 texts = tests/c/texts.c c/refusal_text.c
 structs = tests/c/structs.c
 stamp = tests/c/stamp.c
@@ -41,7 +43,7 @@ fuzz-vbvreport = tests/c/fuzz.c $(vbvreport)
 fuzz-cbrsend = tests/c/fuzz.c $(cbrsend)
 
 TOOLS = tools/vbvreport tools/cbrsend
-PROGRAMS = entries sender configs texts structs stamp drawings readme_check readme_send
+PROGRAMS = entries sender configs film texts structs stamp drawings readme_check readme_send
 TESTS = $(addprefix target/tests/,$(PROGRAMS) vbvreport)
 SANITIZED_TOOLS = $(addprefix target/sanitized/,$(notdir $(TOOLS)) fuzz-vbvreport fuzz-cbrsend)
 SANITIZED = $(SANITIZED_TOOLS) $(addprefix target/sanitized/,$(PROGRAMS))

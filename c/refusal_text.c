@@ -35,7 +35,7 @@ static const struct {
         "Write the right delays: cbrsend does, or vbv_patch_delay." },
     [VBV_PARAMETER] = { "parameter out of range",
         "The rate or the buffer is zero or too large, or the buffer takes more than 65,534 ticks to fill. Choose others. "
-        "From C also: a bad configuration, standard, mode, kind, interval, flag or state." },
+        "From C also: a bad configuration, mode, kind, interval, flag or state." },
     [VBV_TOO_FAR] = { "stream too long",
         "The stream has more than 2^48 bits. Check it in parts; send the rest by a new writer." },
     [VBV_RECORD_PLACES] = { "too few record places",
@@ -49,8 +49,8 @@ static const struct {
         "The output part, or a place for a report, refusal, answer or state, is too short. Make the same call with more room; "
         "the buffer's size is always enough for a picture." },
     [CBR_LAYER] = { "layer does not fit",
-        "This is not one whole MPEG-2 picture of the kind and interval given, or it repeats a field; for vbv_patch_delay, it is "
-        "no picture header. Correct the encoder." },
+        "This is not one whole MPEG-2 picture of the kind and interval given, or it repeats a field and the writer is not for "
+        "film; for vbv_patch_delay, no picture header. Correct the encoder." },
     [CBR_TOO_LARGE] = { "too large",
         "At this rate and buffer the picture is not whole in a set when it is due. "
         "Encode it with less detail, or raise the rate or the buffer." },

@@ -18,10 +18,13 @@
 extern "C" {
 #endif
 
-#define HIPOKUTA_VERSION "2.1"
+#define HIPOKUTA_VERSION "3.0"
 
+/* Modes: MPEG-1; MPEG-2, a picture lasting a frame's time or a field's; and VBV_MPEG2 + VBV_FILM, where repeat_first_field
+ * counts too (13818-2, C.9 to C.12; see vbv_check). There is no other. */
 #define VBV_MPEG1 1
 #define VBV_MPEG2 2
+#define VBV_FILM 4
 
 /* Refusals: the value that an entry returns, where it is not 0 (REFUSALS.md). No entry returns any other number. */
 enum {
@@ -73,7 +76,7 @@ struct vbv_record {
     uint64_t data_bits;        /* from the last picture's end to this one's */
     uint64_t occupancy_before; /* bits held just before the removal */
     uint64_t periods;          /* field periods up to the next removal, each half a frame's time: 1 for a field picture, 2 for a
-                                * frame; repeat_first_field is not read */
+                                * frame; in film mode 1, 2, 3, 4 or 6, as repeat_first_field says (see vbv_check) */
 };
 
 struct vbv_refusal {
@@ -91,11 +94,23 @@ struct vbv_refusal {
  * Pictures are removed at the frame rate of the first sequence header: its code's, in MPEG-2 times (n + 1) / (d + 1), n and d
  * being frame_rate_extension_n and _d of its sequence extension.
  *
- * standard is VBV_MPEG1 or VBV_MPEG2, else 12. There are records_len / VBV_RECORD_BYTES record places; fewer than pictures is
- * 15: vbv_report, which takes none, tells in pictures how many are needed. A report_len under VBV_REPORT_BYTES or a refusal_len
- * under VBV_REFUSAL_BYTES is 19, before anything else; a refusal place that is too short is untouched.
+ * mode is VBV_MPEG1, VBV_MPEG2 or VBV_MPEG2 + VBV_FILM, else 12. In film mode the next removal waits for repeated fields, by
+ * progressive_sequence and low_delay of the first sequence header's extension:
+ * - a B frame lasts 2 field periods, with repeat_first_field 3; an I or P frame lasts 2 or 3 by that flag of the I or P picture
+ *   before it, 2 where there is none;
+ * - a field lasts 1; but the second of a pair that I or P leads lasts 2 where the I or P picture before the pair has the flag.
+ *   Fields that follow one another pair up, whatever headers stand between them. A pair that I or P leads, or such a field
+ *   that a frame follows, is an I or P picture without the flag;
+ * - with low_delay 1 a frame goes by its own flag, and every field lasts 1;
+ * - in a progressive sequence a frame that would last 3 lasts 4, or 6 where top_field_first stands beside the flag, and every
+ *   field lasts 1.
+ * A picture that is late is 10 with low_delay 1 too (no big pictures, C.7). Other modes do not read these flags.
+ *
+ * There are records_len / VBV_RECORD_BYTES record places; fewer than pictures is 15: vbv_report, which takes none, tells in
+ * pictures how many are needed. A report_len under VBV_REPORT_BYTES or a refusal_len under VBV_REFUSAL_BYTES is 19, before
+ * anything else; a refusal place that is too short is untouched.
  */
-uint64_t vbv_check(const uint8_t *stream, size_t stream_len, uint8_t standard,
+uint64_t vbv_check(const uint8_t *stream, size_t stream_len, uint8_t mode,
                    void *report, size_t report_len,
                    void *records, size_t records_len,
                    void *refusal, size_t refusal_len);
@@ -104,7 +119,7 @@ uint64_t vbv_check(const uint8_t *stream, size_t stream_len, uint8_t standard,
  * the stream once, where vbv_check goes over it again for the records. The report's pictures are the record places that
  * vbv_check needs to accept this stream.
  */
-uint64_t vbv_report(const uint8_t *stream, size_t stream_len, uint8_t standard,
+uint64_t vbv_report(const uint8_t *stream, size_t stream_len, uint8_t mode,
                     void *report, size_t report_len,
                     void *refusal, size_t refusal_len);
 
@@ -118,11 +133,11 @@ uint64_t vbv_patch_delay(uint8_t *picture, size_t picture_len, uint16_t vbv_dela
 /* Bytes of what a writer is created with, of its state, and of the answer to an offer, and the structs that lie over them. A
  * program may copy a state and go on from the copy; it reads the words, and writes none. */
 #define CBR_CONFIG_BYTES 72
-#define CBR_STATE_BYTES 152
+#define CBR_STATE_BYTES 200 /* 152 before 3.0: header and archive have to be of one version */
 #define CBR_ANSWER_BYTES 72
 
 struct cbr_config {
-    uint64_t mode;                   /* VBV_MPEG2; there is no other yet */
+    uint64_t mode;                   /* VBV_MPEG2, or VBV_MPEG2 + VBV_FILM for a film writer */
     uint64_t bit_rate_value;         /* the rate in units of CBR_RATE_UNIT: 1 to CBR_MOST_RATE */
     uint64_t vbv_buffer_size_value;  /* the buffer in units of CBR_BUFFER_UNIT: 1 to CBR_MOST_BUFFER */
     uint64_t frame_rate_code;        /* 1 to 8: 24000/1001, 24, 25, 30000/1001, 30, 50, 60000/1001, 60 frames a second, */
@@ -145,6 +160,11 @@ struct cbr_state {
     uint64_t pending_q;      /* the quantiser to encode that one with; 0 where none is pending */
     uint64_t stuffing_bytes; /* zeros handed out as stuffing so far */
     uint64_t finished;       /* 1 once the last picture was placed */
+    uint64_t mode;           /* as created: VBV_MPEG2, in which the words below are 0, or VBV_MPEG2 + VBV_FILM */
+    uint64_t progressive_sequence, low_delay; /* by the first placed picture's headers */
+    uint64_t anchor_repeat_first_field;       /* of the last I or P picture placed, 0 before there is one; */
+    uint64_t anchor_top_field_first;          /* of the same */
+    uint64_t open_field;     /* a field that waits for the second of its pair: 0 none, 1 an I or P field, 2 a B field */
 };
 
 struct cbr_answer {
@@ -158,7 +178,8 @@ struct cbr_answer {
     uint64_t stuffing;        /* zeros among these */
 };
 
-/* Kinds of picture; the interval from a picture's removal to the next one's; how an answer came out. */
+/* Kinds of picture; the interval from a picture's removal to the next one's, by its structure: repeated fields come on top; how
+ * an answer came out. */
 #define CBR_I 0
 #define CBR_P 1
 #define CBR_B 2
@@ -189,8 +210,8 @@ uint64_t cbr_create(uint32_t bit_rate_value, uint16_t vbv_buffer_size_value, uin
                     void *state, size_t state_len);
 
 /* The same by the words of a struct cbr_config, with frame_rate_extension_n and _d: code 1 with n 1 and d 4 is 24000/1001 x 2/5
- * frames a second. cbr_create is this with VBV_MPEG2 and both 0. Set every word, by = { .. } say; bytes of config after the
- * struct's are not read.
+ * frames a second. With mode VBV_MPEG2 + VBV_FILM it is a film writer, whose stream the check of that mode accepts. cbr_create
+ * is this with VBV_MPEG2 and both 0. Set every word, by = { .. } say; bytes of config after the struct's are not read.
  *
  * In this order: 12 where config_len is under CBR_CONFIG_BYTES, 19 where state_len is under CBR_STATE_BYTES, 12 where mode is
  * none, 12 where a word is out of the range that stands beside it, the code's apart, then 6 where that is, then 12 where the
@@ -220,8 +241,10 @@ uint64_t cbr_create_config(const void *config, size_t config_len, void *state, s
  * layer fits if it is one MPEG-2 picture from its start code to the end of its slices: 00 at byte 0 and nowhere else, next the
  * picture coding extension, then any of B5 and B2, then slices (01 to AF), at least one, and nothing after them; it does not
  * end 00 00 01. Both headers are well formed; the type is kind, the structure a frame for CBR_FRAME and a field for CBR_FIELD;
- * repeat_first_field is 0; of a P or B picture the full-pel flags are 0 and the codes beside them 7 (MPEG-1's vectors have
- * others); between the picture header and the coding extension are only zeros. The delay may be any. Anything else is 20.
+ * repeat_first_field is 0, for a film writer 0 or 1; of a P or B picture the full-pel flags are 0 and the codes beside them 7
+ * (MPEG-1's vectors have others); between the picture header and the coding extension are only zeros. The delay may be any.
+ * Anything else is 20. A film writer reads from the layers how long each picture lasts (see vbv_check), and from the headers of
+ * the first picture placed progressive_sequence and low_delay.
  *
  * last is 1 for the stream's last picture, which needs no stuffing and is followed by a sequence end code, else 0. A channel
  * without an end never says 1: each picture is stuffed as the next removal needs it, and after each the check accepts all that

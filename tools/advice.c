@@ -95,7 +95,7 @@ void print_cause(const struct source *in, const struct sending *end)
     struct stream headers = headers_of(in, end->picture), layer = layer_of(in, end->picture);
     if (end->number == CBR_HEADERS)
         print_why_headers(&headers, end->picture == 0);
-    else if (end->number == CBR_LAYER && print_why_layer(&layer) == FILM)
+    else if (end->number == CBR_LAYER && print_why_layer(&layer, in->film) == FILM)
         printf("  Such are %zu of its %zu pictures.\n", repeating(in), in->pictures.count);
 }
 

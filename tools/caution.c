@@ -19,12 +19,15 @@ __attribute__((format(printf, 3, 4))) static void add(struct cautions *c, const 
     va_end(values);
 }
 
-/* What two sequence headers declare otherwise, in words. */
-static const char *changed(const struct declared *a, const struct declared *b, char *text, size_t room)
+/* What two sequence headers declare otherwise, in words; the last two where the mode reads them. */
+static const char *changed(const struct declared *a, const struct declared *b, uint8_t mode, char *text, size_t room)
 {
+    int film = counts_repeats(mode);
     const char *names[] = { a->bit_rate != b->bit_rate ? "rate" : NULL, a->buffer_bits != b->buffer_bits ? "buffer" : NULL,
                             a->width != b->width || a->height != b->height ? "size" : NULL,
-                            a->rate_over != b->rate_over || a->rate_under != b->rate_under ? "frame rate" : NULL };
+                            a->rate_over != b->rate_over || a->rate_under != b->rate_under ? "frame rate" : NULL,
+                            film && a->progressive_sequence != b->progressive_sequence ? "progressive_sequence" : NULL,
+                            film && a->low_delay != b->low_delay ? "low_delay" : NULL };
     size_t length = 0;
     for (size_t i = 0; i < sizeof names / sizeof *names; i++)
         if (names[i] != NULL && length < room)
@@ -53,16 +56,16 @@ static void of_headers(const struct input *in, uint8_t standard, const struct an
         struct declared later = declared_at(s, l->change, standard);
         add(c, "another sequence header", "Later sequence headers that declare something else: %zu, the first at byte %zu%s "
             "(%s). This check reads only the stream's first.", l->changes, l->change, of_what(in),
-            changed(&a->declared, &later, text, sizeof text));
+            changed(&a->declared, &later, a->mode, text, sizeof text));
     }
 }
 
 static void of_pictures(const struct answer *a, struct cautions *c)
 {
     const struct look *l = &a->look;
-    if (l->repeats > 0)
+    if (spoils_model(a))
         add(c, "repeated fields", "Pictures that repeat a field: %zu of %zu. This check does not read that: a set removes pictures "
-            "later than here, and its buffer may overflow.", l->repeats, l->pictures);
+            "later than here, and its buffer may overflow. --film counts them.", l->repeats, l->pictures);
 }
 
 /* Bytes that the header at the stream's end must have at least; 0 for a code that is none. */
@@ -91,7 +94,7 @@ static uint32_t rows(const struct input *in, uint8_t standard, const struct look
     if (standard != VBV_MPEG2 || in->standard != VBV_MPEG2 || l->in_force == in->stream.length)
         return 0;
     uint32_t height = declared_at(&in->stream, l->in_force, standard).height;
-    uint32_t lines = l->last.periods == 1 ? (height + 1) / 2 : height, count = (lines + ROW - 1) / ROW;
+    uint32_t lines = l->last.facts.field ? (height + 1) / 2 : height, count = (lines + ROW - 1) / ROW;
     return count <= MOST_ROWS ? count : 0;
 }
 
@@ -137,7 +140,7 @@ static void of_standard(const struct input *in, uint8_t standard, struct caution
 
 int spoils_model(const struct answer *a)
 {
-    return a->look.repeats > 0;
+    return a->look.repeats > 0 && !counts_repeats(a->mode);
 }
 
 void find_cautions(const struct input *in, uint8_t standard, const struct answer *a, struct cautions *c)

@@ -98,13 +98,13 @@ static int refuse_no_rate(struct job *j)
 }
 
 /* The library's check of what was written. */
-static int check(const struct outfile *out, uint64_t bytes, struct vbv_report *report)
+static int check(const struct outfile *out, uint64_t bytes, uint8_t mode, struct vbv_report *report)
 {
     void *mapped = mmap(NULL, bytes, PROT_READ, MAP_SHARED, fileno(out->file), 0);
     if (mapped == MAP_FAILED)
         return trouble(out->name, strerror(errno));
     struct vbv_refusal refusal;
-    uint64_t number = vbv_report(mapped, bytes, VBV_MPEG2, report, sizeof *report, &refusal, sizeof refusal);
+    uint64_t number = vbv_report(mapped, bytes, mode, report, sizeof *report, &refusal, sizeof refusal);
     munmap(mapped, bytes);
     return number == 0 ? 0 : trouble(out->name, "refused by the check: a defect of this program or the library, please report it");
 }
@@ -152,7 +152,7 @@ static void print_cautions(const struct job *j)
 
 static void print_sent(const struct job *j, const struct sending *end, const struct vbv_report *report)
 {
-    printf("%s: sent at a constant rate\n", j->asked.to);
+    printf("%s: sent at a constant rate%s\n", j->asked.to, j->in.film ? ", as film" : "");
     if (j->input.about[0] != 0)
         printf("  From %s: %s.\n", j->in.name, j->input.about);
     print_damage(j);
@@ -185,7 +185,7 @@ static int send_to(struct job *j, struct outfile *out)
     show_stage(&j->in.progress, "writing to the disk, and checking");
     int status = end.unwritten != 0 ? trouble(out->name, strerror(end.unwritten)) : settle_out(out);
     if (status == 0)
-        status = check(out, end.bytes, &report);
+        status = check(out, end.bytes, mode_of(&j->in), &report);
     if (status == 0)
         status = hand_out(out, j->data);
     end_progress(&j->in.progress);
@@ -260,7 +260,8 @@ static int run(struct job *j)
         return TROUBLE;
     if (set_aside_output(j) != 0 || take_in(j->asked.from, j->asked.which, &j->input) != 0)
         return TROUBLE;
-    j->in = (struct source){ .name = j->asked.from, .stream = j->input.stream, .unpacked = j->input.about[0] != 0 };
+    j->in = (struct source){ .name = j->asked.from, .stream = j->input.stream, .unpacked = j->input.about[0] != 0,
+                             .film = j->asked.film };
     int status = work(j);
     close_source(&j->in);
     let_go(&j->input);

@@ -14,7 +14,7 @@ enum stand { OUTSIDE, OPEN, SLICES };
 
 struct walk {
     const struct stream *s;
-    uint8_t standard;
+    uint8_t mode;
     enum stand stand;
     struct look *l;
     struct shown *of;
@@ -58,17 +58,35 @@ static struct stream coding_extension(const struct stream *picture)
     return found ? extension : part(picture, picture->length, picture->length);
 }
 
+uint8_t standard_of(uint8_t mode)
+{
+    return mode & (VBV_MPEG1 | VBV_MPEG2);
+}
+
+int counts_repeats(uint8_t mode)
+{
+    return (mode & VBV_FILM) != 0;
+}
+
+struct facts facts_of(const struct stream *picture, uint8_t standard)
+{
+    uint32_t type = field_value(picture, PICTURE_CODING_TYPE);
+    struct facts f = { type == I_PICTURE || type == P_PICTURE, 0, 0, 0 };
+    struct stream extension = coding_extension(picture);
+    if (standard == VBV_MPEG2 && extension.length > 0) {
+        uint32_t structure = field_value(&extension, PICTURE_STRUCTURE);
+        f.field = structure == TOP_FIELD || structure == BOTTOM_FIELD;
+        f.repeats = (uint8_t)field_value(&extension, REPEAT_FIRST_FIELD);
+        f.top = (uint8_t)field_value(&extension, TOP_FIELD_FIRST);
+    }
+    return f;
+}
+
 static struct shown shown_at(const struct walk *w, size_t at)
 {
     struct stream picture = part(w->s, at, w->s->length);
-    struct shown p = { at, w->s->length, (uint8_t)field_value(&picture, PICTURE_CODING_TYPE), 2, 0 };
-    struct stream extension = coding_extension(&picture);
-    if (w->standard == VBV_MPEG2 && extension.length > 0) {
-        uint32_t structure = field_value(&extension, PICTURE_STRUCTURE);
-        p.periods = structure == TOP_FIELD || structure == BOTTOM_FIELD ? 1 : 2;
-        p.repeats = (uint8_t)field_value(&extension, REPEAT_FIRST_FIELD);
-    }
-    return p;
+    return (struct shown){ at, w->s->length, (uint8_t)field_value(&picture, PICTURE_CODING_TYPE),
+                           facts_of(&picture, standard_of(w->mode)) };
 }
 
 static void begin_picture(struct walk *w, size_t at)
@@ -78,7 +96,7 @@ static void begin_picture(struct walk *w, size_t at)
     l->in_force = l->latest;
     l->last_slice = 0;
     l->early += l->sequence == w->s->length;
-    l->repeats += l->last.repeats;
+    l->repeats += l->last.facts.repeats;
     l->pictures++;
     w->stand = OPEN;
 }
@@ -91,19 +109,22 @@ static void end_picture(struct walk *w, size_t end)
     w->stand = OUTSIDE;
 }
 
-static int same_declared(struct declared a, struct declared b)
+/* The two flags are read where repeated fields are counted. */
+static int same_declared(struct declared a, struct declared b, uint8_t mode)
 {
+    int same_flags = a.progressive_sequence == b.progressive_sequence && a.low_delay == b.low_delay;
     return a.width == b.width && a.height == b.height && a.rate_over == b.rate_over && a.rate_under == b.rate_under &&
-           a.bit_rate == b.bit_rate && a.buffer_bits == b.buffer_bits;
+           a.bit_rate == b.bit_rate && a.buffer_bits == b.buffer_bits && (same_flags || !counts_repeats(mode));
 }
 
 static void take_sequence(struct walk *w, size_t at)
 {
     struct look *l = w->l;
+    uint8_t standard = standard_of(w->mode);
     l->latest = at;
     if (l->sequence == w->s->length) {
         l->sequence = at;
-    } else if (!same_declared(declared_at(w->s, l->sequence, w->standard), declared_at(w->s, at, w->standard))) {
+    } else if (!same_declared(declared_at(w->s, l->sequence, standard), declared_at(w->s, at, standard), w->mode)) {
         l->change = l->changes == 0 ? at : l->change;
         l->changes++;
     }
@@ -122,9 +143,9 @@ static void take_code(struct walk *w, int code, size_t at)
         w->l->end_code = at;
 }
 
-void look(const struct stream *s, uint8_t standard, struct look *l, struct shown *of)
+void look(const struct stream *s, uint8_t mode, struct look *l, struct shown *of)
 {
-    struct walk w = { s, standard, OUTSIDE, l, of };
+    struct walk w = { s, mode, OUTSIDE, l, of };
     size_t none = s->length;
     *l = (struct look){ .sequence = none, .change = none, .latest = none, .in_force = none, .last_code = none, .end_code = none };
     l->first_code = next_code(s, 0);
@@ -179,7 +200,7 @@ struct declared declared_at(const struct stream *s, size_t sequence, uint8_t sta
 {
     struct stream h = part(s, sequence, s->length);
     struct declared d = { field_value(&h, WIDTH), field_value(&h, HEIGHT), field_value(&h, FRAME_RATE_CODE), 0, 0, 0, 0,
-                          field_value(&h, BIT_RATE), field_value(&h, VBV_BUFFER_SIZE) };
+                          field_value(&h, BIT_RATE), field_value(&h, VBV_BUFFER_SIZE), 0, 0 };
     size_t length = sequence_length(s, sequence, VBV_MPEG1), at = prefix_after(&h, length);
     struct stream x = part(&h, at, h.length);
     if (standard == VBV_MPEG2 && code_at(&x, 0) == EXTENSION && field_value(&x, EXTENSION_ID) == SEQUENCE_EXTENSION) {
@@ -189,11 +210,19 @@ struct declared declared_at(const struct stream *s, size_t sequence, uint8_t sta
         d.buffer_bits |= (uint64_t)field_value(&x, VBV_BUFFER_SIZE_EXTENSION) << 10;
         d.rate_n = field_value(&x, FRAME_RATE_N);
         d.rate_d = field_value(&x, FRAME_RATE_D);
+        d.progressive_sequence = (uint8_t)field_value(&x, PROGRESSIVE_SEQUENCE);
+        d.low_delay = (uint8_t)field_value(&x, LOW_DELAY);
     }
     set_rate(&d);
     d.bit_rate *= RATE_UNIT;
     d.buffer_bits *= BUFFER_UNIT;
     return d;
+}
+
+struct cadence cadence_of(const struct declared *d, uint8_t mode)
+{
+    return (struct cadence){ .film = (uint8_t)counts_repeats(mode), .progressive = d->progressive_sequence,
+                             .low_delay = d->low_delay };
 }
 
 /* The code that follows a header which ends at byte `end`, zero bytes between them passed over; -1 where none does. */

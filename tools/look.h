@@ -3,14 +3,14 @@
 #ifndef LOOK_H
 #define LOOK_H
 
+#include "cadence.h"
 #include "stream.h"
 
 /* A picture: from its start code to the end of its data. */
 struct shown {
     size_t at, end;
-    uint8_t type;    /* I_PICTURE .. D_PICTURE; any other value as it stands */
-    uint8_t periods; /* field periods to the next removal, by its structure: 2, or 1 for a field */
-    uint8_t repeats; /* repeat_first_field */
+    uint8_t type; /* I_PICTURE .. D_PICTURE; any other value as it stands */
+    struct facts facts;
 };
 
 /* Numbers are counts, places are bytes from the front; the stream's length where there is none. */
@@ -26,16 +26,27 @@ struct look {
     size_t end_code;             /* the last sequence end code */
 };
 
+/* Of a mode (hipokuta.h): its standard, and whether it counts repeated fields. */
+uint8_t standard_of(uint8_t mode);
+int counts_repeats(uint8_t mode);
+
 /* Looks at a stream; where `of` is not NULL it takes the pictures, as many as an earlier look has counted. */
-void look(const struct stream *s, uint8_t standard, struct look *l, struct shown *of);
+void look(const struct stream *s, uint8_t mode, struct look *l, struct shown *of);
+
+/* What the headers of the picture at the front say of it: in MPEG-1 only whether it is an anchor. */
+struct facts facts_of(const struct stream *picture, uint8_t standard);
 
 /* What a sequence header and its extension declare. Frames a second are rate_over / rate_under in lowest terms, by the code and
- * its extensions n and d, which are 0 in MPEG-1; both are 0 for a code that is none. */
+ * its extensions n and d, which are 0 in MPEG-1, as are the two flags; both are 0 for a code that is none. */
 struct declared {
     uint32_t width, height, rate_code, rate_n, rate_d;
     uint64_t rate_over, rate_under, bit_rate, buffer_bits;
+    uint8_t progressive_sequence, low_delay;
 };
 struct declared declared_at(const struct stream *s, size_t sequence, uint8_t standard);
+
+/* The cadence that a stream begins with which declares this. */
+struct cadence cadence_of(const struct declared *d, uint8_t mode);
 
 /* Bytes of a sequence header with its matrices; with its extension for MPEG-2, from the header's start code on. Not beyond
  * the stream. */

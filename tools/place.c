@@ -15,25 +15,25 @@ static const struct field DELAY = { 45, 16 };
 /* What a question is about. */
 struct question {
     const struct stream *s;
-    uint8_t standard;
+    uint8_t mode, standard;
     int records;
     struct answer *a;
 };
 
 /* Only the verdict, about a part. */
-static uint64_t verdict(const struct stream *s, uint8_t standard)
+static uint64_t verdict(const struct stream *s, uint8_t mode)
 {
     struct vbv_report report;
     struct vbv_refusal refusal;
-    return vbv_report(s->bytes, s->length, standard, &report, sizeof report, &refusal, sizeof refusal);
+    return vbv_report(s->bytes, s->length, mode, &report, sizeof report, &refusal, sizeof refusal);
 }
 
 /* The whole answer, with records where there are places. */
-static uint64_t full_answer(const struct stream *s, uint8_t standard, struct answer *a)
+static uint64_t full_answer(const struct stream *s, struct answer *a)
 {
     if (a->records == NULL)
-        return vbv_report(s->bytes, s->length, standard, &a->report, sizeof a->report, &a->refusal, sizeof a->refusal);
-    return vbv_check(s->bytes, s->length, standard, &a->report, sizeof a->report, a->records,
+        return vbv_report(s->bytes, s->length, a->mode, &a->report, sizeof a->report, &a->refusal, sizeof a->refusal);
+    return vbv_check(s->bytes, s->length, a->mode, &a->report, sizeof a->report, a->records,
                      a->look.pictures * sizeof *a->records, &a->refusal, sizeof a->refusal);
 }
 
@@ -71,7 +71,7 @@ static uint64_t verdict_of_first(const struct question *q, size_t pictures)
     struct cut c;
     if (cut_after(q, pictures, &c) != 0)
         return VBV_RECORD_PLACES;
-    uint64_t number = verdict(&c.s, q->standard);
+    uint64_t number = verdict(&c.s, q->mode);
     free(c.joined);
     return number;
 }
@@ -213,9 +213,10 @@ static void find_time(const struct question *q, struct place *p)
 {
     const struct answer *a = q->a;
     struct stream first = part(q->s, a->shown[0].at, q->s->length);
+    struct cadence cadence = cadence_of(&a->declared, q->mode);
     uint64_t periods = 0, before = p->picture > 0 ? BYTE * a->shown[p->picture - 1].end : 0;
     for (size_t n = 0; n < p->picture; n++)
-        periods += a->shown[n].periods;
+        periods += lasts(&cadence, a->shown[n].facts);
     p->delivered = delivered_after(a, field_value(&first, DELAY), periods);
     p->timed = p->delivered.whole >= before;
     p->held = less(p->delivered, p->timed ? before : 0);
@@ -258,7 +259,7 @@ static void take_records(const struct question *q)
     a->records = calloc(pictures, sizeof *a->records);
     if (a->records == NULL || cut_after(q, pictures, &c) != 0)
         return;
-    if (vbv_check(c.s.bytes, c.s.length, q->standard, &report, sizeof report, a->records, pictures * sizeof *a->records,
+    if (vbv_check(c.s.bytes, c.s.length, q->mode, &report, sizeof report, a->records, pictures * sizeof *a->records,
                   &refusal, sizeof refusal) == 0)
         a->recorded = pictures;
     free(c.joined);
@@ -293,20 +294,21 @@ static int list_pictures(const struct question *q)
     q->a->shown = calloc(q->a->look.pictures + 1, sizeof *q->a->shown);
     if (q->a->shown == NULL)
         return 1;
-    look(q->s, q->standard, &same, q->a->shown);
+    look(q->s, q->mode, &same, q->a->shown);
     return 0;
 }
 
-int ask(const struct stream *s, uint8_t standard, int records, struct answer *a)
+int ask(const struct stream *s, uint8_t mode, int records, struct answer *a)
 {
-    struct question q = { s, standard, records, a };
+    struct question q = { s, mode, standard_of(mode), records, a };
     memset(a, 0, sizeof *a);
-    look(s, standard, &a->look, NULL);
+    a->mode = mode;
+    look(s, mode, &a->look, NULL);
     if (a->look.sequence < s->length)
-        a->declared = declared_at(s, a->look.sequence, standard);
+        a->declared = declared_at(s, a->look.sequence, q.standard);
     if (records && ((a->records = calloc(a->look.pictures + 1, sizeof *a->records)) == NULL || list_pictures(&q) != 0))
         return 1;
-    a->number = full_answer(s, standard, a);
+    a->number = full_answer(s, a);
     a->recorded = records && a->number == 0 ? a->look.pictures : 0;
     if (a->number != 0) {
         if (a->shown == NULL && list_pictures(&q) != 0)

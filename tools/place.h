@@ -25,6 +25,7 @@ struct place {
 };
 
 struct answer {
+    uint8_t mode;    /* asked in */
     uint64_t number; /* 0 accepted */
     struct vbv_report report;
     struct vbv_refusal refusal;
@@ -36,8 +37,8 @@ struct answer {
     struct place place;
 };
 
-/* Asks the library. Returns 0, or 1 where memory does not suffice. */
-int ask(const struct stream *s, uint8_t standard, int records, struct answer *a);
+/* Asks the library, in a mode of hipokuta.h. Returns 0, or 1 where memory does not suffice. */
+int ask(const struct stream *s, uint8_t mode, int records, struct answer *a);
 void forget(struct answer *a);
 
 /* The times of an answer's pictures, by its records, one after the other; begins with { a, 0, 0 }. */

@@ -155,7 +155,7 @@ static void heading(const struct sheet *s)
     fprintf(s->to, "</tspan> <tspan dx='8'>%s bits a second, buffer %s bits, ", grouped(d->bit_rate, rate),
             grouped(d->buffer_bits, buffer));
     put_shortened(s->to, d->frame_rate, LETTERS, 100);
-    fprintf(s->to, " frames a second");
+    fprintf(s->to, " frames a second%s", d->film ? ", repeated fields counted" : "");
     if (s->end - s->first > 1)
         fprintf(s->to, ", pictures %s to %s", grouped(removal(d, s->first)->picture, first),
                 grouped(removal(d, s->end - 1)->picture, last));

@@ -18,6 +18,7 @@ struct drawing {
     const char *name, *verdict;
     uint64_t bit_rate, buffer_bits;
     const char *frame_rate; /* "25", "30000/1001" */
+    int film;               /* repeated fields are counted */
     const struct removal *of;
     size_t count;
     const char *mark;   /* words of the refusal, NULL for accepted */

@@ -9,6 +9,7 @@ struct request {
     const char *which; /* --stream's word, or NULL */
     const char *from, *to; /* to is NULL for --least-rate */
     struct setting at; /* as asked for */
+    int film;          /* repeated fields are sent too */
 };
 
 /* Reads the words. Returns GO, or the exit status where there is nothing more to do. */

@@ -128,7 +128,8 @@ void print_json(const struct told *t, int records)
         string(t->in->about);
     else
         printf("null");
-    printf(",\"standard\":%d,\"verdict\":\"%s\",\"report\":", t->standard, a->number == 0 ? "accepted" : "refused");
+    printf(",\"standard\":%d,\"film\":%s,\"verdict\":\"%s\",\"report\":", t->standard, counts_repeats(a->mode) ? "true" : "false",
+           a->number == 0 ? "accepted" : "refused");
     if (a->number == 0)
         json_report(&a->report);
     else

@@ -1,6 +1,7 @@
 #include "sending.h"
 
 #include "hipokuta.h"
+#include "look.h"
 
 #include <errno.h>
 #include <stdlib.h>
@@ -93,10 +94,15 @@ struct frame_rate {
     uint32_t code, n, d;
 };
 
-/* Nothing can be encoded again here, so steering does not matter: any quantiser and targets will do. */
-static uint64_t create_writer(struct setting at, struct frame_rate rate, struct cbr_state *w)
+uint8_t mode_of(const struct source *in)
 {
-    struct cbr_config config = { VBV_MPEG2, at.rate, at.buffer, rate.code, rate.n, rate.d, 31, 2, 5 };
+    return in->film ? VBV_MPEG2 + VBV_FILM : VBV_MPEG2;
+}
+
+/* Nothing can be encoded again here, so steering does not matter: any quantiser and targets will do. */
+static uint64_t create_writer(uint8_t mode, struct setting at, struct frame_rate rate, struct cbr_state *w)
+{
+    struct cbr_config config = { mode, at.rate, at.buffer, rate.code, rate.n, rate.d, 31, 2, 5 };
     return cbr_create_config(&config, sizeof config, w, sizeof *w);
 }
 
@@ -107,7 +113,7 @@ static uint64_t create(struct source *in, struct setting at, struct cbr_state *w
     struct frame_rate rate = { field_value(&header, FRAME_RATE_CODE), field_value(&extension, FRAME_RATE_N),
                                field_value(&extension, FRAME_RATE_D) };
     declare(in, at);
-    return create_writer(at, rate, w);
+    return create_writer(mode_of(in), at, rate, w);
 }
 
 /* By the structure that the picture coding extension tells. */
@@ -151,7 +157,7 @@ static uint64_t first_delivered(const struct source *in, struct cbr_state w)
     struct vbv_refusal refusal;
     if (cbr_offer(&w, sizeof w, headers.bytes, headers.length, CBR_I, CBR_FRAME, 1, smallest, sizeof smallest,
                   in->placed, PLACED_BYTES, &a, sizeof a) == 0 && a.outcome == CBR_PLACED)
-        vbv_check(in->placed, a.bytes, VBV_MPEG2, &report, sizeof report, &record, sizeof record,
+        vbv_check(in->placed, a.bytes, mode_of(in), &report, sizeof report, &record, sizeof record,
                   &refusal, sizeof refusal);
     return record.occupancy_before;
 }
@@ -197,12 +203,12 @@ struct sending send_first(struct source *in)
     return send_some(in, (struct setting){ CBR_MOST_RATE, CBR_MOST_BUFFER }, NULL, 1);
 }
 
-/* By the library: which is the largest does not depend on frame rate and quantiser. */
+/* By the library: which is the largest does not depend on mode, frame rate and quantiser. */
 uint32_t most_buffer(uint32_t rate)
 {
     struct cbr_state w;
     uint32_t buffer = CBR_MOST_BUFFER;
-    while (buffer > 0 && create_writer((struct setting){ rate, buffer }, (struct frame_rate){ 3, 0, 0 }, &w) != 0)
+    while (buffer > 0 && create_writer(VBV_MPEG2, (struct setting){ rate, buffer }, (struct frame_rate){ 3, 0, 0 }, &w) != 0)
         buffer--;
     return buffer;
 }
@@ -293,10 +299,19 @@ static uint32_t between(double value, uint32_t most)
     return value < 1 ? 1 : value > most ? most : (uint32_t)value;
 }
 
+/* The cadence that the first sequence header opens. */
+static struct cadence opened(const struct source *in)
+{
+    struct stream all = kept(in, 0, in->pictures.headers_length);
+    struct declared d = declared_at(&all, in->header, VBV_MPEG2);
+    return cadence_of(&d, mode_of(in));
+}
+
 /* A rate near the least, to begin with: at it each picture would be whole when it is due, were there no stuffing. */
 static uint32_t likely_rate(struct source *in, uint32_t buffer)
 {
     struct cbr_state w;
+    struct cadence cadence = opened(in);
     double bits = 0, seconds = 0, most = 0;
     if (create(in, (struct setting){ CBR_MOST_RATE, buffer }, &w) != 0)
         return 1;
@@ -306,7 +321,7 @@ static uint32_t likely_rate(struct source *in, uint32_t buffer)
         bits += 8.0 * (double)(headers_of(in, n).length + layer.length);
         if (n > 0 && bits - before > most * seconds)
             most = (bits - before) / seconds;
-        seconds += interval_of(&layer) * field;
+        seconds += lasts(&cadence, facts_of(&layer, VBV_MPEG2)) * field;
     }
     return between(most / CBR_RATE_UNIT + 1, CBR_MOST_RATE);
 }

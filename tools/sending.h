@@ -16,6 +16,7 @@ struct source {
     const char *name;
     struct stream stream;
     int unpacked; /* from a container */
+    int film;     /* repeated fields are sent too */
     struct pictures pictures;
     size_t header, extension; /* the first sequence header and its extension, among the kept headers; their length for none */
     uint8_t *placed;          /* memory for a placed picture */
@@ -46,6 +47,9 @@ void close_source(struct source *in);
 
 /* Looks for the first sequence header and its extension. Returns 0, or the refusal of a stream that cannot be begun. */
 uint64_t find_sequence(struct source *in);
+
+/* The mode that it is sent in, and checked in. */
+uint8_t mode_of(const struct source *in);
 
 /* The setting that the stream declares. */
 struct setting declared(const struct source *in);

@@ -10,10 +10,11 @@
 #endif
 
 const struct field FRAME_RATE_CODE = { 60, 4 }, BIT_RATE = { 64, 18 }, VBV_BUFFER_SIZE = { 83, 10 };
-const struct field EXTENSION_ID = { 32, 4 }, BIT_RATE_EXTENSION = { 51, 12 }, VBV_BUFFER_SIZE_EXTENSION = { 64, 8 },
-                   FRAME_RATE_N = { 73, 2 }, FRAME_RATE_D = { 75, 5 };
+const struct field EXTENSION_ID = { 32, 4 }, PROGRESSIVE_SEQUENCE = { 44, 1 }, BIT_RATE_EXTENSION = { 51, 12 },
+                   VBV_BUFFER_SIZE_EXTENSION = { 64, 8 }, LOW_DELAY = { 72, 1 }, FRAME_RATE_N = { 73, 2 },
+                   FRAME_RATE_D = { 75, 5 };
 const struct field PICTURE_CODING_TYPE = { 42, 3 }, FORWARD_VECTORS = { 61, 4 }, BACKWARD_VECTORS = { 65, 4 };
-const struct field PICTURE_STRUCTURE = { 54, 2 }, REPEAT_FIRST_FIELD = { 62, 1 };
+const struct field PICTURE_STRUCTURE = { 54, 2 }, TOP_FIELD_FIRST = { 56, 1 }, REPEAT_FIRST_FIELD = { 62, 1 };
 
 uint32_t field_value(const struct stream *s, struct field f)
 {

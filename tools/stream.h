@@ -30,9 +30,10 @@ struct field {
     size_t at, width;
 };
 extern const struct field FRAME_RATE_CODE, BIT_RATE, VBV_BUFFER_SIZE;
-extern const struct field EXTENSION_ID, BIT_RATE_EXTENSION, VBV_BUFFER_SIZE_EXTENSION, FRAME_RATE_N, FRAME_RATE_D;
+extern const struct field EXTENSION_ID, PROGRESSIVE_SEQUENCE, BIT_RATE_EXTENSION, VBV_BUFFER_SIZE_EXTENSION, LOW_DELAY,
+    FRAME_RATE_N, FRAME_RATE_D;
 extern const struct field PICTURE_CODING_TYPE, FORWARD_VECTORS, BACKWARD_VECTORS;
-extern const struct field PICTURE_STRUCTURE, REPEAT_FIRST_FIELD;
+extern const struct field PICTURE_STRUCTURE, TOP_FIELD_FIRST, REPEAT_FIRST_FIELD;
 
 /* The value of a field; 0 where the bytes end before it. */
 uint32_t field_value(const struct stream *s, struct field f);

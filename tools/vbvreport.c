@@ -28,19 +28,20 @@ enum form { WORDS, JSON, CSV };
 static const double LAST_SECOND = 1e15;
 
 static const char help[] =
-    "usage: vbvreport [-1|-2] [-r] [-p PLOT.svg [--from T] [--to T]] [--json|--csv] [--strict] [--stream N] FILE...\n"
+    "usage: vbvreport [-1|-2] [--film] [-r] [-p PLOT.svg [--from T] [--to T]] [--json|--csv] [--strict] [--stream N] FILE...\n"
     "\n"
     "Checks the MPEG video stream in each FILE against the buffer model of ISO/IEC 13818-2, Annex C, at a constant rate, and\n"
     "prints the buffer report; or the first refusal, where in the stream it is, and what it means for the cabin set. FILE is an\n"
     "elementary stream, or a transport or program stream or another container (where this was built with libavformat); - is\n"
-    "standard input. Cautions below the verdict tell of what the check does not read, such as repeated fields, and of signs\n"
-    "that the stream is not whole.\n"
+    "standard input. Cautions below the verdict tell of what the check does not read, such as repeated fields without --film,\n"
+    "and of signs that the stream is not whole.\n"
     "\n"
     "  -1, -2             the stream is MPEG-1, MPEG-2. Without either its headers tell.\n"
+    "  --film             counts repeated fields (repeat_first_field), as film on 30000/1001 channels has them; MPEG-2 only.\n"
     "  -r, --records      lists a record for each picture: coded and expected delay in ticks of 1/90,000 s, bits of data, bits in\n"
     "                     the buffer just before the picture is removed, and field periods up to the next removal, 1 for a field\n"
-    "                     picture and 2 for a frame (20 ms each at 25 frames a second); of a refused stream, up to the refused\n"
-    "                     picture.\n"
+    "                     picture and 2 for a frame (20 ms each at 25 frames a second), with --film 1, 2, 3, 4 or 6; of a refused\n"
+    "                     stream, up to the refused picture.\n"
     "  -p, --plot PLOT.svg  draws what the buffer holds before and after each removal, up to the refused picture if there is one;\n"
     "                     to standard output where PLOT.svg is -, and what else is printed then goes to standard error.\n"
     "  --from T, --to T   draws this part only, from the start or to the end where one is left out; T in seconds, or as mm:ss.mmm\n"
@@ -58,7 +59,7 @@ static const char help[] =
 
 struct options {
     uint8_t standard; /* 0: as the headers tell */
-    int records, strict;
+    int film, records, strict;
     enum form form;
     const char *picture, *which;
     double from, to; /* to: less than 0 for the end */
@@ -147,8 +148,9 @@ static int draw_to(FILE *file, const struct told *t, const struct options *o)
     char rate[TEXT], mark[300];
     struct removal *of = calloc(a->recorded + 1, sizeof *of);
     struct drawing d = { .name = t->name, .verdict = verdict_words(t), .bit_rate = a->declared.bit_rate,
-                         .buffer_bits = a->declared.buffer_bits, .frame_rate = frame_rate(&a->declared, rate), .of = of, .count = a->recorded,
-                         .from = o->from, .to = o->to >= 0 ? o->to : o->from > 0 ? LAST_SECOND : 0 };
+                         .buffer_bits = a->declared.buffer_bits, .frame_rate = frame_rate(&a->declared, rate), .film = o->film,
+                         .of = of, .count = a->recorded, .from = o->from,
+                         .to = o->to >= 0 ? o->to : o->from > 0 ? LAST_SECOND : 0 };
     if (of == NULL)
         return trouble(o->picture, "no memory for the drawing");
     fill_removals(a, of);
@@ -217,9 +219,13 @@ static int no_answer(const char *name, const char *why, const struct options *o)
 /* Asks the library about what was taken in. Returns NULL, or why there is no answer. */
 static const char *asked(const struct input *in, uint8_t standard, const struct options *o, struct answer *a)
 {
+    int records = o->records || o->picture != NULL || o->form == CSV;
+    uint8_t mode = (uint8_t)(standard + (o->film ? VBV_FILM : 0));
     if (standard == 0)
         return "its headers do not tell its standard; say -1 (MPEG-1) or -2 (MPEG-2)";
-    if (ask(&in->stream, standard, o->records || o->picture != NULL || o->form == CSV, a) != 0)
+    if (o->film && standard == VBV_MPEG1)
+        return "MPEG-1, and --film is for MPEG-2: MPEG-1 repeats no fields";
+    if (ask(&in->stream, mode, records, a) != 0)
         return "no memory for its pictures";
     if (a->number != 0 && (a->number >= VBV_RECORD_PLACES || vbv_refusal_name(a->number) == NULL))
         return "the library gave a refusal that no stream can cause";
@@ -265,7 +271,7 @@ static int check_file(const char *name, const struct options *o)
 static int bad_use(const char *what)
 {
     fprintf(stderr, "vbvreport: %s\n", what);
-    fprintf(stderr, "usage: vbvreport [-1|-2] [-r] [-p PLOT.svg] [--json|--csv] FILE...   (--help says more)\n");
+    fprintf(stderr, "usage: vbvreport [-1|-2] [--film] [-r] [-p PLOT.svg] [--json|--csv] FILE...   (--help says more)\n");
     return TROUBLE;
 }
 
@@ -289,9 +295,10 @@ static double seconds(const char *text)
     return -1;
 }
 
-enum { FROM = 256, TO, JSON_FORM, CSV_FORM, STRICT, STREAM, VERSION };
+enum { FROM = 256, TO, FILM, JSON_FORM, CSV_FORM, STRICT, STREAM, VERSION };
 
 static const struct option long_options[] = {
+    { "film", no_argument, NULL, FILM },
     { "records", no_argument, NULL, 'r' },
     { "plot", required_argument, NULL, 'p' },
     { "from", required_argument, NULL, FROM },
@@ -323,6 +330,7 @@ static const char *take_option(struct options *o, int option)
         *(option == FROM ? &o->from : &o->to) = value;
         return value < 0 ? "a time is in seconds, or mm:ss.mmm, or h:mm:ss.mmm" : NULL;
     }
+    o->film |= option == FILM;
     o->records |= option == 'r';
     o->strict |= option == STRICT;
     o->picture = option == 'p' ? optarg : o->picture;
@@ -348,6 +356,8 @@ static const char *wrong(const struct options *o, int files)
 {
     if (files < 1)
         return "name a file, or - for standard input";
+    if (o->film && o->standard == VBV_MPEG1)
+        return "--film is for MPEG-2: leave out -1";
     if (files > 1 && o->picture != NULL)
         return "-p draws one file";
     if ((o->from > 0 || o->to >= 0) && o->picture == NULL)

@@ -72,12 +72,13 @@ static int has_slice(const struct stream *layer)
     return at < layer->length;
 }
 
-static int is_film(const struct stream *extension)
+/* A repeated field, where the writer does not take one. */
+static int is_film(const struct stream *extension, int film)
 {
-    return field_value(extension, REPEAT_FIRST_FIELD) != 0;
+    return !film && field_value(extension, REPEAT_FIRST_FIELD) != 0;
 }
 
-static const char *why_layer(const struct stream *layer)
+static const char *why_layer(const struct stream *layer, int film)
 {
     uint32_t type = field_value(layer, PICTURE_CODING_TYPE);
     struct stream extension = extension_after(layer, PICTURE_CODING_EXTENSION);
@@ -85,9 +86,8 @@ static const char *why_layer(const struct stream *layer)
         return "It is a D picture, which MPEG-2 does not have. Encode it again.";
     if (extension.length == 0)
         return "No picture coding extension follows its header: it is cut off, or MPEG-1. Copy or capture it again.";
-    if (is_film(&extension))
-        return "Its repeat_first_field is set: this is film material, of which fields are shown twice, and such is not sent.\n"
-               "  Encode it without pulldown, each frame shown for the same time, and send that.";
+    if (is_film(&extension, film))
+        return "Its repeat_first_field is set: this is film material, of which fields are shown twice. Such is sent with --film.";
     if (!vectors_fit(layer, type))
         return "Its header's full-pel flags and vector codes are not 0 and 7, as MPEG-2 has them. Encode it again.";
     if (!has_slice(layer))
@@ -96,10 +96,10 @@ static const char *why_layer(const struct stream *layer)
     return "A header of it breaks a rule of the standard, or it is cut off. Copy or capture it again.";
 }
 
-enum cause print_why_layer(const struct stream *layer)
+enum cause print_why_layer(const struct stream *layer, int film)
 {
     struct stream extension = extension_after(layer, PICTURE_CODING_EXTENSION);
     int type = (int)field_value(layer, PICTURE_CODING_TYPE);
-    printf("  %s\n", why_layer(layer));
-    return type != D_PICTURE && is_film(&extension) ? FILM : OTHER;
+    printf("  %s\n", why_layer(layer, film));
+    return type != D_PICTURE && is_film(&extension, film) ? FILM : OTHER;
 }

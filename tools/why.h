@@ -7,8 +7,8 @@
 
 void print_why_headers(const struct stream *headers, int first);
 
-/* Returns FILM where the cause is a repeated field, else OTHER. */
+/* Where the writer is not one for film, a repeated field is a cause. Returns FILM where that is it, else OTHER. */
 enum cause { OTHER, FILM };
-enum cause print_why_layer(const struct stream *layer);
+enum cause print_why_layer(const struct stream *layer, int film);
 
 #endif

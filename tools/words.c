@@ -94,24 +94,32 @@ static void print_input(const struct told *t)
     printf("%s %s", begins_like_option(t->name) ? " --" : "", shell_word(t->name, word, sizeof word));
 }
 
-/* How a stream of a variable rate is made constant. */
+/* How a stream of a variable rate is made constant; with --film where the writer must take repeated fields. */
 static void print_remedy(const struct told *t)
 {
     if (t->standard == VBV_MPEG1) {
         printf("  cbrsend takes only MPEG-2, so encode this one again, at a constant rate.\n");
-    } else if (t->answer->look.repeats > 0) {
-        printf("  cbrsend does not take pictures that repeat a field, so encode this one again, at a constant rate and without.\n");
     } else {
         char buffer[TEXT] = "BUFFER";
+        const char *film = t->answer->look.repeats > 0 ? " --film" : "";
         uint64_t units = t->answer->declared.buffer_bits / CBR_BUFFER_UNIT;
         if (units >= 1 && units <= CBR_MOST_BUFFER)
             snprintf(buffer, sizeof buffer, "%" PRIu64, units);
-        printf("  The least rate that carries it in this buffer: cbrsend --least-rate -B %s", buffer);
+        printf("  The least rate that carries it in this buffer: cbrsend%s --least-rate -B %s", film, buffer);
         print_input(t);
-        printf("\n  At that RATE or above: cbrsend -b RATE -B %s", buffer);
+        printf("\n  At that RATE or above: cbrsend%s -b RATE -B %s", film, buffer);
         print_input(t);
         printf(" OUT.m2v\n");
     }
+}
+
+/* Delays that count repeated fields differ from those of a check that does not. */
+static void print_film(const struct told *t)
+{
+    printf("  Its pictures repeat fields, which this check does not count. With these counted: vbvreport --film%s",
+           t->in->standard == t->standard ? "" : " -2");
+    print_input(t);
+    printf("\n");
 }
 
 static void print_refusal(const struct told *t)
@@ -128,6 +136,8 @@ static void print_refusal(const struct told *t)
     printf("  %s\n", vbv_refusal_text(a->number));
     if (a->number == VBV_VARIABLE_RATE)
         print_remedy(t);
+    if (a->number == VBV_DELAY_MISMATCH && spoils_model(a))
+        print_film(t);
 }
 
 static void print_verdict(const struct told *t)
@@ -137,7 +147,8 @@ static void print_verdict(const struct told *t)
         printf(": %s\n", t->in->about);
     }
     put_name(stdout, t->name);
-    printf(": MPEG-%d, %s\n", t->standard, t->answer->number == 0 ? "accepted" : "refused");
+    printf(": MPEG-%d%s, %s\n", t->standard, counts_repeats(t->answer->mode) ? " film" : "",
+           t->answer->number == 0 ? "accepted" : "refused");
 }
 
 void print_words(const struct told *t, int records)

@@ -9,7 +9,7 @@ struct told {
     const char *name;
     const char *which; /* --stream's word, or NULL */
     const struct input *in;
-    uint8_t standard;
+    uint8_t standard; /* of the mode that the answer was asked in */
     const struct answer *answer;
     const struct cautions *cautions;
 };

@@ -8,7 +8,7 @@
 /* Room for any picture of a buffer of 20 units. */
 enum { OUT = 20 * CBR_BUFFER_UNIT / 8 };
 
-uint8_t layers[3][3][MOST_BYTES], later[MOST_BYTES];
+uint8_t layers[3][3][FLAGS][MOST_BYTES], later[MOST_BYTES];
 
 void is(const char *name, uint64_t value, uint64_t expected)
 {
@@ -26,14 +26,24 @@ static void fill(uint8_t *bytes, const char *hex)
     free(start);
 }
 
+/* A layer with each of its flags: they stand in the byte before the coding extension's last. */
+static void fill_layer(uint8_t kind, uint8_t interval, const char *hex)
+{
+    size_t at = strlen(hex) / 2 - strlen("80" SLICE) / 2 - 1;
+    for (int flags = 0; flags < FLAGS; flags++) {
+        fill(layers[kind][interval][flags], hex);
+        layers[kind][interval][flags][at] |= (uint8_t)((flags & REPEATS ? 0x02 : 0) | (flags & TOP_FIRST ? 0x80 : 0));
+    }
+}
+
 void prepare(void)
 {
-    fill(layers[CBR_I][CBR_FRAME], I_FFFF FRAME);
-    fill(layers[CBR_P][CBR_FRAME], P_FFFF FRAME);
-    fill(layers[CBR_B][CBR_FRAME], B_FFFF FRAME);
-    fill(layers[CBR_I][CBR_FIELD], I_FFFF TOP);
-    fill(layers[CBR_P][CBR_FIELD], P_FFFF BOTTOM);
-    fill(layers[CBR_B][CBR_FIELD], B_FFFF TOP);
+    fill_layer(CBR_I, CBR_FRAME, I_FFFF FRAME);
+    fill_layer(CBR_P, CBR_FRAME, P_FFFF FRAME);
+    fill_layer(CBR_B, CBR_FRAME, B_FFFF FRAME);
+    fill_layer(CBR_I, CBR_FIELD, I_FFFF TOP);
+    fill_layer(CBR_P, CBR_FIELD, P_FFFF BOTTOM);
+    fill_layer(CBR_B, CBR_FIELD, B_FFFF TOP);
     fill(later, GROUP "000001B2");
 }
 
@@ -53,9 +63,17 @@ void say_frame_rate(struct channel *c, unsigned code, unsigned n, unsigned d)
 {
     const uint64_t *rate = frame_rates[code <= 8 ? code : 0];
     c->headers[7] = (uint8_t)(0x10 | code);
-    c->headers[21] = (uint8_t)(n << 5 | d);
+    c->headers[21] = (uint8_t)((c->headers[21] & 0x80) | n << 5 | d);
     c->declared[FRN] = rate[0] * (n + 1);
     c->declared[FRD] = rate[1] * (d + 1);
+}
+
+void say_sequence(struct channel *c, uint8_t progressive, uint8_t low_delay)
+{
+    c->headers[17] = (uint8_t)((c->headers[17] & 0xF7) | progressive << 3);
+    c->headers[21] = (uint8_t)((c->headers[21] & 0x7F) | low_delay << 7);
+    c->progressive = progressive;
+    c->low_delay = low_delay;
 }
 
 /* A channel of the writer in these bytes, with first headers that say what it was created with. */
@@ -98,17 +116,26 @@ struct channel *open_configured(const uint64_t *words)
     return c;
 }
 
-struct offer picture(const struct channel *c, uint8_t kind, uint8_t interval, size_t length)
+struct offer flagged(const struct channel *c, uint8_t kind, uint8_t interval, uint8_t flags, size_t length)
 {
-    struct offer o = { CBR_STATE_BYTES, later, 0, PLAIN, { 0 }, kind, interval, 0, layers[kind][interval], length, 1, OUT,
-                       CBR_ANSWER_BYTES };
+    struct offer o = { .state_length = CBR_STATE_BYTES, .headers = later, .are = PLAIN, .kind = kind, .interval = interval,
+                       .repeats = (flags & REPEATS) != 0, .top = (flags & TOP_FIRST) != 0,
+                       .layer = layers[kind][interval][flags], .layer_length = length, .layer_fits = 1, .out_length = OUT,
+                       .answer_length = CBR_ANSWER_BYTES };
     if (!c->state[STARTED]) {
         o.headers = c->headers;
         o.headers_length = 30;
         o.are = FIRST;
         memcpy(o.declared, c->declared, sizeof o.declared);
+        o.progressive = c->progressive;
+        o.low_delay = c->low_delay;
     }
     return o;
+}
+
+struct offer picture(const struct channel *c, uint8_t kind, uint8_t interval, size_t length)
+{
+    return flagged(c, kind, interval, 0, length);
 }
 
 struct offer frame(const struct channel *c, uint8_t kind, size_t length)
@@ -153,11 +180,12 @@ static void expect_placed(struct place *out, const struct offer *o, const uint64
 }
 
 /* What was handed out, after what was before. */
-static void keep(struct channel *c, const struct offer *o, const uint64_t *answer, const uint8_t *out)
+static void keep(struct channel *c, const struct told *t, const uint8_t *out)
 {
+    const uint64_t *answer = t->answer;
     if (answer[BYTES] > MOST_SENT - c->length || c->pictures == MOST_PICTURES)
         exit(2);
-    c->intervals[c->pictures] = o->interval;
+    c->periods[c->pictures] = t->periods;
     memcpy(c->placed[c->pictures++], answer, 8 * ANSWER_WORDS);
     memcpy(c->sent + c->length, out, answer[BYTES]);
     c->length += answer[BYTES];
@@ -182,7 +210,7 @@ struct told offer(const char *name, struct channel *c, const struct offer *o)
     if (o->state_length >= CBR_STATE_BYTES)
         words_of(state.bytes, c->state, STATE_WORDS);
     if (placed)
-        keep(c, o, t.answer, out.bytes);
+        keep(c, &t, out.bytes);
     if (t.number == 19 && o->answer_length >= CBR_ANSWER_BYTES)
         is("a part of a buffer's bytes is enough", o->out_length < c->state[BUFFER] / 8, 1);
     take_back(&headers, name, "the headers have changed");
@@ -228,8 +256,8 @@ void check_sent(const char *name, const struct channel *c)
     uint8_t report[VBV_REPORT_BYTES], refusal[VBV_REFUSAL_BYTES], *records = memory(VBV_RECORD_BYTES * MOST_PICTURES);
     uint64_t words[REPORT_WORDS], record[RECORD_WORDS];
     answered(name,
-             vbv_check(c->sent, c->length, VBV_MPEG2, report, sizeof report, records, VBV_RECORD_BYTES * MOST_PICTURES,
-                       refusal, sizeof refusal),
+             vbv_check(c->sent, c->length, (uint8_t)c->state[MODE], report, sizeof report, records,
+                       VBV_RECORD_BYTES * MOST_PICTURES, refusal, sizeof refusal),
              0);
     words_of(report, words, REPORT_WORDS);
     is(name, words[0] == c->state[RATE] && words[1] == c->state[BUFFER] && words[2] == c->pictures, 1);
@@ -239,7 +267,7 @@ void check_sent(const char *name, const struct channel *c)
         is(name, record[0], c->placed[i][DELAY]);
         is(name, record[1], c->placed[i][DELAY]);
         is(name, record[2], 8 * c->placed[i][BYTES]);
-        is(name, record[4], c->intervals[i]);
+        is(name, record[4], c->periods[i]);
     }
     free(records);
 }
@@ -257,7 +285,7 @@ size_t check_least(const char *name, const struct channel *c)
         memcpy(shorter, c->sent, end - 1);
         memcpy(shorter + end - 1, c->sent + end, c->length - end);
         answered(name,
-                 vbv_check(shorter, c->length - 1, VBV_MPEG2, report, sizeof report, records,
+                 vbv_check(shorter, c->length - 1, (uint8_t)c->state[MODE], report, sizeof report, records,
                            VBV_RECORD_BYTES * MOST_PICTURES, refusal, sizeof refusal),
                  9);
         words_of(refusal, words, REFUSAL_WORDS);

@@ -15,17 +15,20 @@ struct config {
     uint8_t code, quantiser, between, anchors;
 };
 
-/* A writer's state in words, and what it has handed out; its first headers, 30 bytes and then user data. */
+/* A writer's state in words, and what it has handed out, with the field periods that each picture lasts; its first headers, 30
+ * bytes and then user data. */
 struct channel {
     uint64_t state[STATE_WORDS], declared[4], seed;
-    uint8_t interval, headers[MOST_BYTES], sent[MOST_SENT];
+    uint8_t interval, progressive, low_delay, headers[MOST_BYTES], sent[MOST_SENT];
     size_t length, pictures;
-    uint64_t placed[MOST_PICTURES][ANSWER_WORDS];
-    uint8_t intervals[MOST_PICTURES];
+    uint64_t placed[MOST_PICTURES][ANSWER_WORDS], periods[MOST_PICTURES];
 };
 
-/* Layers by kind and interval, and headers for later pictures: the first bytes of these. */
-extern uint8_t layers[3][3][MOST_BYTES], later[MOST_BYTES];
+/* A layer's flags: none, or the sum of these. */
+enum { REPEATS = 1, TOP_FIRST = 2, FLAGS = 4 };
+
+/* Layers by kind, interval and flags, and headers for later pictures: the first bytes of these. */
+extern uint8_t layers[3][3][FLAGS][MOST_BYTES], later[MOST_BYTES];
 
 /* Makes layers and headers; comes before anything else. */
 void prepare(void);
@@ -38,10 +41,12 @@ uint64_t create(const struct config *c, uint8_t *state, size_t length);
 struct channel *open_channel(const struct config *config);
 struct channel *open_configured(const uint64_t *words);
 
-/* Gives the first headers a frame rate: its code, 0 to 15, its n and d. */
+/* Gives the first headers a frame rate: its code, 0 to 15, its n and d; and progressive_sequence and low_delay. */
 void say_frame_rate(struct channel *c, unsigned code, unsigned n, unsigned d);
+void say_sequence(struct channel *c, uint8_t progressive, uint8_t low_delay);
 
 /* An offer of a layer of that length, with the headers that the channel's next picture needs, and room enough. */
+struct offer flagged(const struct channel *c, uint8_t kind, uint8_t interval, uint8_t flags, size_t length);
 struct offer picture(const struct channel *c, uint8_t kind, uint8_t interval, size_t length);
 struct offer frame(const struct channel *c, uint8_t kind, size_t length);
 
@@ -52,7 +57,7 @@ void refused(const char *name, struct channel *c, struct offer o, uint64_t numbe
 void again(const char *name, struct channel *c, struct offer o, uint64_t quantiser);
 void placed(const char *name, struct channel *c, struct offer o, uint64_t quantiser, uint64_t stuffing);
 
-/* What a channel has sent passes the check, with the delays and the bytes that the writer told, and the intervals offered. */
+/* What a channel has sent passes the check of its mode, with the delays and the bytes that the writer told, and the periods. */
 void check_sent(const char *name, const struct channel *c);
 
 /* Without one of its stuffing bytes a picture makes the next one overflow: the stuffing is the least. How many had any. */

@@ -44,7 +44,7 @@ static void create_in(const char *name, const uint64_t *words, struct lengths of
     uint64_t made[STATE_WORDS] = { 0 };
     struct place config = lend_words(words, CONFIG_WORDS, of.config, of.shift);
     struct place state = lend(of.state > 0 ? of.shift + of.state : 0);
-    uint64_t due = of.config < 72 ? 12 : of.state < 152 ? 19 : rules_create(words, made);
+    uint64_t due = of.config < 72 ? 12 : of.state < 200 ? 19 : rules_create(words, made);
     is(name, due, number);
     if (due == 0)
         for (size_t i = 0; i < 8 * STATE_WORDS; i++)
@@ -57,7 +57,7 @@ static void create_in(const char *name, const uint64_t *words, struct lengths of
 /* With places of just their length. */
 static void made(const char *name, const uint64_t *words, uint64_t number)
 {
-    create_in(name, words, (struct lengths){ 72, 152, 0 }, number);
+    create_in(name, words, (struct lengths){ 72, 200, 0 }, number);
 }
 
 /* One word another. */
@@ -97,6 +97,11 @@ static const struct creation creations[] = {
     { "a quantiser before the code", { 2, 2500, 20, 9, 0, 0, 0, 2, 4 }, 12, 0, 0, { 0 } },
     { "the mode before the code", { 1, 2500, 20, 9, 0, 0, 10, 2, 4 }, 12, 0, 0, { 0 } },
     { "MPEG-1", { 1, 2500, 20, 3, 0, 0, 10, 2, 4 }, 12, 0, 0, { 0 } },
+    { "MPEG-1 and film", { 5, 2500, 20, 3, 0, 0, 10, 2, 4 }, 12, 0, 0, { 0 } },
+    { "film", { 6, 2500, 20, 3, 0, 0, 10, 2, 4 }, 0, 25, 1, { 118181, 47272, 26590 } },
+    { "film at 24000 / 1001 x 2 / 5", { 6, 2500, 20, 1, 1, 4, 10, 2, 4 }, 0, 48000, 5005, { 308070, 123228, 69315 } },
+    { "film, code 9", { 6, 2500, 20, 9, 3, 31, 10, 2, 4 }, 6, 0, 0, { 0 } },
+    { "film, a buffer that lasts too long", { 6, 56, 1, 3, 0, 0, 1, 0, 1 }, 12, 0, 0, { 0 } },
     { "2^32 + 2500, which is not cut to 2500", { 2, 4294969796, 20, 3, 0, 0, 10, 2, 4 }, 12, 0, 0, { 0 } },
     { "anchors 256", { 2, 2500, 20, 3, 0, 0, 10, 2, 256 }, 12, 0, 0, { 0 } },
     { "all zeros", { 0 }, 12, 0, 0, { 0 } },
@@ -108,6 +113,7 @@ static void check_figures(const struct creation *k)
     is(k->name, c->state[FRN] == k->frn && c->state[FRD] == k->frd, 1);
     is(k->name, memcmp(c->state + TARGETS, k->targets, sizeof k->targets) == 0, 1);
     is(k->name, c->state[RATE] == 400 * k->words[1] && c->state[BUFFER] == 16384 * k->words[2], 1);
+    is(k->name, c->state[MODE] == k->words[0] && c->state[PROGRESSIVE] == 0 && c->state[OPEN_FIELD] == 0, 1);
     free(c);
 }
 
@@ -115,22 +121,22 @@ static void check_figures(const struct creation *k)
 static void check_creation(const struct creation *k)
 {
     for (size_t more = 0; more < 30; more += 7)
-        create_in(k->name, k->words, (struct lengths){ 72 + more, 152 + 2 * more, 0 }, k->number);
+        create_in(k->name, k->words, (struct lengths){ 72 + more, 200 + 2 * more, 0 }, k->number);
     for (size_t shift = 1; shift < 8; shift++)
-        create_in(k->name, k->words, (struct lengths){ 72, 152, shift }, k->number);
-    for (size_t length = 0; length < 152; length++)
+        create_in(k->name, k->words, (struct lengths){ 72, 200, shift }, k->number);
+    for (size_t length = 0; length < 200; length++)
         create_in(k->name, k->words, (struct lengths){ 72 + length % 3, length, length % 5 }, 19);
     for (size_t length = 0; length < 72; length++)
-        for (size_t state = 0; state < 200; state += 50 + state % 4)
+        for (size_t state = 0; state < 250; state += 50 + state % 4)
             create_in(k->name, k->words, (struct lengths){ length, state, length % 2 }, 12);
-    create_in(k->name, k->words, (struct lengths){ 71, 151, 0 }, 12);
-    create_in(k->name, k->words, (struct lengths){ 71, 152, 0 }, 12);
+    create_in(k->name, k->words, (struct lengths){ 71, 199, 0 }, 12);
+    create_in(k->name, k->words, (struct lengths){ 71, 200, 0 }, 12);
     if (k->number == 0)
         check_figures(k);
 }
 
-/* The least and the greatest of each word. */
-static const uint64_t ranges[CONFIG_WORDS][2] = { { 2, 2 }, { 1, 262143 }, { 1, 1023 }, { 1, 8 }, { 0, 3 }, { 0, 31 },
+/* The least and the greatest of each word; of the modes between these there is none. */
+static const uint64_t ranges[CONFIG_WORDS][2] = { { 2, 6 }, { 1, 262143 }, { 1, 1023 }, { 1, 8 }, { 0, 3 }, { 0, 31 },
                                                   { 1, 31 }, { 0, 15 }, { 1, 255 } };
 
 /* A word's value. With a code that is none it is 12 out of its range and 6 in it: so the range comes before the code, and the
@@ -138,7 +144,7 @@ static const uint64_t ranges[CONFIG_WORDS][2] = { { 2, 2 }, { 1, 262143 }, { 1, 
 static void check_value(size_t word, uint64_t value)
 {
     uint64_t words[CONFIG_WORDS];
-    int fits = ranges[word][0] <= value && value <= ranges[word][1];
+    int fits = word == WANTED_MODE ? value == 2 || value == 6 : ranges[word][0] <= value && value <= ranges[word][1];
     copy(words, usual);
     words[word] = value;
     if (!fits)
@@ -170,7 +176,7 @@ static void check_ranges(void)
 static void check_modes(void)
 {
     for (uint64_t mode = 0; mode < 300; mode++)
-        made_with("a mode", WANTED_MODE, mode, mode == 2 ? 0 : 12);
+        made_with("a mode", WANTED_MODE, mode, mode == 2 || mode == 6 ? 0 : 12);
 }
 
 static void check_rates(void)
@@ -187,14 +193,14 @@ static void check_rates(void)
 static void check_same(uint32_t rate, uint16_t buffer, uint8_t code, uint8_t quantiser, uint8_t between, uint8_t anchors)
 {
     uint64_t words[CONFIG_WORDS] = { 2, rate, buffer, code, 0, 0, quantiser, between, anchors }, state[STATE_WORDS];
-    struct place config = lend_words(words, CONFIG_WORDS, 72, 0), one = lend(152), other = lend(152);
+    struct place config = lend_words(words, CONFIG_WORDS, 72, 0), one = lend(200), other = lend(200);
     uint64_t due = rules_create(words, state);
     if (due == 0)
         expect_words(&one, state, STATE_WORDS);
-    answered("by arguments", cbr_create(rate, buffer, code, quantiser, between, anchors, one.bytes, 152), due);
-    answered("by words", cbr_create_config(config.bytes, 72, other.bytes, 152), due);
-    is("the same by arguments and by words", memcmp(one.bytes, other.bytes, 152) == 0, 1);
-    memcpy(other.expected, one.expected, 152);
+    answered("by arguments", cbr_create(rate, buffer, code, quantiser, between, anchors, one.bytes, 200), due);
+    answered("by words", cbr_create_config(config.bytes, 72, other.bytes, 200), due);
+    is("the same by arguments and by words", memcmp(one.bytes, other.bytes, 200) == 0, 1);
+    memcpy(other.expected, one.expected, 200);
     take_back(&config, "by words", "the configuration has changed");
     take_back(&one, "by arguments", "the state's place");
     take_back(&other, "by words", "the state's place");

@@ -4,7 +4,8 @@
  *     drawings KIND         one of them, as an SVG
  *     drawings KIND list    what it is of: bits of the buffer, the time asked for, 1 if refused; then each removal's time, bits
  *                           before and after, and type, the refused one last
- *     drawings FILE [list]  that of a file, which must be an MPEG-2 stream that is accepted
+ *     drawings FILE [list]  that of a file, which must be an MPEG-2 stream that is accepted; after "film:" one with repeated
+ *                           fields counted
  *
  * Exit status 2: bad use, or no such kind or stream. */
 #include "hipokuta.h"
@@ -104,7 +105,7 @@ static struct removal *fill_kind(const struct kind *k, struct drawing *d)
         last = of[k->pictures - 1];
     double before = k->before > 0 ? full * k->before : last.after + rate / 25;
     struct removal bad = { last.seconds + (before - last.after) / rate, before, full * k->after, 'P', k->pictures };
-    struct drawing made = { k->name, k->mark != NULL ? refused : accepted, k->bit_rate, k->buffer_bits, "25", of,
+    struct drawing made = { k->name, k->mark != NULL ? refused : accepted, k->bit_rate, k->buffer_bits, "25", 0, of,
                             k->pictures, k->mark, bad, k->from, k->to };
     *d = made;
     return of;
@@ -136,8 +137,11 @@ static void take_records(const struct vbv_report *report, const struct vbv_recor
     }
 }
 
-static struct removal *fill_file(const char *name, struct drawing *d)
+static struct removal *fill_file(const char *word, struct drawing *d)
 {
+    int film = strncmp(word, "film:", 5) == 0;
+    const char *name = film ? word + 5 : word;
+    uint8_t mode = film ? VBV_MPEG2 + VBV_FILM : VBV_MPEG2;
     enum { ROOM = 1 << 20, MOST = 10000 };
     struct vbv_report report;
     uint8_t refusal[VBV_REFUSAL_BYTES], *bytes = malloc(ROOM);
@@ -145,11 +149,11 @@ static struct removal *fill_file(const char *name, struct drawing *d)
     struct removal *of = calloc(MOST, sizeof *of);
     size_t length = bytes != NULL ? take_bytes(name, bytes, ROOM) : 0;
     int is_accepted = records != NULL && of != NULL &&
-        vbv_check(bytes, length, VBV_MPEG2, (uint8_t *)&report, sizeof report, (uint8_t *)records, MOST * sizeof *records,
+        vbv_check(bytes, length, mode, (uint8_t *)&report, sizeof report, (uint8_t *)records, MOST * sizeof *records,
                   refusal, sizeof refusal) == 0;
     if (is_accepted) {
         take_records(&report, records, bytes, length, of);
-        struct drawing made = { name, accepted, report.bit_rate, report.buffer_bits, "25", of, (size_t)report.pictures, NULL,
+        struct drawing made = { name, accepted, report.bit_rate, report.buffer_bits, "25", film, of, (size_t)report.pictures, NULL,
                                 { 0, 0, 0, 0, 0 }, 0, 0 };
         *d = made;
     } else {

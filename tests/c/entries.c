@@ -10,7 +10,7 @@
 #include <string.h>
 #include <sys/mman.h>
 
-enum { MOST_PICTURES = 3, RECORDS = VBV_RECORD_BYTES * MOST_PICTURES };
+enum { MOST_PICTURES = 4, RECORDS = VBV_RECORD_BYTES * MOST_PICTURES };
 
 /* 182,400 bits a second and a buffer of 131,072 bits, 64,673 ticks; 22,800 bits a second and 16,384 bits. */
 #define SLOW "000001B30100101300722040"
@@ -21,20 +21,44 @@ enum { MOST_PICTURES = 3, RECORDS = VBV_RECORD_BYTES * MOST_PICTURES };
 #define N1_D1 "000001B5148200010021"
 #define N3_D31 "000001B514820001007F"
 #define FIFTY_FRAMES "000001B301001016027120A0"
-/* Picture headers of I pictures, by their delay. */
+/* The extension with low_delay, with progressive_sequence, and with both. */
+#define LOW_DELAY "000001B5148200010080"
+#define PROGRESSIVE "000001B5148A00010000"
+#define PROGRESSIVE_LOW_DELAY "000001B5148A00010080"
+/* Picture headers of I pictures and of B pictures, by their delay. */
 #define I_0 "0000010000080000"
 #define I_400 "0000010000080C80"
+#define I_9000 "0000010000091940"
+#define I_12583 "0000010000098938"
+#define I_14341 "000001000009C028"
+#define I_14364 "000001000009C0E0"
+#define I_14366 "000001000009C0F0"
+#define I_14367 "000001000009C0F8"
+#define I_14383 "000001000009C178"
+#define I_16149 "000001000009F8A8"
+#define I_16183 "000001000009F9B8"
+#define I_17924 "00000100000A3020"
+#define I_17947 "00000100000A30D8"
+#define I_17950 "00000100000A30F0"
+#define I_17966 "00000100000A3170"
+#define I_17967 "00000100000A3178"
+#define I_19767 "00000100000A69B8"
+#define I_19783 "00000100000A6A38"
+#define I_23367 "00000100000ADA38"
 #define I_23901 "00000100000AEAE8"
 #define I_25701 "00000100000B2328"
-#define I_25708 "00000100000B2360"
 #define I_25703 "00000100000B2338"
+#define I_25708 "00000100000B2360"
 #define I_27485 "00000100000B5AE8"
 #define I_29301 "00000100000B93A8"
 #define I_30000 "00000100000BA980"
 #define I_50901 "00000100000E36A8"
 #define I_64000 "00000100000FD000"
-/* A frame with repeat_first_field 1. */
+#define B_12583 "000001000019893BB8"
+#define B_14366 "000001000019C0F3B8"
+/* A frame with repeat_first_field 1, and with top_field_first too. */
 #define REPEATED "000001B58FFFF34380" SLICE
+#define REPEATED_TOP "000001B58FFFF3C380" SLICE
 /* A frame with a slice of no bytes. */
 #define BARE "000001B58FFFF34180" "00000101"
 #define TEN "40404040404040404040"
@@ -44,7 +68,7 @@ enum { MOST_PICTURES = 3, RECORDS = VBV_RECORD_BYTES * MOST_PICTURES };
 /* A stream and its answer: number 0 with report and records, or a refusal (number, picture, coded, expected). */
 struct known {
     const char *name, *hex;
-    uint8_t standard;
+    uint8_t mode;
     uint64_t refusal[REFUSAL_WORDS], report[REPORT_WORDS], records[RECORD_WORDS * MOST_PICTURES];
 };
 
@@ -80,6 +104,57 @@ static const struct known accepted[] = {
       { 1000000, 327680, 2, 245603, 285603 }, { 22118, 22118, 360, 245963, 2, 25701, 25701, 184, 285603, 2 } },
 };
 
+/* In film mode; by the model of tests/streams/film.py. */
+static const struct known film[] = {
+    { "film: an I frame by the flag before it", SEQUENCE EXTENSION I_9000 REPEATED I_12583 FRAME I_17967 FRAME, 6, { 0 },
+      { 1000000, 327680, 3, 99848, 199664 },
+      { 9000, 9000, 360, 100208, 2, 12583, 12583, 184, 139848, 3, 17967, 17967, 184, 199664, 2 } },
+    { "film: by its own flag with low_delay", SEQUENCE LOW_DELAY I_9000 REPEATED I_14383 FRAME I_17967 FRAME, 6, { 0 },
+      { 1000000, 327680, 3, 99848, 199664 },
+      { 9000, 9000, 360, 100208, 3, 14383, 14383, 184, 159848, 2, 17967, 17967, 184, 199664, 2 } },
+    { "film: frames shown twice", SEQUENCE PROGRESSIVE I_9000 REPEATED I_12583 FRAME I_19767 FRAME, 6, { 0 },
+      { 1000000, 327680, 3, 99848, 219664 },
+      { 9000, 9000, 360, 100208, 2, 12583, 12583, 184, 139848, 4, 19767, 19767, 184, 219664, 2 } },
+    { "film: frames shown twice, with low_delay", SEQUENCE PROGRESSIVE_LOW_DELAY I_9000 REPEATED I_16183 FRAME I_19767 FRAME,
+      6, { 0 },
+      { 1000000, 327680, 3, 99848, 219664 },
+      { 9000, 9000, 360, 100208, 4, 16183, 16183, 184, 179848, 2, 19767, 19767, 184, 219664, 2 } },
+    { "film: frames shown three times", SEQUENCE PROGRESSIVE I_9000 REPEATED_TOP I_12583 FRAME I_23367 FRAME, 6, { 0 },
+      { 1000000, 327680, 3, 99848, 259664 },
+      { 9000, 9000, 360, 100208, 2, 12583, 12583, 184, 139848, 6, 23367, 23367, 184, 259664, 2 } },
+    { "film: frames shown three times, with low_delay", SEQUENCE PROGRESSIVE_LOW_DELAY I_9000 REPEATED_TOP I_19783 FRAME
+      I_23367 FRAME, 6, { 0 },
+      { 1000000, 327680, 3, 99848, 259664 },
+      { 9000, 9000, 360, 100208, 6, 19783, 19783, 184, 219848, 2, 23367, 23367, 184, 259664, 2 } },
+    { "film: a B frame by its own flag", SEQUENCE EXTENSION I_9000 REPEATED B_12583 REPEATED I_17966 FRAME, 6, { 0 },
+      { 1000000, 327680, 3, 99848, 199656 },
+      { 9000, 9000, 360, 100208, 2, 12583, 12583, 192, 139848, 3, 17966, 17966, 184, 199656, 3 } },
+    { "film: a long second field", SEQUENCE EXTENSION I_9000 REPEATED I_12583 TOP I_14367 BOTTOM I_17950 FRAME, 6, { 0 },
+      { 1000000, 327680, 4, 99848, 199480 },
+      { 9000, 9000, 360, 100208, 2, 12583, 12583, 184, 139848, 1, 14367, 14367, 184, 159664, 2, 17950, 17950, 184, 199480, 2
+      } },
+    { "film: a pair across headers, which say something else", SEQUENCE EXTENSION I_9000 REPEATED I_12583 TOP GROUP SEQUENCE
+      PROGRESSIVE_LOW_DELAY "000001B24040" I_14341 BOTTOM I_17924 FRAME, 6, { 0 },
+      { 1000000, 327680, 4, 99848, 199192 },
+      { 9000, 9000, 360, 100208, 2, 12583, 12583, 184, 139848, 1, 14341, 14341, 472, 159664, 2, 17924, 17924, 184, 199192, 2
+      } },
+    { "film: a pair across a sequence end", SEQUENCE EXTENSION I_9000 REPEATED I_12583 TOP "000001B7" I_14364 BOTTOM I_17947
+      FRAME, 6, { 0 },
+      { 1000000, 327680, 4, 99848, 199448 },
+      { 9000, 9000, 360, 100208, 2, 12583, 12583, 216, 139848, 1, 14364, 14364, 184, 159632, 2, 17947, 17947, 184, 199448, 2
+      } },
+    { "film: a pair led by B", SEQUENCE EXTENSION I_9000 REPEATED B_12583 TOP B_14366 BOTTOM I_16149 FRAME, 6, { 0 },
+      { 1000000, 327680, 4, 99848, 179464 },
+      { 9000, 9000, 360, 100208, 2, 12583, 12583, 192, 139848, 1, 14366, 14366, 192, 159656, 1, 16149, 16149, 184, 179464, 3
+      } },
+    { "film: a B field left over", SEQUENCE EXTENSION I_9000 REPEATED B_12583 TOP I_14366 FRAME, 6, { 0 },
+      { 1000000, 327680, 3, 99848, 159656 },
+      { 9000, 9000, 360, 100208, 2, 12583, 12583, 192, 139848, 1, 14366, 14366, 184, 159656, 3 } },
+    { "film: an I field left over", SEQUENCE EXTENSION I_9000 REPEATED I_12583 TOP I_14367 FRAME, 6, { 0 },
+      { 1000000, 327680, 3, 99848, 159664 },
+      { 9000, 9000, 360, 100208, 2, 12583, 12583, 184, 139848, 1, 14367, 14367, 184, 159664, 2 } },
+};
+
 static const struct known refused[] = {
     { "a header cut short", SEQUENCE EXTENSION I_22118 "000001B58FFF", 2, { 1 }, { 0 }, { 0 } },
     { "a last header cut short, before the first picture's underflow", SEQUENCE I_0 SLICE "00000100", 1, { 1 }, { 0 }, { 0 } },
@@ -103,6 +178,10 @@ static const struct known refused[] = {
     { "a frame that brings more than the buffer", SEQUENCE N3_D31 I_22118 FRAME I_50901 FRAME, 2, { 9, 1, 50901, 50901 }, { 0 },
       { 0 } },
     { "delay mismatch", SEQUENCE EXTENSION I_22118 FRAME I_22118 FRAME, 2, { 11, 1, 22118, 25701 }, { 0 }, { 0 } },
+    { "a film's delay, not in film mode", SEQUENCE EXTENSION I_9000 REPEATED I_12583 FRAME I_17967 FRAME, 2, { 11, 2, 17967, 16167 },
+      { 0 }, { 0 } },
+    { "another's delay, in film mode", SEQUENCE EXTENSION I_9000 REPEATED I_12583 FRAME I_16149 FRAME, 6, { 11, 2, 16149, 17967 },
+      { 0 }, { 0 } },
     { "a buffer of zero", "000001B30100101302712000" EXTENSION I_22118 FRAME, 2, { 12 }, { 0 }, { 0 } },
     { "22,400 bits a second, buffer 16,384", "000001B301001013000E2008" I_0 SLICE, 1, { 12 }, { 0 }, { 0 } },
 };
@@ -119,7 +198,7 @@ static void report_alone(const struct known *k, size_t report_length, size_t ref
         expect_words(&report, k->report, REPORT_WORDS);
     else if (refusal_length >= VBV_REFUSAL_BYTES)
         expect_words(&refusal, k->refusal, REFUSAL_WORDS);
-    uint64_t answer = vbv_report(stream, length, k->standard, report.bytes, report.length, refusal.bytes, refusal.length);
+    uint64_t answer = vbv_report(stream, length, k->mode, report.bytes, report.length, refusal.bytes, refusal.length);
     answered(k->name, answer, k->refusal[0]);
     take_back(&same, k->name, "the stream has changed");
     take_back(&report, k->name, "the place of the report alone");
@@ -140,7 +219,7 @@ static void check(const struct known *k, size_t report_length, size_t records_le
     } else if (refusal_length >= VBV_REFUSAL_BYTES) {
         expect_words(&refusal, k->refusal, REFUSAL_WORDS);
     }
-    uint64_t answer = vbv_check(stream, length, k->standard, report.bytes, report.length, records.bytes, records.length,
+    uint64_t answer = vbv_check(stream, length, k->mode, report.bytes, report.length, records.bytes, records.length,
                                 refusal.bytes, refusal.length);
     answered(k->name, answer, k->refusal[0]);
     take_back(&same, k->name, "the stream has changed");
@@ -194,7 +273,18 @@ static void check_refusal(const struct known *k)
         check_refused(k, 15, VBV_REPORT_BYTES, 0, VBV_REFUSAL_BYTES);
 }
 
-/* Places too short come first (19), then the standard (12), before any byte of the stream is judged. */
+/* Film mode says the same of a stream without repeated fields. */
+static void check_film(const struct known *k)
+{
+    struct known same = *k;
+    same.mode = 6;
+    if (k->mode == 2 && strstr(k->hex, REPEATED) == NULL && k->refusal[0] == 0)
+        check_accepted(&same);
+    else if (k->mode == 2 && strstr(k->hex, REPEATED) == NULL)
+        check_refusal(&same);
+}
+
+/* Places too short come first (19), then the mode (12), before any byte of the stream is judged. */
 static void check_places(const struct known *k)
 {
     for (size_t report = 0; report < VBV_REPORT_BYTES; report++)
@@ -202,10 +292,10 @@ static void check_places(const struct known *k)
     for (size_t refusal = 0; refusal < VBV_REFUSAL_BYTES; refusal++)
         check_refused(k, 19, VBV_REPORT_BYTES + refusal % 3, RECORDS, refusal);
     check_refused(k, 19, 0, 0, 0);
-    for (int standard = 0; standard < 256; standard++) {
+    for (int mode = 0; mode < 256; mode++) {
         struct known other = *k;
-        other.standard = (uint8_t)standard;
-        if (standard != 1 && standard != 2) {
+        other.mode = (uint8_t)mode;
+        if (mode != 1 && mode != 2 && mode != 6) {
             check_refused(&other, 12, VBV_REPORT_BYTES, RECORDS, VBV_REFUSAL_BYTES);
             check_refused(&other, 19, VBV_REPORT_BYTES - 1, RECORDS, VBV_REFUSAL_BYTES);
         }
@@ -281,12 +371,19 @@ static void check_delays(void)
 int main(void)
 {
     static const uint8_t needed[] = { 0, 1, 2, 3, 4, 5, 6, 7, 8, 9, 10, 11, 12, 15, 19, 20 };
-    for (size_t i = 0; i < COUNT(accepted); i++)
+    for (size_t i = 0; i < COUNT(accepted); i++) {
         check_accepted(accepted + i);
+        check_film(accepted + i);
+    }
+    for (size_t i = 0; i < COUNT(film); i++)
+        check_accepted(film + i);
     check_record_places(accepted, accepted + 1);
-    for (size_t i = 0; i < COUNT(refused); i++)
+    for (size_t i = 0; i < COUNT(refused); i++) {
         check_refusal(refused + i);
+        check_film(refused + i);
+    }
     check_places(accepted);
+    check_places(film);
     check_places(refused + 5); /* no bytes */
     check_too_long();
     check_patches();

@@ -1,5 +1,7 @@
 #include "rules.h"
 
+#include "cadence.h"
+
 #include <string.h>
 
 __extension__ typedef unsigned __int128 wide;
@@ -15,13 +17,21 @@ static int within(uint64_t low, uint64_t high, uint64_t value)
 static int model_fits(const uint64_t *s)
 {
     return within(1, 429496729200, s[RATE]) && within(1, 4294950912, s[BUFFER]) && within(1, 240000, s[FRN])
-        && within(1, 32032, s[FRD]) && (wide)90000 * s[BUFFER] <= (wide)65534 * s[RATE] && s[WHOLE] <= (uint64_t)1 << 55
+        && within(1, 32032, s[FRD]) && (wide)90000 * s[BUFFER] <= (wide)65534 * s[RATE] && s[WHOLE] <= (uint64_t)1 << 57
         && s[REST] < 180000 * s[FRN] && s[END] <= FAR && s[REMOVED] <= FAR && s[STARTED] <= 1;
+}
+
+/* The words of film are 0 in the other mode. */
+static int cadence_fits(const uint64_t *s)
+{
+    uint64_t most = s[MODE] == 6 ? 1 : 0;
+    return (s[MODE] == 2 || s[MODE] == 6) && s[PROGRESSIVE] <= most && s[LOW_DELAY] <= most && s[ANCHOR_REPEATS] <= most
+        && s[ANCHOR_TOP] <= most && s[OPEN_FIELD] <= 2 * most;
 }
 
 int rules_fit(const uint64_t *s)
 {
-    int fits = model_fits(s) && s[END] % 8 == 0 && s[REMOVED] <= s[END] / 8 && s[STUFFING] <= s[END] / 8;
+    int fits = model_fits(s) && cadence_fits(s) && s[END] % 8 == 0 && s[REMOVED] <= s[END] / 8 && s[STUFFING] <= s[END] / 8;
     for (int kind = 0; kind < 3; kind++)
         fits = fits && s[TARGETS + kind] <= FAR && within(1, 31, s[QUANTISERS + kind]);
     return fits && s[PENDING] <= 3 && s[FINISHED] <= 1
@@ -37,7 +47,7 @@ static int config_fits(const uint64_t *c)
 uint64_t rules_create(const uint64_t *c, uint64_t *s)
 {
     static const uint64_t weights[3] = { 40, 16, 9 };
-    if (c[WANTED_MODE] != 2 || !config_fits(c))
+    if ((c[WANTED_MODE] != 2 && c[WANTED_MODE] != 6) || !config_fits(c))
         return 12;
     if (!within(1, 8, c[WANTED_CODE]))
         return 6;
@@ -46,6 +56,7 @@ uint64_t rules_create(const uint64_t *c, uint64_t *s)
     s[BUFFER] = 16384 * c[WANTED_BUFFER];
     s[FRN] = frame_rates[c[WANTED_CODE]][0] * (c[WANTED_N] + 1);
     s[FRD] = frame_rates[c[WANTED_CODE]][1] * (c[WANTED_D] + 1);
+    s[MODE] = c[WANTED_MODE];
     uint64_t p = c[WANTED_ANCHORS], b = p * c[WANTED_BETWEEN];
     for (int kind = 0; kind < 3; kind++) {
         s[TARGETS + kind] = s[RATE] * s[FRD] / s[FRN] * (1 + p + b) * weights[kind] / (40 + 16 * p + 9 * b);
@@ -59,7 +70,7 @@ struct places {
     wide unit, position, content, end, delivered, next;
 };
 
-static struct places places_of(const uint64_t *s, const struct offer *o)
+static struct places places_of(const uint64_t *s, const struct offer *o, uint64_t periods)
 {
     struct places p = { .unit = (wide)180000 * s[FRN] };
     p.position = s[END] + 8 * ((wide)o->headers_length + 4);
@@ -67,10 +78,30 @@ static struct places places_of(const uint64_t *s, const struct offer *o)
     p.delivered = s[WHOLE] * p.unit + s[REST];
     if (!s[STARTED])
         p.delivered = p.position * p.unit + (wide)90000 * s[BUFFER] * 3 / (4 * s[RATE]) * s[RATE] * 2 * s[FRN];
-    p.next = p.delivered + (wide)s[RATE] * s[FRD] * 90000 * o->interval;
+    p.next = p.delivered + (wide)s[RATE] * s[FRD] * 90000 * periods;
     wide arrived = (p.next + p.unit - 1) / p.unit, held = p.content + s[BUFFER];
     p.end = p.content + (!o->last && arrived > held ? (arrived - held + 7) / 8 * 8 : 0);
     return p;
+}
+
+/* Until a picture is placed, what the offer's own headers open. */
+static struct cadence cadence_at(const uint64_t *s, const struct offer *o)
+{
+    if (s[MODE] != 6)
+        return (struct cadence){ .film = 0 };
+    if (!s[STARTED])
+        return (struct cadence){ .film = 1, .progressive = o->progressive, .low_delay = o->low_delay };
+    return (struct cadence){ 1, (uint8_t)s[PROGRESSIVE], (uint8_t)s[LOW_DELAY], (uint8_t)s[ANCHOR_REPEATS], (uint8_t)s[ANCHOR_TOP],
+                             (enum open_field)s[OPEN_FIELD] };
+}
+
+static void put_cadence(uint64_t *s, const struct cadence *k)
+{
+    s[PROGRESSIVE] = k->progressive;
+    s[LOW_DELAY] = k->low_delay;
+    s[ANCHOR_REPEATS] = k->repeats;
+    s[ANCHOR_TOP] = k->top;
+    s[OPEN_FIELD] = k->open;
 }
 
 static int headers_fit(const uint64_t *s, const struct offer *o)
@@ -86,7 +117,7 @@ static uint64_t refused_before(const uint64_t *s, const struct offer *o, const s
     return o->kind > 2 || !within(1, 2, o->interval) || o->last > 1                ? 12
         : s[FINISHED] || (s[PENDING] != 0 && s[PENDING] != (uint64_t)o->kind + 1) ? 17
         : !headers_fit(s, o)                                                      ? 18
-        : !o->layer_fits                                                          ? 20
+        : !o->layer_fits || (o->repeats && s[MODE] != 6)                          ? 20
         : p->position > FAR || p->end > FAR                                       ? 14
         : p->position * p->unit > p->delivered                                    ? 7
         : p->delivered > ((wide)s[END] + s[BUFFER]) * p->unit                     ? 9
@@ -143,7 +174,9 @@ struct told rules_offer(const uint64_t *s, const struct offer *o)
         refuse(&t, holds ? 19 : 12);
         return t;
     }
-    struct places p = places_of(s, o);
+    struct cadence k = cadence_at(s, o);
+    t.periods = lasts(&k, (struct facts){ o->kind != 2, o->interval == 1, o->repeats, o->top });
+    struct places p = places_of(s, o, t.periods);
     uint64_t number = refused_before(s, o, &p), q = s[PENDING] != 0 ? s[PENDING_Q] : s[QUANTISERS + o->kind % 3];
     if (number == 0 && p.content * p.unit > p.delivered) {
         if (q < 31) {
@@ -156,9 +189,11 @@ struct told rules_offer(const uint64_t *s, const struct offer *o)
     } else if (number == 0) {
         number = refused_after(s, o, &p);
     }
-    if (number != 0)
+    if (number != 0) {
         refuse(&t, number);
-    else
+    } else {
         place(&t, o, &p, q);
+        put_cadence(t.state, &k);
+    }
     return t;
 }

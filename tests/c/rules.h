@@ -1,8 +1,9 @@
 /* The writer's rules in plain numbers of 128 bits, over the words of docs/LAYOUT.md, apart from the library's code: what a
- * call must answer and leave. Whether headers and layer are such as a writer takes is said by who made them.
+ * call must answer and leave. Whether headers and layer are such as a writer takes is said by who made them. How long a picture
+ * lasts is by tools/cadence.h, which film.c holds to worked lists.
  *
- * Here, in sender.c, configs.c and entries.c ranges, units, refusals by number and their order stand once more, and by figures where
- * the header has names: a test that took them from the library or its header would not see them change. */
+ * Here, in sender.c, configs.c, film.c and entries.c ranges, units, refusals by number and their order stand once more, and by
+ * figures where the header has names: a test that took them from the library or its header would not see them change. */
 #ifndef RULES_H
 #define RULES_H
 
@@ -13,7 +14,7 @@
 enum { WANTED_MODE, WANTED_RATE, WANTED_BUFFER, WANTED_CODE, WANTED_N, WANTED_D, WANTED_QUANTISER, WANTED_BETWEEN, WANTED_ANCHORS,
        CONFIG_WORDS };
 enum { RATE, BUFFER, FRN, FRD, WHOLE, REST, END, REMOVED, STARTED, TARGETS, QUANTISERS = 12, PENDING = 15, PENDING_Q,
-       STUFFING, FINISHED, STATE_WORDS };
+       STUFFING, FINISHED, MODE, PROGRESSIVE, LOW_DELAY, ANCHOR_REPEATS, ANCHOR_TOP, OPEN_FIELD, STATE_WORDS };
 enum { OUTCOME, NUMBER, PICTURE, CODED, EXPECTED, QUANTISER, DELAY, BYTES, ZEROS, ANSWER_WORDS };
 
 /* 2^48, the greatest end. */
@@ -31,16 +32,18 @@ struct offer {
     size_t headers_length;
     enum headers are;
     uint64_t declared[4]; /* by first headers: rate, buffer, frn, frd; the last two 0 where the code is none */
+    uint8_t progressive, low_delay; /* by the same */
     uint8_t kind, interval, last;
+    uint8_t repeats, top; /* repeat_first_field and top_field_first of the layer */
     const uint8_t *layer;
     size_t layer_length;
-    int layer_fits;
+    int layer_fits; /* but for its repeat_first_field, which is not every writer's */
     size_t out_length, answer_length;
 };
 
-/* The value returned; the answer's words; the state afterwards. */
+/* The value returned; the answer's words; the state afterwards; the field periods that the picture lasts. */
 struct told {
-    uint64_t number, answer[ANSWER_WORDS], state[STATE_WORDS];
+    uint64_t number, answer[ANSWER_WORDS], state[STATE_WORDS], periods;
 };
 
 /* Whether each value is in its range. */

@@ -10,7 +10,7 @@
 /* 1,000,000 bits a second, buffer 327,680 bits, 25 frames; the same at 24,000 / 1001, from quantiser 1, and from 31; with a
  * buffer below a frame's bits. */
 static const struct config usual = { 2500, 20, 3, 10, 2, 4 };
-static const struct config film = { 2500, 20, 1, 10, 2, 4 };
+static const struct config cinema = { 2500, 20, 1, 10, 2, 4 };
 static const struct config fine = { 2500, 20, 3, 1, 2, 4 };
 static const struct config coarse = { 2500, 20, 3, 31, 2, 4 };
 static const struct config narrow = { 2500, 1, 3, 10, 2, 4 };
@@ -55,6 +55,7 @@ static void check_creation(const struct creation *k, size_t length, uint64_t num
         const uint64_t *rate = frame_rates[c->code], *t = k->targets, q = c->quantiser;
         uint64_t words[STATE_WORDS] = { 400 * (uint64_t)c->rate, 16384 * (uint64_t)c->buffer, rate[0], rate[1], 0, 0, 0, 0,
                                         0, t[0], t[1], t[2], q, q, q };
+        words[MODE] = 2;
         expect_words(&state, words, STATE_WORDS);
     }
     answered("a creation", create(c, state.bytes, length), number);
@@ -314,7 +315,7 @@ static void check_layers(void)
     for (size_t i = 0; i < COUNT(unfit_layers); i++)
         check_layer(c, unfit_layers + i, 0);
     struct offer o = picture(c, CBR_I, CBR_FIELD, 23);
-    o.layer = layers[CBR_I][CBR_FRAME];
+    o.layer = layers[CBR_I][CBR_FRAME][0];
     o.layer_fits = 0;
     refused("a frame as field", c, o, 20);
     for (size_t i = 0; i < COUNT(fit_layers); i++)
@@ -485,7 +486,8 @@ static void check_places(void)
 
 /* ---- states with values of all sorts */
 
-/* The least and the greatest of each word, the others being these: the one below and the one above are out of range. */
+/* The least and the greatest of each word, the others being these, a film writer's: the one below and the one above are out of
+ * range. film.c has the last six together. */
 static const struct range {
     uint64_t word, least, greatest, step;
 } ranges[STATE_WORDS] = {
@@ -493,7 +495,7 @@ static const struct range {
     { 327680, 1, 728155, 1 },
     { 25, 1, 240000, 1 },
     { 1, 1, 32032, 1 },
-    { 900000, 0, (uint64_t)1 << 55, 1 },
+    { 900000, 0, (uint64_t)1 << 57, 1 },
     { 179999, 0, UNIT - 1, 1 },
     { 800000, 72000, FAR, 8 },
     { 7, 0, 100000, 1 },
@@ -508,6 +510,12 @@ static const struct range {
     { 8, 1, 31, 1 },
     { 9000, 0, 100000, 1 },
     { 0, 0, 1, 1 },
+    { 6, 6, 6, 1 },
+    { 1, 0, 1, 1 },
+    { 0, 0, 1, 1 },
+    { 1, 0, 1, 1 },
+    { 1, 0, 1, 1 },
+    { 2, 0, 2, 1 },
 };
 
 /* An offer and a withdrawal on such a state: 12 or not. */
@@ -537,7 +545,7 @@ static void check_ranges(void)
         check_value(c, i, r->greatest, 1);
         check_value(c, i, r->greatest + r->step, 0);
         check_value(c, i, r->least - r->step, 0);
-        check_value(c, i, r->word + ((uint64_t)1 << 56), 0); /* in range but for its last byte */
+        check_value(c, i, r->word + ((uint64_t)1 << 58), 0); /* in range but for its last byte */
         check_value(c, i, UINT64_MAX, 0);
     }
     check_value(c, END, 800004, 0); /* not whole bytes */
@@ -624,7 +632,7 @@ static void finish(struct channel *c)
 static void open_both(struct channel *both[2])
 {
     both[0] = open_channel(&usual);
-    both[1] = open_channel(&film);
+    both[1] = open_channel(&cinema);
     both[0]->interval = CBR_FRAME;
     both[1]->interval = CBR_FIELD;
     both[1]->seed = 1;

@@ -27,7 +27,9 @@ static const struct member members[] = {
     OF(cbr_state, bit_rate), OF(cbr_state, buffer_size_bits), OF(cbr_state, frn), OF(cbr_state, frd), OF(cbr_state, whole),
     OF(cbr_state, rest), OF(cbr_state, prev_end_bits), OF(cbr_state, removed), OF(cbr_state, started),
     OF(cbr_state, target_bits), OF(cbr_state, q), OF(cbr_state, pending), OF(cbr_state, pending_q),
-    OF(cbr_state, stuffing_bytes), OF(cbr_state, finished),
+    OF(cbr_state, stuffing_bytes), OF(cbr_state, finished), OF(cbr_state, mode), OF(cbr_state, progressive_sequence),
+    OF(cbr_state, low_delay), OF(cbr_state, anchor_repeat_first_field), OF(cbr_state, anchor_top_field_first),
+    OF(cbr_state, open_field),
     OF(cbr_answer, outcome), OF(cbr_answer, number), OF(cbr_answer, picture), OF(cbr_answer, coded), OF(cbr_answer, expected),
     OF(cbr_answer, quantiser), OF(cbr_answer, delay), OF(cbr_answer, bytes), OF(cbr_answer, stuffing),
 };
