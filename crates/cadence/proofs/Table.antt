@@ -10,7 +10,7 @@ use Rattle.vbv.specs.Model.{periods}
 use Rattle.vbv.specs.declared.RemovalInterval.the-variants.{Frame, Field}
 use Rattle.picture_header.specs.declared.PictureFacts.{PictureFacts}
 use Rattle.cadence.specs.Cadence.{opened, lasting, ledByAnchor, isClosed, fieldInterval, frameInterval, interval, with, closed, afterField, afterFrame, after}
-use Rattle.cadence.specs.Table.{frames, Periods, Leaves, allLast, Last, Worked}
+use Rattle.cadence.specs.Table.{frames, Periods, Leaves, allPeriods, Lists, Worked}
 
 -- a frame by its flags
 interlaced : (r t : Bool) → periods (lasting false r t) ≡ 2 + flagOf r
@@ -64,11 +64,11 @@ leaves-table = record {
 }
 
 -- a list's periods are those that it is asked for
-computed : (xs : List PictureFacts) → Last xs (allLast (opened true false false) xs) (allLast (opened true false true) xs) (allLast (opened true true false) xs) (allLast (opened true true true) xs)
+computed : (xs : List PictureFacts) → Lists xs (allPeriods (opened true false false) xs) (allPeriods (opened true false true) xs) (allPeriods (opened true true false) xs) (allPeriods (opened true true true) xs)
 computed xs = record { interlaced-is = refl; low-is = refl; progressive-is = refl; both-is = refl }
 
 pub worked : Worked
-unfolding opened interval fieldInterval frameInterval lasting after afterField afterFrame closed with ledByAnchor isClosed pick allLast
+unfolding opened interval fieldInterval frameInterval lasting after afterField afterFrame closed with ledByAnchor isClosed pick allPeriods
 worked = record {
   anchors = computed _;
   b-between = computed _;

@@ -1,6 +1,6 @@
 -- How long a picture lasts in film mode, from the pictures before it and no state (paper 02, request 05, sentence by sentence). What the cadence keeps is held to this.
 -- Assumes nothing.
-use Prim.Native.Nat.{ℕ, suc, _+_, _*_}
+use Prim.Native.Nat.{ℕ}
 use mathlib.Core.Path.{_≡_}
 use mathlib.Core.Bool.{Bool, true, false, not, _&&_}
 use mathlib.Core.List.{List, [], _∷_}

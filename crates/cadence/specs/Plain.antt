@@ -1,7 +1,7 @@
 -- What is owed outside film (paper 02, request 05: 'plain mode is as before'): a field lasts 1, a frame 2, whatever the flags, and nothing is kept.
 -- And where no picture has the flag, film lasts as plain does. Assumes nothing.
 use mathlib.Core.Path.{_≡_}
-use mathlib.Core.Bool.{Bool, true, false}
+use mathlib.Core.Bool.{false}
 use Rattle.vbv.specs.Model.{intervalOf}
 use Rattle.picture_header.specs.declared.PictureFacts.{PictureFacts}
 use Rattle.cadence.specs.Cadence.{interval, after}

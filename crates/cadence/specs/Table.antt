@@ -73,7 +73,7 @@ pub record Leaves : Type 0 where
 
 -- ---- worked lists
 
--- I, P, B frames and i, p, b fields; ' with the flag, '' with the flag and top_field_first, ^ with top_field_first alone
+-- A an I or P frame, B a B frame, a an I or P field, b a B field; ' with the flag, '' with the flag and top_field_first, ^ with top_field_first alone
 abbrev pub A : PictureFacts
 A = frameOf true false false
 
@@ -101,36 +101,36 @@ a = fieldOf true false false
 abbrev pub b : PictureFacts
 b = fieldOf false false false
 
-unfoldable pub allLast : VbvCadence → List PictureFacts → List ℕ
-allLast k [] = []
-allLast k (x ∷ xs) = lasts k x ∷ allLast (after k x) xs
+unfoldable pub allPeriods : VbvCadence → List PictureFacts → List ℕ
+allPeriods k [] = []
+allPeriods k (x ∷ xs) = lasts k x ∷ allPeriods (after k x) xs
 
 -- the periods of a list in an interlaced sequence, with low_delay, in a progressive one, and in a progressive one with low_delay
-pub record Last (xs : List PictureFacts) (interlaced low progressive both : List ℕ) : Type 0 where
-  pub interlaced-is : allLast (opened true false false) xs ≡ interlaced
-  pub low-is : allLast (opened true false true) xs ≡ low
-  pub progressive-is : allLast (opened true true false) xs ≡ progressive
-  pub both-is : allLast (opened true true true) xs ≡ both
+pub record Lists (xs : List PictureFacts) (interlaced low progressive both : List ℕ) : Type 0 where
+  pub interlaced-is : allPeriods (opened true false false) xs ≡ interlaced
+  pub low-is : allPeriods (opened true false true) xs ≡ low
+  pub progressive-is : allPeriods (opened true true false) xs ≡ progressive
+  pub both-is : allPeriods (opened true true true) xs ≡ both
 
 pub record Worked : Type 0 where
-  pub anchors : Last (A' ∷ A ∷ A ∷ []) (2 ∷ 3 ∷ 2 ∷ []) (3 ∷ 2 ∷ 2 ∷ []) (2 ∷ 4 ∷ 2 ∷ []) (4 ∷ 2 ∷ 2 ∷ [])
-  pub b-between : Last (A' ∷ B' ∷ A ∷ []) (2 ∷ 3 ∷ 3 ∷ []) (3 ∷ 3 ∷ 2 ∷ []) (2 ∷ 4 ∷ 4 ∷ []) (4 ∷ 4 ∷ 2 ∷ [])
+  pub anchors : Lists (A' ∷ A ∷ A ∷ []) (2 ∷ 3 ∷ 2 ∷ []) (3 ∷ 2 ∷ 2 ∷ []) (2 ∷ 4 ∷ 2 ∷ []) (4 ∷ 2 ∷ 2 ∷ [])
+  pub b-between : Lists (A' ∷ B' ∷ A ∷ []) (2 ∷ 3 ∷ 3 ∷ []) (3 ∷ 3 ∷ 2 ∷ []) (2 ∷ 4 ∷ 4 ∷ []) (4 ∷ 4 ∷ 2 ∷ [])
   -- no anchor before I
-  pub b-first : Last (B' ∷ A ∷ []) (3 ∷ 2 ∷ []) (3 ∷ 2 ∷ []) (4 ∷ 2 ∷ []) (4 ∷ 2 ∷ [])
+  pub b-first : Lists (B' ∷ A ∷ []) (3 ∷ 2 ∷ []) (3 ∷ 2 ∷ []) (4 ∷ 2 ∷ []) (4 ∷ 2 ∷ [])
   -- a pair of I and P fields
-  pub pair : Last (A' ∷ a ∷ a ∷ A ∷ []) (2 ∷ 1 ∷ 2 ∷ 2 ∷ []) (3 ∷ 1 ∷ 1 ∷ 2 ∷ []) (2 ∷ 1 ∷ 1 ∷ 2 ∷ []) (4 ∷ 1 ∷ 1 ∷ 2 ∷ [])
+  pub pair : Lists (A' ∷ a ∷ a ∷ A ∷ []) (2 ∷ 1 ∷ 2 ∷ 2 ∷ []) (3 ∷ 1 ∷ 1 ∷ 2 ∷ []) (2 ∷ 1 ∷ 1 ∷ 2 ∷ []) (4 ∷ 1 ∷ 1 ∷ 2 ∷ [])
   -- a field left over
-  pub left-over : Last (A' ∷ a ∷ A ∷ []) (2 ∷ 1 ∷ 2 ∷ []) (3 ∷ 1 ∷ 2 ∷ []) (2 ∷ 1 ∷ 2 ∷ []) (4 ∷ 1 ∷ 2 ∷ [])
-  pub left-over-then-b : Last (A' ∷ a ∷ B ∷ A ∷ []) (2 ∷ 1 ∷ 2 ∷ 2 ∷ []) (3 ∷ 1 ∷ 2 ∷ 2 ∷ []) (2 ∷ 1 ∷ 2 ∷ 2 ∷ []) (4 ∷ 1 ∷ 2 ∷ 2 ∷ [])
-  pub b-pair : Last (A' ∷ b ∷ b ∷ A ∷ []) (2 ∷ 1 ∷ 1 ∷ 3 ∷ []) (3 ∷ 1 ∷ 1 ∷ 2 ∷ []) (2 ∷ 1 ∷ 1 ∷ 4 ∷ []) (4 ∷ 1 ∷ 1 ∷ 2 ∷ [])
-  pub b-left-over : Last (A' ∷ b ∷ A ∷ []) (2 ∷ 1 ∷ 3 ∷ []) (3 ∷ 1 ∷ 2 ∷ []) (2 ∷ 1 ∷ 4 ∷ []) (4 ∷ 1 ∷ 2 ∷ [])
-  pub led-by-p : Last (A' ∷ a ∷ b ∷ A ∷ []) (2 ∷ 1 ∷ 2 ∷ 2 ∷ []) (3 ∷ 1 ∷ 1 ∷ 2 ∷ []) (2 ∷ 1 ∷ 1 ∷ 2 ∷ []) (4 ∷ 1 ∷ 1 ∷ 2 ∷ [])
-  pub led-by-b : Last (A' ∷ b ∷ a ∷ A ∷ []) (2 ∷ 1 ∷ 1 ∷ 3 ∷ []) (3 ∷ 1 ∷ 1 ∷ 2 ∷ []) (2 ∷ 1 ∷ 1 ∷ 4 ∷ []) (4 ∷ 1 ∷ 1 ∷ 2 ∷ [])
-  pub pair-first : Last (a ∷ a ∷ A ∷ []) (1 ∷ 1 ∷ 2 ∷ []) (1 ∷ 1 ∷ 2 ∷ []) (1 ∷ 1 ∷ 2 ∷ []) (1 ∷ 1 ∷ 2 ∷ [])
+  pub left-over : Lists (A' ∷ a ∷ A ∷ []) (2 ∷ 1 ∷ 2 ∷ []) (3 ∷ 1 ∷ 2 ∷ []) (2 ∷ 1 ∷ 2 ∷ []) (4 ∷ 1 ∷ 2 ∷ [])
+  pub left-over-then-b : Lists (A' ∷ a ∷ B ∷ A ∷ []) (2 ∷ 1 ∷ 2 ∷ 2 ∷ []) (3 ∷ 1 ∷ 2 ∷ 2 ∷ []) (2 ∷ 1 ∷ 2 ∷ 2 ∷ []) (4 ∷ 1 ∷ 2 ∷ 2 ∷ [])
+  pub b-pair : Lists (A' ∷ b ∷ b ∷ A ∷ []) (2 ∷ 1 ∷ 1 ∷ 3 ∷ []) (3 ∷ 1 ∷ 1 ∷ 2 ∷ []) (2 ∷ 1 ∷ 1 ∷ 4 ∷ []) (4 ∷ 1 ∷ 1 ∷ 2 ∷ [])
+  pub b-left-over : Lists (A' ∷ b ∷ A ∷ []) (2 ∷ 1 ∷ 3 ∷ []) (3 ∷ 1 ∷ 2 ∷ []) (2 ∷ 1 ∷ 4 ∷ []) (4 ∷ 1 ∷ 2 ∷ [])
+  pub led-by-p : Lists (A' ∷ a ∷ b ∷ A ∷ []) (2 ∷ 1 ∷ 2 ∷ 2 ∷ []) (3 ∷ 1 ∷ 1 ∷ 2 ∷ []) (2 ∷ 1 ∷ 1 ∷ 2 ∷ []) (4 ∷ 1 ∷ 1 ∷ 2 ∷ [])
+  pub led-by-b : Lists (A' ∷ b ∷ a ∷ A ∷ []) (2 ∷ 1 ∷ 1 ∷ 3 ∷ []) (3 ∷ 1 ∷ 1 ∷ 2 ∷ []) (2 ∷ 1 ∷ 1 ∷ 4 ∷ []) (4 ∷ 1 ∷ 1 ∷ 2 ∷ [])
+  pub pair-first : Lists (a ∷ a ∷ A ∷ []) (1 ∷ 1 ∷ 2 ∷ []) (1 ∷ 1 ∷ 2 ∷ []) (1 ∷ 1 ∷ 2 ∷ []) (1 ∷ 1 ∷ 2 ∷ [])
   -- a pair, then a field left over
-  pub three-fields : Last (A' ∷ a ∷ a ∷ a ∷ A ∷ []) (2 ∷ 1 ∷ 2 ∷ 1 ∷ 2 ∷ []) (3 ∷ 1 ∷ 1 ∷ 1 ∷ 2 ∷ []) (2 ∷ 1 ∷ 1 ∷ 1 ∷ 2 ∷ []) (4 ∷ 1 ∷ 1 ∷ 1 ∷ 2 ∷ [])
-  pub top : Last (A'' ∷ A ∷ []) (2 ∷ 3 ∷ []) (3 ∷ 2 ∷ []) (2 ∷ 6 ∷ []) (6 ∷ 2 ∷ [])
-  pub top-alone : Last (A^ ∷ A ∷ []) (2 ∷ 2 ∷ []) (2 ∷ 2 ∷ []) (2 ∷ 2 ∷ []) (2 ∷ 2 ∷ [])
-  pub top-of-b : Last (A'' ∷ B'' ∷ A ∷ []) (2 ∷ 3 ∷ 3 ∷ []) (3 ∷ 3 ∷ 2 ∷ []) (2 ∷ 6 ∷ 6 ∷ []) (6 ∷ 6 ∷ 2 ∷ [])
-  pub film-group : Last (A' ∷ A' ∷ B' ∷ B ∷ A ∷ B' ∷ A ∷ [])
+  pub three-fields : Lists (A' ∷ a ∷ a ∷ a ∷ A ∷ []) (2 ∷ 1 ∷ 2 ∷ 1 ∷ 2 ∷ []) (3 ∷ 1 ∷ 1 ∷ 1 ∷ 2 ∷ []) (2 ∷ 1 ∷ 1 ∷ 1 ∷ 2 ∷ []) (4 ∷ 1 ∷ 1 ∷ 1 ∷ 2 ∷ [])
+  pub top : Lists (A'' ∷ A ∷ []) (2 ∷ 3 ∷ []) (3 ∷ 2 ∷ []) (2 ∷ 6 ∷ []) (6 ∷ 2 ∷ [])
+  pub top-alone : Lists (A^ ∷ A ∷ []) (2 ∷ 2 ∷ []) (2 ∷ 2 ∷ []) (2 ∷ 2 ∷ []) (2 ∷ 2 ∷ [])
+  pub top-of-b : Lists (A'' ∷ B'' ∷ A ∷ []) (2 ∷ 3 ∷ 3 ∷ []) (3 ∷ 3 ∷ 2 ∷ []) (2 ∷ 6 ∷ 6 ∷ []) (6 ∷ 6 ∷ 2 ∷ [])
+  pub film-group : Lists (A' ∷ A' ∷ B' ∷ B ∷ A ∷ B' ∷ A ∷ [])
       (2 ∷ 3 ∷ 3 ∷ 2 ∷ 3 ∷ 3 ∷ 2 ∷ []) (3 ∷ 3 ∷ 3 ∷ 2 ∷ 2 ∷ 3 ∷ 2 ∷ []) (2 ∷ 4 ∷ 4 ∷ 2 ∷ 4 ∷ 4 ∷ 2 ∷ []) (4 ∷ 4 ∷ 4 ∷ 2 ∷ 2 ∷ 4 ∷ 2 ∷ [])

@@ -82,8 +82,7 @@ impl VbvCadence {
             return true;
         }
         let waiting = self.waiting;
-        !self.progressive
-            & (!self.low_delay & (!self.repeat & (!self.top & is_closed(waiting))))
+        !self.progressive & (!self.low_delay & (!self.repeat & (!self.top & is_closed(waiting))))
     }
 
     // How long up to the removal after this picture's.

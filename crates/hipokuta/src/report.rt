@@ -14,12 +14,7 @@ use verify::check_in_mode;
 // The buffer report of a stream, or why it is refused, but never for want of record places: 0, or the refusal's number. A
 // stream has no more pictures than bytes.
 #[no_mangle]
-pub extern "C" fn vbv_report(
-    stream: &[u8],
-    mode: u8,
-    report: &mut [u8],
-    refusal: &mut [u8],
-) -> u64
+pub extern "C" fn vbv_report(stream: &[u8], mode: u8, report: &mut [u8], refusal: &mut [u8]) -> u64
     ensures { λ r. ⌜ r ≡ number (reportAloneIn stream mode report refusal) ⌝ }
     ensures { λ r. ⌜ now (report .exit) ≡ reportAfter (reportAloneIn stream mode report refusal) (now (report .entry)) ⌝ }
     ensures { λ r. ⌜ now (refusal .exit) ≡ refusalAfter (reportAloneIn stream mode report refusal) (now (refusal .entry)) ⌝ }

@@ -150,4 +150,4 @@ PassesCheck m p [] = Unit {0}
 PassesCheck m p (x ∷ xs) =
     (places : ℕ) → length (x ∷ xs) ≤ places
     → AcceptedFor p (x .offer .headers) (sentRecords p (cadenceBy (m .film) (x .offer .headers)) (firstDelivered p (sentPosition x) (x .delay)) 0 (x ∷ xs))
-      (verdict m (endToEnd (x ∷ xs)) places)
+    (verdict m (endToEnd (x ∷ xs)) places)

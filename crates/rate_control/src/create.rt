@@ -104,7 +104,8 @@ impl CbrConfig {
             & (within(1, 1023, size)
                 & (within(0, 3, n)
                     & (within(0, 31, d)
-                        & (within(1, 31, q) & (within(0, 15, between) & within(1, 255, anchors))))));
+                        & (within(1, 31, q)
+                            & (within(0, 15, between) & within(1, 255, anchors))))));
         is_written(standard) & ranges
     }
 

@@ -97,13 +97,7 @@ impl CbrWriter {
                 let zeros = placement.stuffing_bytes as usize;
                 put_placed(out, headers, layer, placement.vbv_delay, zeros, last);
                 let layer_bytes = layer.len() as u64;
-                self.placed(
-                    kind,
-                    layer_bytes,
-                    last,
-                    placement,
-                    cadence.after(facts),
-                )
+                self.placed(kind, layer_bytes, last, placement, cadence.after(facts))
             }
         }
     }

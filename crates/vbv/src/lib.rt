@@ -6,7 +6,7 @@ ghost use Rattle.vbv.specs.Annex.{unit, firstDelivered};
 ghost use Rattle.vbv.specs.Answers.{modelNumber, modelAnswer, removalAnswer, delayAnswer, modelBitsAnswer, patchAnswer, rateAnswer, codeRate, frameRate, violationRefusal};
 ghost use Rattle.vbv.specs.Steps.{ModelFits, EndFits};
 ghost use Rattle.vbv.specs.Params.{paramsOf, sameParams};
-ghost use Rattle.vbv.specs.Model.{farthest, paramsInRange, paramsFit, delivered, modelFits, atDelivered, periods as periodsOf, nextDelivered, newModel, startModel, delayForPicture, removePicture, maxEndBits, minEndBits, occupancyBeforeRemoval, intervalOf};
+ghost use Rattle.vbv.specs.Model.{farthest, paramsInRange, paramsFit, delivered, modelFits, atDelivered, periods as periodsOf, nextDelivered, newModel, startModel, delayForPicture, removePicture, maxEndBits, minEndBits, occupancyBeforeRemoval};
 ghost use Rattle.vbv.specs.Patch.{startsPicture, patchPicture, patched};
 
 pub mod lent; // the model by reference
@@ -514,16 +514,6 @@ impl VbvCbrModel {
             VbvBits::Refused(VbvError::Params)
         }
     }
-}
-
-// Outside film: a field picture lasts a field period, a frame a frame period.
-pub fn interval(field: bool) -> RemovalInterval
-    ensures { λ r. ⌜ r ≡ intervalOf field ⌝ }
-{
-    if field {
-        return RemovalInterval::Field;
-    }
-    RemovalInterval::Frame
 }
 
 // How many field periods an interval has.

@@ -68,7 +68,7 @@ unfolding verdictBy
 film-verdict s xs places h n =
     verdict-in film s places film-fits
     ∙ alike places (timed (cadenceOf true s)) timedByStructure (front Mpeg2 s)
-      (λ f e. no-flags (cadenceOf true s) (unflagged true s) (f .first ∷ f .others) (rw (front-pictures s xs h (front Mpeg2 s) (front-due Mpeg2 s) f e) n))
+    (λ f e. no-flags (cadenceOf true s) (unflagged true s) (f .first ∷ f .others) (rw (front-pictures s xs h (front Mpeg2 s) (front-due Mpeg2 s) f e) n))
     ∙ sym (plain-verdict Mpeg2 s places)
 
 pub plain-mode : PlainMode

@@ -200,14 +200,16 @@ walkerOf standard k p = record { standard = standard; params = p; at = 0; cadenc
 -- after one more picture, and that picture's record
 unfoldable pub steppedBy : Walker → Sight → Walker × VbvPictureRecord
 steppedBy w nothing = (w, noRecord)
-steppedBy w (one x next) =
-    (record {
-      standard = w .standard;
-      params = w .params;
-      at = next;
-      cadence = after (w .cadence) (x .facts);
-      progress = advanced (w .params) (w .progress) (codedOf (interval (w .cadence) (x .facts)) x);
-    }, lastOf (advanced (w .params) (w .progress) (codedOf (interval (w .cadence) (x .facts)) x)))
+steppedBy w (one x next) = (
+  record {
+    standard = w .standard;
+    params = w .params;
+    at = next;
+    cadence = after (w .cadence) (x .facts);
+    progress = advanced (w .params) (w .progress) (codedOf (interval (w .cadence) (x .facts)) x);
+  },
+  lastOf (advanced (w .params) (w .progress) (codedOf (interval (w .cadence) (x .facts)) x)),
+)
 
 unfoldable pub nextStep : List ℕ → Walker → Walker × VbvPictureRecord
 nextStep s w = orElse (w, noRecord) (andThen (nextSeen (w .standard) s (w .at)) (λ g. value (steppedBy w g)))

@@ -150,18 +150,10 @@ fn judge(walked: Walked, places: usize) -> VbvVerified
 }
 
 // The report by a cadence before the first picture, given so many record places, without the records.
-fn check_by(
-    stream: &[u8],
-    standard: VbvStandard,
-    cadence: VbvCadence,
-    places: usize,
-) -> VbvVerified
+fn check_by(stream: &[u8], standard: VbvStandard, cadence: VbvCadence, places: usize) -> VbvVerified
     ensures { λ r. ⌜ verifiedAnswer r ≡ reported (verdictBy standard cadence (now (stream .entry)) places) ⌝ }
 {
-    judge(
-        walk_front(stream, standard, cadence, 0, &mut []),
-        places,
-    )
+    judge(walk_front(stream, standard, cadence, 0, &mut []), places)
 }
 
 // And with them.

@@ -14,7 +14,7 @@ same-length : tie.Need-same-length
 same-length c = search needs
 
 returns : tie.Need-returns
-returns c = 
+returns c =
     let k = c .before .before in
     no-place _ _ _ _ (search) (k .before .plain .ensures) (k .refuse .ensures .0) (k .refuse .ensures .1)
 
@@ -37,7 +37,7 @@ same-length-3 : tie.Need-same-length-3
 same-length-3 c = search needs
 
 returns-2 : tie.Need-returns-2
-returns-2 c = 
+returns-2 c =
     let k = c .before .before .before .before in
     let m = k .before .before .before .before in
     in-mode _ _ _ _ (search) _ _ (k .answer .ensures) (m .before .before .is-mode .ensures) (m .before .if2 .taken) (m .mode-for .ensures) (search)
@@ -52,7 +52,7 @@ same-length-4 : tie.Need-same-length-4
 same-length-4 c = search needs
 
 returns-3 : tie.Need-returns-3
-returns-3 c = 
+returns-3 c =
     let k = c .before .before in
     no-mode _ _ _ _ (search) (k .before .before .before .before .is-mode .ensures) (k .before .before .before .if2 .left) (k .before .plain2 .ensures) (k .refuse2 .ensures .0) (k .refuse2 .ensures .1)
 

@@ -35,13 +35,13 @@ refused-requires-2 : tie.Need-refused-requires-2
 refused-requires-2 c κs = search needs
 
 returns : tie.Need-returns
-returns c = 
+returns c =
     let p = c .before .before .before in
     let t = p .before .before in
     offer-short _ _ _ (tested-by _ _ (t .before .before .before .layer-facts .ensures) (t .before .before .cadence-at .ensures) (t .before .interval .ensures) (t .tested .ensures)) _ _ (p .placement .given .1) (omega arith) (c .refused2 .ensures)
 
 put-placed-requires : tie.Need-put-placed-requires
-put-placed-requires c κs = 
+put-placed-requires c κs =
     let p = c .before .before .before in
     let t = p .before .before in
     omega (arith, bytes-are _ _ _ _ _ _ (t .before .before .before .layer-facts .ensures) (t .before .before .cadence-at .ensures) (t .before .interval .ensures) (t .tested .ensures) _ (p .placement .given .1))
@@ -50,19 +50,19 @@ after-requires : tie.Need-after-requires
 after-requires c κs = search needs
 
 placed-requires : tie.Need-placed-requires
-placed-requires c κs = 
+placed-requires c κs =
     let p = c .before .before .before .before .before .before .before in
     let t = p .before .before in
     placeable _ _ _ _ _ _ (t .before .before .before .layer-facts .ensures) (t .before .before .cadence-at .ensures) (t .before .interval .ensures) (t .tested .ensures) _ (p .placement .given .1)
 
 returns-2 : tie.Need-returns-2
-returns-2 c = 
+returns-2 c =
     let p = c .before .before in
     let t = p .before .before in
     offer-refused _ _ _ (tested-by _ _ (t .before .before .before .layer-facts .ensures) (t .before .before .cadence-at .ensures) (t .before .interval .ensures) (t .tested .ensures)) _ _ (p .error .given .1) (c .refused .ensures)
 
 returns-3 : tie.Need-returns-3
-returns-3 c = 
+returns-3 c =
     let t = c .before .before .before in
     offer-large _ _ _ (tested-by _ _ (t .before .before .before .layer-facts .ensures) (t .before .before .cadence-at .ensures) (t .before .interval .ensures) (t .tested .ensures)) _ (c .before .enum-told .given .1) (c .too-large .ensures)
 
@@ -70,7 +70,7 @@ same-length : tie.Need-same-length
 same-length c = search needs
 
 returns-4 : tie.Need-returns-4
-returns-4 c = 
+returns-4 c =
     let o = c .before .before .before .before in
     let p = o .before .before .before .before in
     let t = p .before .before in

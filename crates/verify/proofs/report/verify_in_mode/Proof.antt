@@ -22,11 +22,10 @@ same-length : tie.Need-same-length
 same-length c = search needs
 
 returns : tie.Need-returns
-returns c =
-    (
-      rw (c .before .before .before .before .cadence-of .ensures) at (c .before .before .verify-by .ensures .0) ∙ ap reported (sym (verdict-in _ _ _ (sym (c .before .before .before .before .before .before .fits2 .ensures) ∙ c .before .before .before .before .before .if1 .taken))),
-      over-in _ _ _ _ (sym (c .before .before .before .before .before .before .fits2 .ensures) ∙ c .before .before .before .before .before .if1 .taken) (c .before .before .before .before .cadence-of .ensures) (c .before .before .verify-by .ensures .1),
-    )
+returns c = (
+  rw (c .before .before .before .before .cadence-of .ensures) at (c .before .before .verify-by .ensures .0) ∙ ap reported (sym (verdict-in _ _ _ (sym (c .before .before .before .before .before .before .fits2 .ensures) ∙ c .before .before .before .before .before .if1 .taken))),
+  over-in _ _ _ _ (sym (c .before .before .before .before .before .before .fits2 .ensures) ∙ c .before .before .before .before .before .if1 .taken) (c .before .before .before .before .cadence-of .ensures) (c .before .before .verify-by .ensures .1),
+)
 
 returns-2 : tie.Need-returns-2
 returns-2 c = (ap reported (sym (verdict-none _ _ _ (sym (c .before .fits2 .ensures) ∙ c .if1 .left))), over-none _ _ _ _ (sym (c .before .fits2 .ensures) ∙ c .if1 .left))
