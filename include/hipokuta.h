@@ -162,8 +162,8 @@ struct cbr_state {
     uint64_t finished;       /* 1 once the last picture was placed */
     uint64_t mode;           /* as created: VBV_MPEG2, in which the words below are 0, or VBV_MPEG2 + VBV_FILM */
     uint64_t progressive_sequence, low_delay; /* by the first placed picture's headers */
-    uint64_t anchor_repeat_first_field;       /* of the last I or P picture placed, 0 before there is one; */
-    uint64_t anchor_top_field_first;          /* of the same */
+    uint64_t anchor_repeat_first_field;       /* of the last I or P frame placed; 0 before there is one, and after a pair of */
+    uint64_t anchor_top_field_first;          /* fields, or a field left over, that I or P leads; of the same */
     uint64_t open_field;     /* a field that waits for the second of its pair: 0 none, 1 an I or P field, 2 a B field */
 };
 
@@ -203,7 +203,10 @@ struct cbr_answer {
  * CBR_MOST_BUFFER) times CBR_BUFFER_UNIT bits. quantiser (1 to 31) is where all kinds start; quantisers are values of
  * quantiser_scale_code. b_between (0 to 15) and anchors_per_gop (1 to 255) set the targets that the quantisers are steered by,
  * and nothing else: a group is taken to have one I picture, anchors_per_gop P pictures (the I picture is not counted), and
- * b_between B pictures before each of these. The frame rate is the code's, which cbr_create_config may multiply and divide.
+ * b_between B pictures before each of these. A target counts a frame's time for each picture, of a film writer too: where fields
+ * are repeated the line carries more than the targets ask for, of film at 24 pictures a second a quarter more, and the rest is
+ * stuffed unless the encoder takes finer quantisers than q. The frame rate is the code's, which cbr_create_config may multiply
+ * and divide.
  */
 uint64_t cbr_create(uint32_t bit_rate_value, uint16_t vbv_buffer_size_value, uint8_t frame_rate_code, uint8_t quantiser,
                     uint8_t b_between, uint8_t anchors_per_gop,

@@ -133,11 +133,12 @@ static void print_refusal(const struct told *t)
         print_sequence(t);
     if (a->number >= VBV_EARLY && a->number <= VBV_DELAY_MISMATCH)
         print_frame_rate(&a->declared);
-    printf("  %s\n", vbv_refusal_text(a->number));
+    int film = a->number == VBV_DELAY_MISMATCH && spoils_model(a);
+    if (film)
+        print_film(t);
+    printf("  %s%s\n", film ? "If that refuses it too: " : "", vbv_refusal_text(a->number));
     if (a->number == VBV_VARIABLE_RATE)
         print_remedy(t);
-    if (a->number == VBV_DELAY_MISMATCH && spoils_model(a))
-        print_film(t);
 }
 
 static void print_verdict(const struct told *t)

@@ -34,7 +34,7 @@ cadenceFits k =
 
 -- ---- how long
 
--- C.9 to C.12: a frame by these flags: a field more where the first is repeated; in a progressive sequence one or two frames more (6.3.10)
+-- a frame by these flags: a field more where the first is repeated; in a progressive sequence one or two frames more (6.3.10)
 unfoldable pub lasting : Bool → Bool → Bool → RemovalInterval
 lasting progressive repeat top = pick repeat (pick progressive (pick top ThreeFrames TwoFrames) ThreeFields) Frame
 
@@ -43,11 +43,11 @@ ledByAnchor Closed = false
 ledByAnchor LedByAnchor = true
 ledByAnchor LedByOther = false
 
--- C.9 to C.12: a field lasts 1; the second of a pair led by I or P 2 where the anchor before the pair has the flag, neither in a progressive sequence nor with low_delay
+-- a field lasts 1; the second of a pair led by I or P 2, as long as a frame, where the anchor before the pair has the flag, neither in a progressive sequence nor with low_delay
 unfoldable pub fieldInterval : VbvCadence → RemovalInterval
 fieldInterval k = pick (ledByAnchor (k .waiting) && (k .repeat && (not (k .progressive) && not (k .«low_delay»)))) Frame Field
 
--- C.9 to C.12: an I or P frame by the flags of the previous anchor, a B frame and, with low_delay, every frame by its own; a field left over led by I or P is an anchor without the flag
+-- an I or P frame by the flags of the previous anchor, a B frame and, with low_delay, every frame by its own; a field left over led by I or P is an anchor without the flag
 unfoldable pub frameInterval : VbvCadence → PictureFacts → RemovalInterval
 frameInterval k x =
     pick (x .anchor && not (k .«low_delay»))

@@ -85,7 +85,7 @@ impl VbvCadence {
         !self.progressive & (!self.low_delay & (!self.repeat & (!self.top & is_closed(waiting))))
     }
 
-    // How long up to the removal after this picture's.
+    // How long up to the removal after this picture's. A field that lasts as long as a frame has the interval Frame.
     pub fn interval(self, facts: PictureFacts) -> RemovalInterval
         ensures { λ r. ⌜ r ≡ intervalOf self facts ⌝ }
     {

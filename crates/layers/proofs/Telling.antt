@@ -20,7 +20,8 @@ use Rattle.picture_header.specs.declared.PictureFacts.{PictureFacts}
 use Rattle.picture_header.proofs.FactLaws.{facts-are, told-parsed}
 use Rattle.layers.specs.declared.PictureKind.{PictureKind}
 use Rattle.layers.specs.declared.PictureKind.the-variants.{I, P, B}
-use Rattle.layers.specs.Layer.{sameKind, agrees, headersTell, headerFits, layerFits, factsIn, ofAnchor, ofField, offeredFacts, LayerTells}
+use Rattle.scan.specs.Codes.{codes, endsPrefix}
+use Rattle.layers.specs.Layer.{sameKind, agrees, headersTell, headerFits, layerCodes, layerFits, factsIn, ofAnchor, ofField, offeredFacts, cleared, LayerTells}
 
 -- the two tests that speak of the offer
 record Told (k : PictureKind) (i : RemovalInterval) (s : List ℕ) : Type 0 where
@@ -86,6 +87,11 @@ as-offered film k i s f =
       agreed-field i (isField (t .extension .«picture_structure»)) (t .agreed),
     )
 
+the-flags : (s : List ℕ) (h : Mpeg2PictureHeader) (x : PictureCodingExtension) → picture s ≡ value (h, x)
+    → (factsIn s .repeat ≡ x .«repeat_first_field») × (factsIn s .top ≡ x .«top_field_first»)
+unfolding factsIn
+the-flags s h x e = (rw (told-parsed s h x e, facts-are h x), rw (told-parsed s h x e, facts-are h x))
+
 module _ (k : PictureKind) (i : RemovalInterval) (s : List ℕ) (h : Mpeg2PictureHeader) (x : PictureCodingExtension) (e : picture s ≡ value (h, x)) where
   past : (a b c : Bool) → (a && (b && (false && c))) ≡ false
   past true true c = refl
@@ -96,14 +102,20 @@ module _ (k : PictureKind) (i : RemovalInterval) (s : List ℕ) (h : Mpeg2Pictur
   unfolding layerFits headerFits headersTell
   only-film r = rw (e, r, past (sameKind k (h .«picture_coding_type»)) (agrees i (isField (x .«picture_structure»))) _)
 
+  film-takes : layerFits true k i s ≡ (headersTell false k i s h (cleared x) && (layerCodes (codes s) && not (endsPrefix s)))
+  unfolding layerFits headerFits headersTell
+  film-takes = rw e
+
   alike : x .«repeat_first_field» ≡ false → layerFits true k i s ≡ layerFits false k i s
   unfolding layerFits headerFits headersTell
   alike r = rw (e, r)
 
 pub layer-tells : LayerTells
 layer-tells = record {
+  the-flags = the-flags;
   as-offered = as-offered;
   frame-or-field = λ film k i s f. agreed-interval i _ (told film k i s f .agreed);
   only-film = only-film;
+  film-takes = film-takes;
   alike = alike;
 }

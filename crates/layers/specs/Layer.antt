@@ -122,13 +122,39 @@ ofField ThreeFrames = false
 abbrev pub offeredFacts : PictureKind → RemovalInterval → List ℕ → PictureFacts
 offeredFacts k i s = record { anchor = ofAnchor k; field = ofField i; repeat = factsIn s .repeat; top = factsIn s .top }
 
+-- a coding extension without repeat_first_field
+abbrev pub cleared : PictureCodingExtension → PictureCodingExtension
+cleared x = record {
+  «f_code_fwd_horiz» = x .«f_code_fwd_horiz»;
+  «f_code_fwd_vert» = x .«f_code_fwd_vert»;
+  «f_code_bwd_horiz» = x .«f_code_bwd_horiz»;
+  «f_code_bwd_vert» = x .«f_code_bwd_vert»;
+  «intra_dc_precision» = x .«intra_dc_precision»;
+  «picture_structure» = x .«picture_structure»;
+  «top_field_first» = x .«top_field_first»;
+  «frame_pred_frame_dct» = x .«frame_pred_frame_dct»;
+  «concealment_motion_vectors» = x .«concealment_motion_vectors»;
+  «q_scale_type» = x .«q_scale_type»;
+  «intra_vlc_format» = x .«intra_vlc_format»;
+  «alternate_scan» = x .«alternate_scan»;
+  «repeat_first_field» = false;
+  «chroma_420_type» = x .«chroma_420_type»;
+  «progressive_frame» = x .«progressive_frame»;
+  «composite_display_flag» = x .«composite_display_flag»;
+}
+
 pub record LayerTells : Type 0 where
+  -- the flags are those of the layer's own coding extension
+  pub the-flags : (s : List ℕ) (h : Mpeg2PictureHeader) (x : PictureCodingExtension) → picture s ≡ value (h, x)
+      → (factsIn s .repeat ≡ x .«repeat_first_field») × (factsIn s .top ≡ x .«top_field_first»)
   -- a layer that fits tells what the offer says
   pub as-offered : (film : Bool) (k : PictureKind) (i : RemovalInterval) (s : List ℕ) → layerFits film k i s ≡ true → factsIn s ≡ offeredFacts k i s
   -- 'its offers' interval still says frame or field'
   pub frame-or-field : (film : Bool) (k : PictureKind) (i : RemovalInterval) (s : List ℕ) → layerFits film k i s ≡ true → i ≡ intervalOf (ofField i)
-  -- 'Only a film writer takes layers with repeat_first_field 1'; without it both take the same
+  -- 'Only a film writer takes layers with repeat_first_field 1'; it takes one just where all else fits, and without it both take the same
   pub only-film : (k : PictureKind) (i : RemovalInterval) (s : List ℕ) (h : Mpeg2PictureHeader) (x : PictureCodingExtension) → picture s ≡ value (h, x)
       → x .«repeat_first_field» ≡ true → layerFits false k i s ≡ false
+  pub film-takes : (k : PictureKind) (i : RemovalInterval) (s : List ℕ) (h : Mpeg2PictureHeader) (x : PictureCodingExtension) → picture s ≡ value (h, x)
+      → layerFits true k i s ≡ (headersTell false k i s h (cleared x) && (layerCodes (codes s) && not (endsPrefix s)))
   pub alike : (k : PictureKind) (i : RemovalInterval) (s : List ℕ) (h : Mpeg2PictureHeader) (x : PictureCodingExtension) → picture s ≡ value (h, x)
       → x .«repeat_first_field» ≡ false → layerFits true k i s ≡ layerFits false k i s

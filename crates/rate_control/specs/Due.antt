@@ -1,6 +1,6 @@
 -- Which answer is due to creation and to each offer (paper 01, 'A placed picture'), by conditions in ≤ and <, from creation, the calls and their answers: not from the writer's state,
 -- nor from the tests, positions, stuffing or bytes of `offer`. The fit tests, `firstDelay`, `endCode`, `patched`, `coarser`, `steered`, `pendingOr`, `of`, `index`, `frameRate`, `writerParams`, `targets`, `periods`, `cadenceBy`, `offeredFacts`, `interval`, `after` and
--- Annex C are the ones that `create` and `offer` compute with: they are to be read against the papers themselves. Assumes nothing.
+-- Annex C are the ones that `create` and `offer` compute with: they are to be read against the papers themselves; cadence/specs/Table and History hold `interval` and `after`, `SequenceOpens` (pictures/specs/Due) holds `cadenceBy`. Assumes nothing.
 use Prim.Native.Nat.{ℕ, suc, _+_, _*_, _/_, _%_, _≤_, _<_}
 use mathlib.Core.Path.{_≡_}
 use mathlib.Core.List.{List, [], _∷_, _++_}

@@ -20,8 +20,8 @@ use vbv::VbvError;
 use vbv::VbvViolation;
 use verify::VbvMode;
 
-// What a writer is created with: MPEG-2, plain or film; the sequence header's fields, the quantiser that every kind starts from, B pictures between
-// anchors and anchors in a group.
+// What a writer is created with: MPEG-2, plain or film; the sequence header's fields, the quantiser that every kind starts from,
+// B pictures between anchors and anchors in a group.
 pub struct CbrConfig {
     pub mode: VbvMode,
     pub bit_rate_value: u32,

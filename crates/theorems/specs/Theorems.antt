@@ -117,14 +117,14 @@ pub record Theorems : Type 0 where
   pub periods-told : PeriodsTold
   -- In a record the delays have 16 bits, the data bits are at most 2^48, the occupancy is at most the largest buffer and the periods are 1 to 6.
   pub records-small : RecordsSmall
-  -- Of a frame rate only the value counts (request 02): streams that show the same pictures, R, B and value get the same report, records or refusal.
+  -- Of a frame rate only the value counts (request 02): streams that show the same pictures, R, B and value, in film mode also the same progressive_sequence and low_delay, get the same report, records or refusal.
   pub value-reports : ValueReports
   -- Plain mode is as before (request 05); and where no picture has repeat_first_field film is plain.
   pub plain-mode : PlainMode
   -- ---- the writer
   -- The first headers declare a writer's parameters exactly when they show its R, its B and a frame rate of its value, by whatever code, n and d.
   pub headers-declare : HeadersDeclare
-  -- A layer that fits tells what its offer says; only a film writer takes repeat_first_field 1, and otherwise both take the same.
+  -- A layer that fits tells what its offer says; only a film writer takes repeat_first_field 1, just where all else fits, and otherwise both take the same.
   pub layer-tells : LayerTells
   -- A plain writer is as before: a picture lasts as its offer says, and no cadence is kept.
   pub plain-writer : PlainWriter

@@ -55,7 +55,8 @@ pub enum FrameRate {
     Refused(VbvError),
 }
 
-// How long up to the next removal: a field period is half a frame period. Three fields and more are for film alone.
+// How long up to the next removal, whatever the picture's structure: a field period is half a frame period. Three fields and more
+// are for film alone.
 pub enum RemovalInterval {
     Frame,
     Field,
