@@ -3,7 +3,6 @@
 use mathlib.Core.Path.{_≡_, refl}
 use mathlib.Core.Bool.{Bool, true, false, not, _&&_}
 use Rattle.bits.specs.Bits.{pick}
-use Rattle.vbv.specs.Model.{intervalOf}
 use Rattle.vbv.specs.declared.RemovalInterval.{RemovalInterval}
 use Rattle.vbv.specs.declared.RemovalInterval.the-variants.{Frame, Field}
 use Rattle.picture_header.specs.declared.PictureFacts.{PictureFacts}
@@ -13,23 +12,15 @@ use Rattle.cadence.specs.declared.VbvCadence.{VbvCadence}
 
 module _ (k : VbvCadence) (x : PictureFacts) (l : Bool) (e : l ≡ ledByAnchor (k .waiting)) where
   abbrev Long : Bool → Type 0
-  Long b = (k .film && (l && (k .repeat && (not (k .progressive) && not (k .«low_delay»))))) ≡ b
+  Long b = (l && (k .repeat && (not (k .progressive) && not (k .«low_delay»)))) ≡ b
 
-  pub field-long : x .field ≡ true → Long true → Frame ≡ interval k x
-  unfolding interval intervalOf fieldInterval pick
-  field-long f g = let h = rw e at (g) in go (k .film) refl h
-    where
-      go : (m : Bool) → k .film ≡ m → (m && (ledByAnchor (k .waiting) && (k .repeat && (not (k .progressive) && not (k .«low_delay»))))) ≡ true → Frame ≡ interval k x
-      go true m h = simp (f, m, h)
-      go false m h = cc
+  pub field-long : x .field ≡ true → k .film ≡ true → Long true → Frame ≡ interval k x
+  unfolding interval fieldInterval pick
+  field-long f m g = let h = rw e at (g) in simp (f, m, h)
 
-  pub field-short : x .field ≡ true → Long false → Field ≡ interval k x
-  unfolding interval intervalOf fieldInterval pick
-  field-short f g = let h = rw e at (g) in go (k .film) refl h
-    where
-      go : (m : Bool) → k .film ≡ m → (m && (ledByAnchor (k .waiting) && (k .repeat && (not (k .progressive) && not (k .«low_delay»))))) ≡ false → Field ≡ interval k x
-      go true m h = simp (f, m, h)
-      go false m h = simp (f, m)
+  pub field-short : x .field ≡ true → k .film ≡ true → Long false → Field ≡ interval k x
+  unfolding interval fieldInterval pick
+  field-short f m g = let h = rw e at (g) in simp (f, m, h)
 
   pub frame-anchor : (r : RemovalInterval) → x .field ≡ false → k .film ≡ true → (x .anchor && not (k .«low_delay»)) ≡ true
       → r ≡ lasting (k .progressive) (k .repeat && not l) (k .top) → r ≡ interval k x

@@ -89,19 +89,22 @@ impl VbvCadence {
     pub fn interval(self, facts: PictureFacts) -> RemovalInterval
         ensures { λ r. ⌜ r ≡ intervalOf self facts ⌝ }
     {
-        let waiting = self.waiting;
-        let led = led_by_anchor(waiting);
-        if facts.field {
-            if self.film & (led & (self.repeat & (!self.progressive & !self.low_delay))) {
-                return RemovalInterval::Frame;
-            }
-            return RemovalInterval::Field;
-        }
         if self.film {
+            let waiting = self.waiting;
+            let led = led_by_anchor(waiting);
+            if facts.field {
+                if led & (self.repeat & (!self.progressive & !self.low_delay)) {
+                    return RemovalInterval::Frame;
+                }
+                return RemovalInterval::Field;
+            }
             if facts.anchor & !self.low_delay {
                 return lasting(self.progressive, self.repeat & !led, self.top);
             }
             return lasting(self.progressive, facts.repeat, facts.top);
+        }
+        if facts.field {
+            return RemovalInterval::Field;
         }
         RemovalInterval::Frame
     }

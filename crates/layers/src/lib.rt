@@ -24,7 +24,6 @@ use picture_header::OptionFlag;
 use picture_header::PictureCodingType;
 use picture_header::PictureFacts;
 use picture_header::PictureRead;
-use picture_header::PictureTold;
 use pictures::Declared;
 use pictures::VbvStandard;
 use pictures::declared_by;
@@ -320,13 +319,22 @@ pub fn layer_fits(layer: &[u8], film: bool, kind: PictureKind, interval: Removal
 pub fn layer_facts(layer: &[u8]) -> PictureFacts
     ensures { λ r. ⌜ r ≡ factsIn (now (layer .entry)) ⌝ }
 {
-    match picture_header::told_with_extension(layer) {
-        PictureTold::Told(_, facts) => facts,
-        PictureTold::Refused(_) => PictureFacts {
+    match Mpeg2PictureHeader::parse_with_extension(layer) {
+        PictureRead::Refused(_) => PictureFacts {
             anchor: false,
             field: false,
             repeat: false,
             top: false,
         },
+        PictureRead::Parsed(header, extension) => {
+            let coded = header.picture_coding_type;
+            let structure = extension.picture_structure;
+            PictureFacts {
+                anchor: picture_header::is_anchor(coded),
+                field: picture_header::is_field(structure),
+                repeat: extension.repeat_first_field,
+                top: extension.top_field_first,
+            }
+        }
     }
 }

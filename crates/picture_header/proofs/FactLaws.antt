@@ -5,7 +5,7 @@ use mathlib.Core.List.{List}
 use mathlib.Core.Bool.{false}
 use Prim.Native.Nat.{ℕ, _<_}
 use native.Mathlib.Omega.{arith}
-use Rattle.bits.specs.Refusals.{value}
+use Rattle.bits.specs.Refusals.{value, refused}
 use Rattle.bits.proofs.Following.{then-value}
 use Rattle.picture_header.specs.PictureHeader.{pictureHeader}
 use Rattle.picture_header.specs.Picture.{picture}
@@ -37,6 +37,10 @@ pub told-parsed : (s : List ℕ) (h : Mpeg2PictureHeader) (x : PictureCodingExte
     → pictureTold s ≡ value (h .«vbv_delay», factsOf h x)
 unfolding pictureTold
 told-parsed s h x e = rw e
+
+pub told-refused : (s : List ℕ) {n k c e : ℕ} → picture s ≡ refused n k c e → pictureTold s ≡ refused n k c e
+unfolding pictureTold
+told-refused s e = rw e
 
 -- a picture that its header alone tells of is a frame
 pub header-told-frame : (s : List ℕ) (t : ℕ × PictureFacts) → headerTold s ≡ value t → t .1 .field ≡ false

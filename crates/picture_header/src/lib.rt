@@ -15,6 +15,7 @@ ghost use Rattle.picture_header.specs.Answers.{extraAnswer, pictureHeade
 
 mod picture_facts; // a picture's delay, and what its headers tell of how long it lasts
 
+pub use crate::picture_facts::is_anchor;
 pub use crate::picture_facts::is_field;
 pub use crate::picture_facts::told;
 pub use crate::picture_facts::told_with_extension;

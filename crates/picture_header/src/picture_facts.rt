@@ -20,7 +20,7 @@ use crate::usual_header;
 use crate::word;
 
 // An I or P picture.
-fn is_anchor(coding_type: PictureCodingType) -> bool
+pub fn is_anchor(coding_type: PictureCodingType) -> bool
     ensures { λ r. ⌜ r ≡ isAnchor «coding_type» ⌝ }
 {
     match coding_type {

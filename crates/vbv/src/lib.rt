@@ -383,13 +383,23 @@ impl VbvCbrModel {
     pub fn remove_picture(self, end_bits: u64, interval: RemovalInterval) -> VbvRemoval
         ensures { λ r. ⌜ removalAnswer r ≡ removePicture self «end_bits» interval ⌝ }
     {
+        let count = periods(interval) as u64;
+        self.remove_lasting(end_bits, interval, count)
+    }
+
+    // With the interval's field periods counted: the choice among five intervals stays outside, so that the compiler still joins
+    // this with its callers.
+    fn remove_lasting(self, end_bits: u64, interval: RemovalInterval, count: u64) -> VbvRemoval
+        requires { ⌜ count ≡ periodsOf interval ⌝ }
+        ensures { λ r. ⌜ removalAnswer r ≡ removePicture self «end_bits» interval ⌝ }
+    {
         if self.fits() {
             if self.started {
                 if (end_bits <= FARTHEST)
                     & (self.prev_end_bits <= end_bits)
                     & (self.removed < FARTHEST)
                 {
-                    self.remove(end_bits, interval)
+                    self.remove(end_bits, interval, count)
                 } else {
                     VbvRemoval::Refused(VbvError::Range)
                 }
@@ -402,10 +412,11 @@ impl VbvCbrModel {
     }
 
     // Overflow before underflow.
-    fn remove(self, end: u64, interval: RemovalInterval) -> VbvRemoval
+    fn remove(self, end: u64, interval: RemovalInterval, count: u64) -> VbvRemoval
         requires { ⌜ ModelFits self ⌝ }
         requires { ⌜ self .started ≡ true ⌝ }
         requires { ⌜ EndFits self end ⌝ }
+        requires { ⌜ count ≡ periodsOf interval ⌝ }
         ensures { λ r. ⌜ removalAnswer r ≡ removePicture self end interval ⌝ }
     {
         let picture = self.removed;
@@ -424,7 +435,7 @@ impl VbvCbrModel {
                 expected: 0,
             });
         }
-        let next = self.advanced(interval);
+        let next = self.advanced(interval, count);
         VbvRemoval::Model(VbvCbrModel {
             params,
             whole: next.whole,
@@ -449,14 +460,14 @@ impl VbvCbrModel {
     }
 
     // The removal after the pending one becomes the pending one.
-    fn advanced(self, interval: RemovalInterval) -> VbvCbrModel
+    fn advanced(self, interval: RemovalInterval, count: u64) -> VbvCbrModel
         requires { ⌜ ModelFits self ⌝ }
+        requires { ⌜ count ≡ periodsOf interval ⌝ }
         ensures { λ r. ⌜ r ≡ atDelivered self (nextDelivered self interval) ⌝ }
     {
         let params = self.params;
         let unit = 180000 * params.frn;
         let fields = 2 * params.frn;
-        let count = periods(interval) as u64;
         let gain = params.bit_rate * params.frd * count;
         let sum = self.rest + gain % fields * 90000;
         VbvCbrModel {
@@ -491,7 +502,8 @@ impl VbvCbrModel {
         if self.fits() {
             if self.started {
                 let params = self.params;
-                let next = self.advanced(interval);
+                let count = periods(interval) as u64;
+                let next = self.advanced(interval, count);
                 VbvBits::Bits(less(next.rounded_up(), params.buffer_size_bits))
             } else {
                 VbvBits::Refused(VbvError::Order)

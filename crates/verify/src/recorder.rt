@@ -133,8 +133,9 @@ impl VbvRecorder {
             NextSeen::Picture(seen, next) => {
                 let progress = self.progress;
                 let params = self.params;
-                let plain = VbvCadence::opened(false, false, false);
-                self.go_on(next, advance(progress, params, plain, seen))
+                let facts = seen.facts;
+                let interval = VbvCadence::opened(false, false, false).interval(facts);
+                self.go_on(next, advance(progress, params, interval, seen))
             }
         }
     }

@@ -61,8 +61,9 @@ fn walk(
         match next_seen(stream, standard, i) {
             NextSeen::Picture(seen, next) => {
                 let facts = seen.facts;
-                progress = advance(progress, params, cadence, seen);
+                let interval = cadence.interval(facts);
                 cadence = cadence.after(facts);
+                progress = advance(progress, params, interval, seen);
                 put_next(out, count, n, progress);
                 n += 1;
                 i = next;

@@ -5,7 +5,6 @@ ghost use Rattle.vbv.specs.Model.{occupancyBeforeRemoval};
 ghost use Rattle.vbv.specs.Steps.{bitsOf};
 ghost use Rattle.verify.specs.Run.{apart};
 ghost use Rattle.verify.specs.Coded.{codedOf};
-ghost use Rattle.cadence.specs.Cadence.{interval as intervalOf};
 ghost use Rattle.verify.specs.Steps.{withDelays, removedFrom, removed, progressed, firstRemoved, advanced, goneOn};
 use crate::BeforeRemoval;
 use crate::CodedPicture;
@@ -13,8 +12,8 @@ use crate::Progress;
 use crate::Removed;
 use crate::VbvPictureRecord;
 use crate::VbvVerifyError;
-use cadence::VbvCadence;
 use pictures::SeenPicture;
+use vbv::RemovalInterval;
 use vbv::VbvBits;
 use vbv::VbvCbrModel;
 use vbv::VbvDelay;
@@ -193,16 +192,15 @@ fn before_removal(progress: Progress, params: VbvParams, coded: CodedPicture) ->
     }
 }
 
-// A picture as the model sees it: it lasts as the cadence before it says.
-fn coded_picture(cadence: VbvCadence, seen: SeenPicture) -> CodedPicture
-    ensures { λ r. ⌜ r ≡ codedOf (intervalOf cadence (seen .facts)) seen ⌝ }
+// A picture as the model sees it: it lasts so long.
+fn coded_picture(interval: RemovalInterval, seen: SeenPicture) -> CodedPicture
+    ensures { λ r. ⌜ r ≡ codedOf interval seen ⌝ }
 {
-    let facts = seen.facts;
     CodedPicture {
         pos_bits: seen.pos_bits,
         end_bits: seen.end_bits,
         vbv_delay: seen.vbv_delay,
-        interval: cadence.interval(facts),
+        interval,
     }
 }
 
@@ -210,12 +208,12 @@ fn coded_picture(cadence: VbvCadence, seen: SeenPicture) -> CodedPicture
 pub(crate) fn advance(
     progress: Progress,
     params: VbvParams,
-    cadence: VbvCadence,
+    interval: RemovalInterval,
     seen: SeenPicture,
 ) -> Progress
-    ensures { λ r. ⌜ r ≡ advanced params progress (codedOf (intervalOf cadence (seen .facts)) seen) ⌝ }
+    ensures { λ r. ⌜ r ≡ advanced params progress (codedOf interval seen) ⌝ }
 {
-    let coded = coded_picture(cadence, seen);
+    let coded = coded_picture(interval, seen);
     match before_removal(progress, params, coded) {
         BeforeRemoval::Model(model, least, greatest) => go_on(
             remove(model, coded),

@@ -31,6 +31,10 @@ returns-5 : tie.Need-returns-5
 unfolding interval intervalOf pick
 returns-5 c = search needs
 
+returns-6 : tie.Need-returns-6
+unfolding interval intervalOf pick
+returns-6 c = search needs
+
 pub interval-spec : {M : Type 1} → statement M
 interval-spec =
     tie.close
@@ -42,4 +46,5 @@ interval-spec =
     returns-3
     lasting-requires-2
     returns-4
-    returns-5)
+    returns-5
+    returns-6)

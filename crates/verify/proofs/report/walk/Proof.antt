@@ -28,23 +28,26 @@ next-seen-requires c κs = search needs
 enum-known-seen : tie.Need-enum-known-seen Inv-loop μ-loop
 enum-known-seen c = search needs
 
-advance-requires : tie.Need-advance-requires Inv-loop μ-loop
-advance-requires c κs = search needs
+interval-requires : tie.Need-interval-requires Inv-loop μ-loop
+interval-requires c κs = search needs
 
 after-requires : tie.Need-after-requires Inv-loop μ-loop
 after-requires c κs = search needs
+
+advance-requires : tie.Need-advance-requires Inv-loop μ-loop
+advance-requires c κs = search needs
 
 put-next-requires : tie.Need-put-next-requires Inv-loop μ-loop
 put-next-requires c κs = search needs
 
 add-n : tie.Need-add-n Inv-loop μ-loop
-add-n c = let q = seen-one _ _ (omega arith) _ (next-case (c .before .before .before .before .before .before .before .before .seen .given .1) (c .before .before .before .before .before .before .before .before .before .before .next-seen .ensures)) in omega (arith, q .0, q .1, c .before .before .before .before .before .before .before .before .before .before .before .loop .inv .0 .few)
+add-n c = let q = seen-one _ _ (omega arith) _ (next-case (c .before .before .before .before .before .before .before .before .before .seen .given .1) (c .before .before .before .before .before .before .before .before .before .before .before .next-seen .ensures)) in omega (arith, q .0, q .1, c .before .before .before .before .before .before .before .before .before .before .before .before .loop .inv .0 .few)
 
 loop-less : tie.Need-loop-less Inv-loop μ-loop
-loop-less c = let q = seen-one _ _ (omega arith) _ (next-case (c .before .before .before .before .before .before .before .before .seen .given .1) (c .before .before .before .before .before .before .before .before .before .before .next-seen .ensures)) in omega (arith, q .0, q .1)
+loop-less c = let q = seen-one _ _ (omega arith) _ (next-case (c .before .before .before .before .before .before .before .before .before .seen .given .1) (c .before .before .before .before .before .before .before .before .before .before .before .next-seen .ensures)) in omega (arith, q .0, q .1)
 
 loop-again : tie.Need-loop-again Inv-loop μ-loop
-loop-again c = (walking-more (omega arith) (c .before .before .before .before .before .before .before .before .before .before .before .loop .inv .0) (next-case (c .before .before .before .before .before .before .before .before .seen .given .1) (c .before .before .before .before .before .before .before .before .before .before .next-seen .ensures)) (c .before .before .before .before .before .advance .ensures) (c .before .before .before .before .after .ensures), stored-more (c .before .before .before .before .before .before .before .before .before .before .before .loop .inv .1) (next-case (c .before .before .before .before .before .before .before .before .seen .given .1) (c .before .before .before .before .before .before .before .before .before .before .next-seen .ensures)) (c .before .before .before .before .before .advance .ensures) (c .before .before .before .before .after .ensures) (c .before .before .put-next .ensures))
+loop-again c = (walking-more (omega arith) (c .before .before .before .before .before .before .before .before .before .before .before .before .loop .inv .0) (next-case (c .before .before .before .before .before .before .before .before .before .seen .given .1) (c .before .before .before .before .before .before .before .before .before .before .before .next-seen .ensures)) (rw (c .before .before .before .before .before .before .interval .ensures) at (c .before .before .before .before .advance .ensures)) (c .before .before .before .before .before .after .ensures), stored-more (c .before .before .before .before .before .before .before .before .before .before .before .before .loop .inv .1) (next-case (c .before .before .before .before .before .before .before .before .before .seen .given .1) (c .before .before .before .before .before .before .before .before .before .before .before .next-seen .ensures)) (rw (c .before .before .before .before .before .before .interval .ensures) at (c .before .before .before .before .advance .ensures)) (c .before .before .before .before .before .after .ensures) (c .before .before .put-next .ensures))
 
 enum-told : tie.Need-enum-told Inv-loop μ-loop
 enum-told c = search needs
@@ -79,8 +82,9 @@ walk-spec =
     loop-holds
     next-seen-requires
     enum-known-seen
-    advance-requires
+    interval-requires
     after-requires
+    advance-requires
     put-next-requires
     add-n
     loop-less

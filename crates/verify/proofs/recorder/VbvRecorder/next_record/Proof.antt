@@ -26,6 +26,9 @@ enum-known-seen c = search needs
 opened-requires : tie.Need-opened-requires
 opened-requires c κs = search needs
 
+interval-requires : tie.Need-interval-requires
+interval-requires c κs = search needs
+
 advance-requires : tie.Need-advance-requires
 advance-requires c κs = search needs
 
@@ -39,7 +42,7 @@ returns-2 : tie.Need-returns-2
 returns-2 c = c .stay2 .ensures ∙ record-refused _ _ (sym (next-case (c .before .enum-told2 .given .1) (c .before .before .before .next-seen .ensures)))
 
 returns-3 : tie.Need-returns-3
-returns-3 c = c .go-on .ensures ∙ rw (c .before .advance .ensures, c .before .before .opened .ensures) (record-one _ _ _ _ (sym (next-case (c .before .before .before .before .before .seen .given .1) (c .before .before .before .before .before .before .before .next-seen .ensures))))
+returns-3 c = c .go-on .ensures ∙ rw (c .before .advance .ensures, c .before .before .interval .ensures, c .before .before .before .opened .ensures) (record-one _ _ _ _ (sym (next-case (c .before .before .before .before .before .before .before .seen .given .1) (c .before .before .before .before .before .before .before .before .before .next-seen .ensures))))
 
 pub next-record-spec : {M : Type 1} → statement M
 next-record-spec =
@@ -52,6 +55,7 @@ next-record-spec =
     stay-requires-2
     enum-known-seen
     opened-requires
+    interval-requires
     advance-requires
     go-on-requires
     returns
