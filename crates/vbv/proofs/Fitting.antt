@@ -1,12 +1,12 @@
 -- What the tests of parameters and of a state say: bounds, and back.
 -- Assumes nothing.
 use mathlib.Core.Path.{_≡_, refl}
-use mathlib.Core.Bool.{true, false, _&&_}
-use Prim.Native.Nat.{ℕ, _*_, _/_, _≤_, _<_}
+use mathlib.Core.Bool.{Bool, true, false, _&&_, and-assoc}
+use Prim.Native.Nat.{ℕ, _*_, _/_, _≤_, _<_, max}
 use native.Mathlib.Omega.{arith}
 use lib.Arith.{digits-div}
 use lib.Dec.{leb, ltb}
-use borrow.Author.Tests.{leb-true, ltb-true, le-leb, lt-ltb}
+use borrow.Author.Tests.{leb-true, leb-false, ltb-true, le-leb, lt-leb, lt-ltb}
 use Rattle.bits.proofs.Flags.{and-left, and-right}
 use Rattle.vbv.specs.declared.RemovalInterval.{RemovalInterval}
 use Rattle.vbv.specs.declared.RemovalInterval.the-variants.{Frame, Field, ThreeFields, TwoFrames, ThreeFrames}
@@ -65,12 +65,21 @@ end-fits h =
       count = ltb-true _ _ (search (and-left, and-right));
     }
 
+-- two numbers below one bound
+both-below : (a b n : ℕ) → leb (max a b) n ≡ (leb a n && leb b n)
+both-below a b n = go (leb a n) refl (leb b n) refl
+  where
+    go : (p : Bool) → leb a n ≡ p → (q : Bool) → leb b n ≡ q → leb (max a b) n ≡ (p && q)
+    go true e true f = le-leb (max a b) n (omega (arith, leb-true a n e, leb-true b n f))
+    go true e false f = lt-leb (max a b) n (omega (arith, leb-false b n f))
+    go false e q f = lt-leb (max a b) n (omega (arith, leb-false a n e))
+
 -- the test of a state by that of its parameters
 pub by-params : (m : VbvCbrModel) → paramsFit (m .params) ≡ true
-    → (leb (m .whole) mostDelivered && ltb (m .rest) (180000 * m .params .frn) && leb (m .«prev_end_bits») farthest && leb (m .removed) farthest)
+    → (leb (m .whole) mostDelivered && ltb (m .rest) (180000 * m .params .frn) && leb (max (m .«prev_end_bits») (m .removed)) farthest)
     ≡ modelFits m
 unfolding modelFits unit
-by-params m h = rw h
+by-params m h = rw (h, both-below (m .«prev_end_bits») (m .removed) farthest) (simp and-assoc)
 
 pub no-params : (m : VbvCbrModel) → paramsFit (m .params) ≡ false → false ≡ modelFits m
 unfolding modelFits

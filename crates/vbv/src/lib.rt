@@ -1,7 +1,7 @@
 // The exact constant-rate buffer model of Annex C, in 64 bits, and the delay in a picture header.
 ghost use mathlib.Core.Path.{_≡_};
 ghost use mathlib.Core.Bool.{true};
-ghost use Prim.Native.Nat.{_+_, _-_, _/_, _^_, _≤_, _<_};
+ghost use Prim.Native.Nat.{_+_, _-_, _/_, _^_, _≤_, _<_, max};
 ghost use Rattle.vbv.specs.Annex.{unit, firstDelivered};
 ghost use Rattle.vbv.specs.Answers.{modelNumber, modelAnswer, removalAnswer, delayAnswer, modelBitsAnswer, patchAnswer, rateAnswer, codeRate, frameRate, violationRefusal};
 ghost use Rattle.vbv.specs.Steps.{ModelFits, EndFits};
@@ -274,8 +274,7 @@ impl VbvCbrModel {
         if params.fit() {
             (self.whole <= MOST_DELIVERED)
                 & (self.rest < 180000 * params.frn)
-                & (self.prev_end_bits <= FARTHEST)
-                & (self.removed <= FARTHEST)
+                & (greater(self.prev_end_bits, self.removed) <= FARTHEST)
         } else {
             false
         }
@@ -383,23 +382,13 @@ impl VbvCbrModel {
     pub fn remove_picture(self, end_bits: u64, interval: RemovalInterval) -> VbvRemoval
         ensures { λ r. ⌜ removalAnswer r ≡ removePicture self «end_bits» interval ⌝ }
     {
-        let count = periods(interval) as u64;
-        self.remove_lasting(end_bits, interval, count)
-    }
-
-    // With the interval's field periods counted: the choice among five intervals stays outside, so that the compiler still joins
-    // this with its callers.
-    fn remove_lasting(self, end_bits: u64, interval: RemovalInterval, count: u64) -> VbvRemoval
-        requires { ⌜ count ≡ periodsOf interval ⌝ }
-        ensures { λ r. ⌜ removalAnswer r ≡ removePicture self «end_bits» interval ⌝ }
-    {
         if self.fits() {
             if self.started {
                 if (end_bits <= FARTHEST)
                     & (self.prev_end_bits <= end_bits)
                     & (self.removed < FARTHEST)
                 {
-                    self.remove(end_bits, interval, count)
+                    self.remove(end_bits, interval)
                 } else {
                     VbvRemoval::Refused(VbvError::Range)
                 }
@@ -412,11 +401,10 @@ impl VbvCbrModel {
     }
 
     // Overflow before underflow.
-    fn remove(self, end: u64, interval: RemovalInterval, count: u64) -> VbvRemoval
+    fn remove(self, end: u64, interval: RemovalInterval) -> VbvRemoval
         requires { ⌜ ModelFits self ⌝ }
         requires { ⌜ self .started ≡ true ⌝ }
         requires { ⌜ EndFits self end ⌝ }
-        requires { ⌜ count ≡ periodsOf interval ⌝ }
         ensures { λ r. ⌜ removalAnswer r ≡ removePicture self end interval ⌝ }
     {
         let picture = self.removed;
@@ -435,7 +423,7 @@ impl VbvCbrModel {
                 expected: 0,
             });
         }
-        let next = self.advanced(interval, count);
+        let next = self.advanced(interval);
         VbvRemoval::Model(VbvCbrModel {
             params,
             whole: next.whole,
@@ -460,14 +448,14 @@ impl VbvCbrModel {
     }
 
     // The removal after the pending one becomes the pending one.
-    fn advanced(self, interval: RemovalInterval, count: u64) -> VbvCbrModel
+    fn advanced(self, interval: RemovalInterval) -> VbvCbrModel
         requires { ⌜ ModelFits self ⌝ }
-        requires { ⌜ count ≡ periodsOf interval ⌝ }
         ensures { λ r. ⌜ r ≡ atDelivered self (nextDelivered self interval) ⌝ }
     {
         let params = self.params;
         let unit = 180000 * params.frn;
         let fields = 2 * params.frn;
+        let count = periods(interval) as u64;
         let gain = params.bit_rate * params.frd * count;
         let sum = self.rest + gain % fields * 90000;
         VbvCbrModel {
@@ -502,8 +490,7 @@ impl VbvCbrModel {
         if self.fits() {
             if self.started {
                 let params = self.params;
-                let count = periods(interval) as u64;
-                let next = self.advanced(interval, count);
+                let next = self.advanced(interval);
                 VbvBits::Bits(less(next.rounded_up(), params.buffer_size_bits))
             } else {
                 VbvBits::Refused(VbvError::Order)
@@ -540,6 +527,13 @@ pub fn periods(interval: RemovalInterval) -> u8
         RemovalInterval::TwoFrames => 4,
         RemovalInterval::ThreeFrames => 6,
     }
+}
+
+// The greater of both: where both have one bound, a test less.
+fn greater(a: u64, b: u64) -> u64
+    ensures { λ r. ⌜ r ≡ max a b ⌝ }
+{
+    if a < b { b } else { a }
 }
 
 // The difference, or 0.

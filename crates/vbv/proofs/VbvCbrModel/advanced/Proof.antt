@@ -12,11 +12,17 @@ mul-unit c = search needs
 mul-fields : tie.Need-mul-fields
 mul-fields c = search needs
 
+periods-requires : tie.Need-periods-requires
+periods-requires c κs = search needs
+
+cast-count : tie.Need-cast-count
+cast-count c = search needs
+
 mul-gain : tie.Need-mul-gain
 mul-gain c = record { fits = rate-fit _ _ (omega arith) (omega arith) }
 
 mul-gain-2 : tie.Need-mul-gain-2
-mul-gain-2 c = record { fits = gain-fit _ _ _ (omega arith) (omega arith) (omega (arith, periods-most (c .before .before .before .before .args .interval))) }
+mul-gain-2 c = record { fits = gain-fit _ _ _ (omega arith) (omega arith) (omega (arith, periods-most (c .before .before .before .before .before .args .interval))) }
 
 rem-sum : tie.Need-rem-sum
 rem-sum c = search needs
@@ -27,20 +33,20 @@ mul-sum c = record { fits = left-fit _ _ (omega arith) (omega arith) }
 add-sum : tie.Need-add-sum
 add-sum c = record { fits = sum-fit _ _ _ (omega arith) (omega arith) (omega arith) }
 
-div-t9 : tie.Need-div-t9
-div-t9 c = search needs
+div-t10 : tie.Need-div-t10
+div-t10 c = search needs
 
-add-t10 : tie.Need-add-t10
-add-t10 c = record { fits = whole-fit _ _ _ _ _ (omega arith) (omega arith) (omega arith) (omega (arith, periods-most (c .before .before .before .before .before .before .args .interval))) }
+add-t11 : tie.Need-add-t11
+add-t11 c = record { fits = whole-fit _ _ _ _ _ (omega arith) (omega arith) (omega arith) (omega (arith, periods-most (c .before .before .before .before .before .before .before .args .interval))) }
 
-div-t11 : tie.Need-div-t11
-div-t11 c = search needs
+div-t12 : tie.Need-div-t12
+div-t12 c = search needs
 
-add-t12 : tie.Need-add-t12
-add-t12 c = record { fits = next-fit _ _ _ _ _ _ (omega arith) (omega arith) (omega arith) (omega arith) (omega arith) (omega arith) (omega (arith, periods-most (c .before .before .before .before .before .before .args .interval))) }
+add-t13 : tie.Need-add-t13
+add-t13 c = record { fits = next-fit _ _ _ _ _ _ (omega arith) (omega arith) (omega arith) (omega arith) (omega arith) (omega arith) (omega (arith, periods-most (c .before .before .before .before .before .before .before .args .interval))) }
 
-rem-t13 : tie.Need-rem-t13
-rem-t13 c = search needs
+rem-t14 : tie.Need-rem-t14
+rem-t14 c = search needs
 
 returns : tie.Need-returns
 returns c = advanced-is _ _ _ (search) (omega arith)
@@ -51,14 +57,16 @@ advanced-spec =
     (tie.spec
     mul-unit
     mul-fields
+    periods-requires
+    cast-count
     mul-gain
     mul-gain-2
     rem-sum
     mul-sum
     add-sum
-    div-t9
-    add-t10
-    div-t11
-    add-t12
-    rem-t13
+    div-t10
+    add-t11
+    div-t12
+    add-t13
+    rem-t14
     returns)

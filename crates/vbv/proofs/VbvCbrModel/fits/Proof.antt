@@ -12,11 +12,14 @@ fit-requires c κs = search needs
 mul-result : tie.Need-mul-result
 mul-result c = let p = params-fit (sym (c .before .before .before .fit .ensures) ∙ c .before .before .if1 .taken) in omega arith
 
+greater-requires : tie.Need-greater-requires
+greater-requires c κs = search needs
+
 returns : tie.Need-returns
-returns c = by-params _ (search told-by)
+returns c = rw (c .greater .ensures) (by-params _ (search told-by))
 
 returns-2 : tie.Need-returns-2
 returns-2 c = no-params _ (search told-by)
 
 pub fits-spec : {M : Type 1} → statement M
-fits-spec = tie.close (tie.spec fit-requires mul-result returns returns-2)
+fits-spec = tie.close (tie.spec fit-requires mul-result greater-requires returns returns-2)

@@ -10,14 +10,8 @@ use Rattle.vbv.proofs.VbvCbrModel.min_end_bits.Tie as tie
 fits-requires : tie.Need-fits-requires
 fits-requires c κs = search needs
 
-periods-requires : tie.Need-periods-requires
-periods-requires c κs = search needs
-
-cast-count : tie.Need-cast-count
-cast-count c = search needs
-
 advanced-requires : tie.Need-advanced-requires
-advanced-requires c κs = (model-fits (search told-by), search needs)
+advanced-requires c κs = model-fits (search told-by)
 
 rounded-up-requires : tie.Need-rounded-up-requires
 rounded-up-requires c κs = next-fits _ _ (model-fits (search told-by)) _ (c .advanced .ensures)
@@ -42,8 +36,6 @@ min-end-bits-spec =
     tie.close
     (tie.spec
     fits-requires
-    periods-requires
-    cast-count
     advanced-requires
     rounded-up-requires
     less-requires

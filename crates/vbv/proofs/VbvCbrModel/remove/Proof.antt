@@ -21,8 +21,8 @@ returns-2 c = remove-under _ (search) (search) _ (search) _ _ (c .before .before
 advanced-requires : tie.Need-advanced-requires
 advanced-requires c κs = search needs
 
-add-t8 : tie.Need-add-t8
-add-t8 c = search needs
+add-t7 : tie.Need-add-t7
+add-t7 c = search needs
 
 returns-3 : tie.Need-returns-3
 returns-3 c = remove-is _ (search) (search) _ (search) _ _ (c .before .before .before .before .rounded-up .ensures) (omega arith) (omega arith) _ (c .advanced .ensures)
@@ -30,4 +30,4 @@ returns-3 c = remove-is _ (search) (search) _ (search) _ _ (c .before .before .b
 pub remove-spec : {M : Type 1} → statement M
 remove-spec =
     tie.close
-    (tie.spec add-if1 rounded-up-requires returns returns-2 advanced-requires add-t8 returns-3)
+    (tie.spec add-if1 rounded-up-requires returns returns-2 advanced-requires add-t7 returns-3)

@@ -1,18 +1,33 @@
+use Rattle.vbv.specs.Model.{modelFits, endFits, removePicture}
+use mathlib.Core.Path.{refl}
+use Rattle.vbv.proofs.Fitting.{model-fits, end-fits}
+use Rattle.bits.proofs.Flags.{failed, told-by}
+use Rattle.vbv.proofs.Ways.{remove-order, remove-range}
 use borrow.Author.Needs.{needs}
 use Rattle.vbv.proofs.VbvCbrModel.remove_picture.Statement.{statement}
 use Rattle.vbv.proofs.VbvCbrModel.remove_picture.Tie as tie
 
-periods-requires : tie.Need-periods-requires
-periods-requires c κs = search needs
+fits-requires : tie.Need-fits-requires
+fits-requires c κs = search needs
 
-cast-count : tie.Need-cast-count
-cast-count c = search needs
-
-remove-lasting-requires : tie.Need-remove-lasting-requires
-remove-lasting-requires c κs = search needs
+remove-requires : tie.Need-remove-requires
+unfolding endFits
+remove-requires c κs = (model-fits (search told-by), (search, end-fits (search)))
 
 returns : tie.Need-returns
 returns c = search needs
 
+returns-2 : tie.Need-returns-2
+unfolding endFits
+returns-2 c = remove-range _ (search told-by) (search) _ _ (search)
+
+returns-3 : tie.Need-returns-3
+returns-3 c = remove-order _ (search told-by) _ _ (search)
+
+returns-4 : tie.Need-returns-4
+unfolding removePicture
+returns-4 c = failed (modelFits _) _ _ (search told-by) refl
+
 pub remove-picture-spec : {M : Type 1} → statement M
-remove-picture-spec = tie.close (tie.spec periods-requires cast-count remove-lasting-requires returns)
+remove-picture-spec =
+    tie.close (tie.spec fits-requires remove-requires returns returns-2 returns-3 returns-4)
