@@ -133,11 +133,13 @@ fn past_quiet(s: &[u8], from: usize, end: usize, n: usize) -> usize
     block
 }
 
-// NEAR bytes on from `from`, or `end` where there are fewer.
+// NEAR bytes on from `from`, or `end` where there are fewer. Asked of what is left, so that only a search that comes here works
+// it out: most end in their first 16 bytes.
 fn near_end(from: usize, end: usize) -> usize
+    requires { ⌜ from ≤ end ⌝ }
     ensures { λ r. ⌜ r ≤ end ⌝ }
 {
-    if from < places(end, NEAR) {
+    if NEAR <= end - from {
         return from + NEAR;
     }
     end

@@ -111,7 +111,7 @@ advanced p (Stopped e) c = Stopped e
 
 -- what a removal makes of what stands before it
 unfoldable pub goneOn : CodedPicture → BeforeRemoval → Progress
-goneOn c (br.Model m least greatest) = progressed least greatest (removed m c)
+goneOn c (br.Model least greatest m) = progressed least greatest (removed m c)
 goneOn c (br.Stays st) = st
 
 -- over all pictures

@@ -103,10 +103,10 @@ enum Progress {
     Stopped(VbvVerifyError),
 }
 
-// Before a removal: the model, the least occupancy after one so far and the greatest before; or the progress that no removal
-// changes.
+// Before a removal: the least occupancy after one so far, the greatest before, and the model; or the progress that no removal
+// changes. The model comes last: an error lies over the first bytes, and numbers there would be taken apart for each picture.
 enum BeforeRemoval {
-    Model(VbvCbrModel, u64, u64),
+    Model(u64, u64, VbvCbrModel),
     Stays(Progress),
 }
 

@@ -170,7 +170,7 @@ fn begin(params: VbvParams, coded: CodedPicture) -> BeforeRemoval
             VbvModel::Refused(error) => {
                 BeforeRemoval::Stays(Progress::Unmodelled(VbvVerifyError::Model(error)))
             }
-            VbvModel::Model(started) => BeforeRemoval::Model(started, params.buffer_size_bits, 0),
+            VbvModel::Model(started) => BeforeRemoval::Model(params.buffer_size_bits, 0, started),
         },
     }
 }
@@ -187,7 +187,7 @@ fn before_removal(progress: Progress, params: VbvParams, coded: CodedPicture) ->
             last: _,
             least,
             greatest,
-        } => BeforeRemoval::Model(model, least, greatest),
+        } => BeforeRemoval::Model(least, greatest, model),
         Progress::Stopped(error) => BeforeRemoval::Stays(Progress::Stopped(error)),
     }
 }
@@ -215,7 +215,7 @@ pub(crate) fn advance(
 {
     let coded = coded_picture(interval, seen);
     match before_removal(progress, params, coded) {
-        BeforeRemoval::Model(model, least, greatest) => go_on(
+        BeforeRemoval::Model(least, greatest, model) => go_on(
             remove(model, coded),
             least,
             greatest,

@@ -9,8 +9,8 @@ coded-picture-requires c κs = search needs
 before-removal-requires : tie.Need-before-removal-requires
 before-removal-requires c κs = search needs
 
-enum-known-model : tie.Need-enum-known-model
-enum-known-model c = search needs
+enum-known-least : tie.Need-enum-known-least
+enum-known-least c = search needs
 
 remove-requires : tie.Need-remove-requires
 remove-requires c κs = search needs
@@ -23,7 +23,7 @@ enum-known-stays c = search needs
 
 returns : tie.Need-returns
 unfolding goneOn
-returns c = rw (← c .before .before .before .before .before .before .coded-picture .ensures, ← c .before .before .before .before .before .before-removal .ensures, c .before .before .before .model .given .1, ← c .before .remove .ensures) (c .go-on .ensures)
+returns c = rw (← c .before .before .before .before .before .before .coded-picture .ensures, ← c .before .before .before .before .before .before-removal .ensures, c .before .before .before .least .given .1, ← c .before .remove .ensures) (c .go-on .ensures)
 
 returns-2 : tie.Need-returns-2
 unfolding goneOn
@@ -35,7 +35,7 @@ advance-spec =
     (tie.spec
     coded-picture-requires
     before-removal-requires
-    enum-known-model
+    enum-known-least
     remove-requires
     go-on-requires
     enum-known-stays
