@@ -18,7 +18,7 @@ use Rattle.scan.specs.declared.Found.the-variants.{At, Nothing}
 use Rattle.cadence.specs.Cadence.{opened, cadenceFits}
 use Rattle.cadence.specs.declared.VbvCadence.{VbvCadence}
 use Rattle.cadence.proofs.Keeping.{opened-film, opened-plain, opened-fits}
-use Rattle.pictures.specs.Cadence.{cadenceBy, cadenceAt, cadenceOf}
+use Rattle.pictures.specs.Cadence.{cadenceBy, openedAt, cadenceOf}
 use Rattle.pictures.specs.Sequence.{declaredBy}
 use Rattle.pictures.specs.Due.{SequenceOpens}
 use Rattle.pictures.specs.declared.VbvStandard.the-variants.{Mpeg2}
@@ -36,10 +36,10 @@ plain-by s = case (sequence s)
     case (refused n k c e) = refl
 
 pub plain-of : (s : List ℕ) → cadenceOf false s ≡ opened false false false
-unfolding cadenceOf cadenceAt
+unfolding cadenceOf openedAt
 plain-of s = case (found (skip notSequence (codes s)))
   where
-    case : (f : Found) → cadenceAt false s f ≡ opened false false false
+    case : (f : Found) → openedAt false s f ≡ opened false false false
     case (At o c) = plain-by _
     case Nothing = refl
 
@@ -47,7 +47,7 @@ plain-of s = case (found (skip notSequence (codes s)))
 
 -- a stream that begins with its sequence header opens the cadence that this one does
 pub cadence-first : (film : Bool) (s : List ℕ) (cs : List Code) → codes s ≡ record { offset = 0; code = sequenceHeaderCode } ∷ cs → cadenceOf film s ≡ cadenceBy film s
-unfolding cadenceOf cadenceAt
+unfolding cadenceOf openedAt
 cadence-first film s cs c = rw (first-sequence s cs c)
 
 -- what stands after headers that declare something does not matter
@@ -78,14 +78,14 @@ by-fits film s = case (sequence s)
 
 -- of a stream
 stream-opens : (film : Bool) (s : List ℕ) (at code : ℕ) → found (skip notSequence (codes s)) ≡ At at code → cadenceOf film s ≡ cadenceBy film (drop at s)
-unfolding cadenceOf cadenceAt
+unfolding cadenceOf openedAt
 stream-opens film s o c e = rw e
 
 pub of-film : (film : Bool) (s : List ℕ) → cadenceOf film s .film ≡ film
-unfolding cadenceOf cadenceAt
+unfolding cadenceOf openedAt
 of-film film s = case (found (skip notSequence (codes s)))
   where
-    case : (f : Found) → cadenceAt film s f .film ≡ film
+    case : (f : Found) → openedAt film s f .film ≡ film
     case (At o c) = by-film film (drop o s)
     case Nothing = opened-film film false false
 
@@ -102,10 +102,10 @@ by-first s = case (sequence s)
     case (refused n k c e) = refl
 
 pub first-cadence : (s : List ℕ) → cadenceOf true s ≡ opened true (cadenceOf true s .progressive) (cadenceOf true s .«low_delay»)
-unfolding cadenceOf cadenceAt opened
+unfolding cadenceOf openedAt opened
 first-cadence s = case (found (skip notSequence (codes s)))
   where
-    case : (f : Found) → cadenceAt true s f ≡ opened true (cadenceAt true s f .progressive) (cadenceAt true s f .«low_delay»)
+    case : (f : Found) → openedAt true s f ≡ opened true (openedAt true s f .progressive) (openedAt true s f .«low_delay»)
     case (At o c) = by-first (drop o s)
     case Nothing = refl
 
@@ -120,10 +120,10 @@ by-unflagged film s = case (sequence s)
     case (refused n k c e) = refl
 
 pub unflagged : (film : Bool) (s : List ℕ) → cadenceOf film s .repeat ≡ false
-unfolding cadenceOf cadenceAt opened
+unfolding cadenceOf openedAt opened
 unflagged film s = case (found (skip notSequence (codes s)))
   where
-    case : (f : Found) → cadenceAt film s f .repeat ≡ false
+    case : (f : Found) → openedAt film s f .repeat ≡ false
     case (At o c) = by-unflagged film (drop o s)
     case Nothing = refl
 

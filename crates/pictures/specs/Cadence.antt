@@ -19,10 +19,10 @@ cadenceBy film s =
     orElse (opened film false false)
     (andThen (sequence s) (λ q. value (opened film (q .extension .«progressive_sequence») (q .extension .«low_delay»))))
 
-unfoldable pub cadenceAt : Bool → List ℕ → Found → VbvCadence
-cadenceAt film s (At o c) = cadenceBy film (drop o s)
-cadenceAt film s Nothing = opened film false false
+unfoldable pub openedAt : Bool → List ℕ → Found → VbvCadence
+openedAt film s (At o c) = cadenceBy film (drop o s)
+openedAt film s Nothing = opened film false false
 
 -- by the first B3 of a stream, for all its pictures, those before it too
 unfoldable pub cadenceOf : Bool → List ℕ → VbvCadence
-cadenceOf film s = cadenceAt film s (found (skip notSequence (codes s)))
+cadenceOf film s = openedAt film s (found (skip notSequence (codes s)))

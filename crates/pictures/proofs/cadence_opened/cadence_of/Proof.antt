@@ -2,7 +2,7 @@ use Rattle.bits.proofs.Reading.{rest-is}
 use mathlib.Core.Path.{sym, _∙_}
 use native.Mathlib.Omega.{arith}
 use Rattle.scan.proofs.Pictures.{first-inside}
-use Rattle.pictures.specs.Cadence.{cadenceAt, cadenceOf}
+use Rattle.pictures.specs.Cadence.{openedAt, cadenceOf}
 use Rattle.pictures.proofs.Cadences.{plain-of}
 use borrow.Author.Needs.{needs}
 use Rattle.pictures.proofs.cadence_opened.cadence_of.Statement.{statement}
@@ -33,11 +33,11 @@ opened-requires : tie.Need-opened-requires
 opened-requires c κs = search needs
 
 returns : tie.Need-returns
-unfolding cadenceOf cadenceAt
+unfolding cadenceOf openedAt
 returns c = rw (c .before .before .before .before .before .before .if1 .taken, ← c .before .before .before .before .before .first-sequence .ensures, c .before .before .before .offset .given .1, ← rest-is _ _) (c .cadence-by .ensures)
 
 returns-2 : tie.Need-returns-2
-unfolding cadenceOf cadenceAt
+unfolding cadenceOf openedAt
 returns-2 c = rw (c .before .before .before .before .if1 .taken, ← c .before .before .before .first-sequence .ensures, c .before .enum-told .given .1) (c .opened .ensures)
 
 opened-requires-2 : tie.Need-opened-requires-2
