@@ -21,6 +21,24 @@ pub opened-plain : (progressive low : Bool) → opened false progressive low ≡
 unfolding opened
 opened-plain progressive low = refl
 
+-- of a sequence in film both flags, and no picture's
+pub opened-is : (progressive low : Bool)
+    → opened true progressive low ≡ record { film = true; progressive = progressive; «low_delay» = low; repeat = false; top = false; waiting = Closed }
+unfolding opened
+opened-is progressive low = refl
+
+pub opened-none : opened false false false ≡ record { film = false; progressive = false; «low_delay» = false; repeat = false; top = false; waiting = Closed }
+unfolding opened
+opened-none = refl
+
+pub opened-itself : (progressive low : Bool) → opened true progressive low ≡ opened true (opened true progressive low .progressive) (opened true progressive low .«low_delay»)
+unfolding opened
+opened-itself progressive low = refl
+
+pub opened-unflagged : (film progressive low : Bool) → opened film progressive low .repeat ≡ false
+unfolding opened
+opened-unflagged film progressive low = refl
+
 pub opened-fits : (film progressive low : Bool) → cadenceFits (opened film progressive low) ≡ true
 unfolding cadenceFits opened isClosed pick
 opened-fits true progressive low = refl

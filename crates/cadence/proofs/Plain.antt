@@ -1,11 +1,12 @@
 -- Outside film, and where no picture has the flag.
 -- Assumes nothing.
-use mathlib.Core.Path.{_≡_, refl}
+use mathlib.Core.Path.{_≡_, refl, sym}
 use mathlib.Core.Bool.{Bool, true, false, and-false}
 use Rattle.bits.specs.Bits.{pick}
 use Rattle.bits.proofs.Flags.{pick-elim}
 use Rattle.vbv.specs.Model.{intervalOf}
 use Rattle.vbv.specs.declared.RemovalInterval.the-variants.{Frame, Field}
+use Rattle.vbv.proofs.Fitting.{of-field, of-frame}
 use Rattle.picture_header.specs.declared.PictureFacts.{PictureFacts}
 use Rattle.cadence.specs.Cadence.{lasting, isClosed, fieldInterval, frameInterval, interval, with, closed, afterField, afterFrame, after}
 use Rattle.cadence.specs.Plain.{OutsideFilm, WithoutFlag}
@@ -26,9 +27,9 @@ same false a = refl
 
 -- a field and a frame, each as outside film
 as-plain : (film field : Bool) → pick film (pick field Field Frame) (intervalOf field) ≡ intervalOf field
-unfolding pick intervalOf
-as-plain true true = refl
-as-plain true false = refl
+unfolding pick
+as-plain true true = sym of-field
+as-plain true false = sym of-frame
 as-plain false field = refl
 
 -- what is kept of the previous anchor's flag

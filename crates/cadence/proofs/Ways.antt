@@ -1,14 +1,25 @@
 -- The ways through the two functions, each from what the code's tests give.
 -- Assumes nothing.
-use mathlib.Core.Path.{_≡_, refl}
+use mathlib.Core.Path.{_≡_, refl, sym}
 use mathlib.Core.Bool.{Bool, true, false, not, _&&_}
 use Rattle.bits.specs.Bits.{pick}
 use Rattle.vbv.specs.declared.RemovalInterval.{RemovalInterval}
 use Rattle.vbv.specs.declared.RemovalInterval.the-variants.{Frame, Field}
+use Rattle.vbv.proofs.Fitting.{of-field, of-frame}
 use Rattle.picture_header.specs.declared.PictureFacts.{PictureFacts}
 use Rattle.cadence.specs.Cadence.{lasting, ledByAnchor, isClosed, fieldInterval, frameInterval, interval, with, closed, afterField, afterFrame, after}
 use Rattle.cadence.specs.declared.OpenField.the-variants.{Closed, LedByAnchor, LedByOther}
 use Rattle.cadence.specs.declared.VbvCadence.{VbvCadence}
+
+-- outside film
+module _ (k : VbvCadence) (x : PictureFacts) where
+  pub plain-field : x .field ≡ true → k .film ≡ false → Field ≡ interval k x
+  unfolding interval pick
+  plain-field f m = simp (f, m, of-field)
+
+  pub plain-frame : x .field ≡ false → k .film ≡ false → Frame ≡ interval k x
+  unfolding interval pick
+  plain-frame f m = simp (f, m, of-frame)
 
 module _ (k : VbvCadence) (x : PictureFacts) (l : Bool) (e : l ≡ ledByAnchor (k .waiting)) where
   abbrev Long : Bool → Type 0

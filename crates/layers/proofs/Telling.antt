@@ -2,6 +2,7 @@
 -- Assumes nothing.
 use mathlib.Core.Path.{_≡_, refl, sym, ap, _∙_}
 use mathlib.Core.Bool.{Bool, true, false, not, _&&_, _||_, true≢false}
+use mathlib.Core.Logic.{inl, inr}
 use mathlib.Core.List.{List}
 use Prim.Native.Nat.{ℕ}
 use native.Mathlib.Omega.{arith}
@@ -10,6 +11,7 @@ use Rattle.bits.proofs.Flags.{both-true}
 use Rattle.vbv.specs.Model.{intervalOf}
 use Rattle.vbv.specs.declared.RemovalInterval.{RemovalInterval}
 use Rattle.vbv.specs.declared.RemovalInterval.the-variants.{Frame, Field, ThreeFields, TwoFrames, ThreeFrames}
+use Rattle.vbv.proofs.Fitting.{of-field, of-frame}
 use Rattle.picture_header.specs.Facts.{isAnchor, isField}
 use Rattle.picture_header.specs.Picture.{picture}
 use Rattle.picture_header.specs.declared.PictureCodingType.{PictureCodingType}
@@ -17,7 +19,7 @@ use Rattle.picture_header.specs.declared.PictureCodingType.the-variants.{Intra,
 use Rattle.picture_header.specs.declared.Mpeg2PictureHeader.{Mpeg2PictureHeader}
 use Rattle.picture_header.specs.declared.PictureCodingExtension.{PictureCodingExtension}
 use Rattle.picture_header.specs.declared.PictureFacts.{PictureFacts}
-use Rattle.picture_header.proofs.FactLaws.{facts-are, told-parsed}
+use Rattle.picture_header.proofs.FactLaws.{facts-are, told-parsed, anchor-by, other-by}
 use Rattle.layers.specs.declared.PictureKind.{PictureKind}
 use Rattle.layers.specs.declared.PictureKind.the-variants.{I, P, B}
 use Rattle.scan.specs.Codes.{codes, endsPrefix}
@@ -44,18 +46,18 @@ told film k i s f = case (picture s) refl (both-true (headerFits film k i s) _ f
         record { header = r .0; extension = r .1; parsed = p; kind-told = a .0; agreed = b .0 }
 
 kind-anchor : (k : PictureKind) (t : PictureCodingType) → sameKind k t ≡ true → isAnchor t ≡ ofAnchor k
-unfolding sameKind isAnchor ofAnchor
-kind-anchor I Intra e = refl
+unfolding sameKind ofAnchor
+kind-anchor I Intra e = anchor-by Intra .1 (inl refl)
 kind-anchor I Predictive e = cc
 kind-anchor I Bidirectional e = cc
 kind-anchor I DcIntra e = cc
 kind-anchor P Intra e = cc
-kind-anchor P Predictive e = refl
+kind-anchor P Predictive e = anchor-by Predictive .1 (inr refl)
 kind-anchor P Bidirectional e = cc
 kind-anchor P DcIntra e = cc
 kind-anchor B Intra e = cc
 kind-anchor B Predictive e = cc
-kind-anchor B Bidirectional e = refl
+kind-anchor B Bidirectional e = other-by
 kind-anchor B DcIntra e = cc
 
 agreed-field : (i : RemovalInterval) (f : Bool) → agrees i f ≡ true → f ≡ ofField i
@@ -69,9 +71,9 @@ agreed-field TwoFrames f e = cc
 agreed-field ThreeFrames f e = cc
 
 agreed-interval : (i : RemovalInterval) (f : Bool) → agrees i f ≡ true → i ≡ intervalOf (ofField i)
-unfolding agrees ofField intervalOf
-agreed-interval Frame f e = refl
-agreed-interval Field f e = refl
+unfolding agrees ofField
+agreed-interval Frame f e = sym of-frame
+agreed-interval Field f e = sym of-field
 agreed-interval ThreeFields f e = cc
 agreed-interval TwoFrames f e = cc
 agreed-interval ThreeFrames f e = cc

@@ -2,7 +2,8 @@
 -- Assumes nothing.
 use mathlib.Core.Path.{_≡_, refl, sym, ap}
 use mathlib.Core.List.{List}
-use mathlib.Core.Bool.{false}
+use mathlib.Core.Bool.{true, false, true≢false}
+use mathlib.Core.Logic.{_↔_, _⊎_, ⊎-elim, inl, inr}
 use Prim.Native.Nat.{ℕ, _<_}
 use native.Mathlib.Omega.{arith}
 use Rattle.bits.specs.Refusals.{value, refused}
@@ -11,11 +12,32 @@ use Rattle.picture_header.specs.PictureHeader.{pictureHeader}
 use Rattle.picture_header.specs.Picture.{picture}
 use Rattle.picture_header.specs.Facts.{isAnchor, isField, factsBy, factsOf, headerTold, pictureTold}
 use Rattle.picture_header.specs.declared.PictureFacts.{PictureFacts}
-use Rattle.picture_header.specs.declared.PictureStructure.the-variants.{Frame}
+use Rattle.picture_header.specs.declared.PictureStructure.{PictureStructure}
+use Rattle.picture_header.specs.declared.PictureStructure.the-variants.{TopField, BottomField, Frame}
+use Rattle.picture_header.specs.declared.PictureCodingType.{PictureCodingType}
+use Rattle.picture_header.specs.declared.PictureCodingType.the-variants.{Intra, Predictive, Bidirectional, DcIntra}
 use Rattle.picture_header.proofs.PictureHeader.{picture-header-parsed, delay-high}
 use Rattle.picture_header.proofs.Picture.{picture-parsed}
 use Rattle.picture_header.specs.declared.Mpeg2PictureHeader.{Mpeg2PictureHeader}
 use Rattle.picture_header.specs.declared.PictureCodingExtension.{PictureCodingExtension}
+
+-- I and P are anchors, and a frame is no field
+pub anchor-by : (t : PictureCodingType) → (isAnchor t ≡ true) ↔ ((t ≡ Intra) ⊎ (t ≡ Predictive))
+unfolding isAnchor
+anchor-by Intra = (λ e. inl refl, λ e. refl)
+anchor-by Predictive = (λ e. inr refl, λ e. refl)
+anchor-by Bidirectional = (λ e. absurd (true≢false (sym e)), λ e. ⊎-elim (λ z. cc) (λ z. cc) e)
+anchor-by DcIntra = (λ e. absurd (true≢false (sym e)), λ e. ⊎-elim (λ z. cc) (λ z. cc) e)
+
+pub other-by : isAnchor Bidirectional ≡ false
+unfolding isAnchor
+other-by = refl
+
+pub frame-by : (t : PictureStructure) → (isField t ≡ false) ↔ (t ≡ Frame)
+unfolding isField
+frame-by TopField = (λ e. absurd (true≢false e), λ e. cc)
+frame-by BottomField = (λ e. absurd (true≢false e), λ e. cc)
+frame-by Frame = (λ e. refl, λ e. refl)
 
 pub facts-by : (h : Mpeg2PictureHeader) (x : PictureCodingExtension)
     → factsOf h x ≡ factsBy (h .«picture_coding_type») (x .«picture_structure») (x .«repeat_first_field») (x .«top_field_first»)

@@ -17,7 +17,7 @@ use Rattle.scan.specs.declared.Found.{Found}
 use Rattle.scan.specs.declared.Found.the-variants.{At, Nothing}
 use Rattle.cadence.specs.Cadence.{opened, cadenceFits}
 use Rattle.cadence.specs.declared.VbvCadence.{VbvCadence}
-use Rattle.cadence.proofs.Keeping.{opened-film, opened-plain, opened-fits}
+use Rattle.cadence.proofs.Keeping.{opened-film, opened-plain, opened-is, opened-none, opened-itself, opened-unflagged, opened-fits}
 use Rattle.pictures.specs.Cadence.{cadenceBy, openedAt, cadenceOf}
 use Rattle.pictures.specs.Sequence.{declaredBy}
 use Rattle.pictures.specs.Due.{SequenceOpens}
@@ -94,44 +94,44 @@ unfoldable readAs : Answer Mpeg2Sequence → VbvCadence
 readAs r = orElse (opened true false false) (andThen r (λ q. value (opened true (q .extension .«progressive_sequence») (q .extension .«low_delay»))))
 
 by-first : (s : List ℕ) → cadenceBy true s ≡ opened true (cadenceBy true s .progressive) (cadenceBy true s .«low_delay»)
-unfolding cadenceBy opened readAs
+unfolding cadenceBy readAs
 by-first s = case (sequence s)
   where
     case : (r : Answer Mpeg2Sequence) → readAs r ≡ opened true (readAs r .progressive) (readAs r .«low_delay»)
-    case (value q) = refl
-    case (refused n k c e) = refl
+    case (value q) = opened-itself _ _
+    case (refused n k c e) = opened-itself false false
 
 pub first-cadence : (s : List ℕ) → cadenceOf true s ≡ opened true (cadenceOf true s .progressive) (cadenceOf true s .«low_delay»)
-unfolding cadenceOf openedAt opened
+unfolding cadenceOf openedAt
 first-cadence s = case (found (skip notSequence (codes s)))
   where
     case : (f : Found) → openedAt true s f ≡ opened true (openedAt true s f .progressive) (openedAt true s f .«low_delay»)
     case (At o c) = by-first (drop o s)
-    case Nothing = refl
+    case Nothing = opened-itself false false
 
 -- and no picture's flag
 by-unflagged : (film : Bool) (s : List ℕ) → cadenceBy film s .repeat ≡ false
-unfolding cadenceBy opened
+unfolding cadenceBy
 by-unflagged film s = case (sequence s)
   where
     case : (r : Answer Mpeg2Sequence)
         → orElse (opened film false false) (andThen r (λ q. value (opened film (q .extension .«progressive_sequence») (q .extension .«low_delay»)))) .repeat ≡ false
-    case (value q) = refl
-    case (refused n k c e) = refl
+    case (value q) = opened-unflagged film _ _
+    case (refused n k c e) = opened-unflagged film false false
 
 pub unflagged : (film : Bool) (s : List ℕ) → cadenceOf film s .repeat ≡ false
-unfolding cadenceOf openedAt opened
+unfolding cadenceOf openedAt
 unflagged film s = case (found (skip notSequence (codes s)))
   where
     case : (f : Found) → openedAt film s f .repeat ≡ false
     case (At o c) = by-unflagged film (drop o s)
-    case Nothing = refl
+    case Nothing = opened-unflagged film false false
 
 -- what the fields say
 pub sequence-opens : SequenceOpens
-unfolding cadenceBy opened
+unfolding cadenceBy
 sequence-opens = record {
-  in-film = λ s q e. rw e;
-  outside-film = λ s. plain-by s;
+  in-film = λ s q e. rw e (opened-is _ _);
+  outside-film = λ s. plain-by s ∙ opened-none;
   of-stream = λ film s o c e. stream-opens film s o c e;
 }

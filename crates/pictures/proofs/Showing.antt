@@ -1,8 +1,6 @@
 -- What a parsed picture shows, and what a sequence header at byte 0 declares.
 -- Assumes nothing.
 use mathlib.Core.Path.{_≡_, refl, sym, ap, _∙_}
-use mathlib.Core.Bool.{true, false, true≢false}
-use mathlib.Core.Logic.{_↔_, _⊎_, ⊎-elim, inl, inr}
 use Prim.Native.Nat.{ℕ}
 use mathlib.Core.List.{List, _∷_, _++_}
 use Rattle.bits.specs.Refusals.{value}
@@ -23,12 +21,8 @@ use Rattle.scan.specs.Pictures.{skip, notSequence}
 use Rattle.scan.specs.declared.Found.the-variants.{At}
 use Rattle.scan.proofs.Sorts.{sequence-code, skip-stops, found-first}
 use Rattle.pictures.specs.Seen.{shown}
-use Rattle.picture_header.specs.Facts.{isAnchor, isField, factsOf}
-use Rattle.picture_header.proofs.FactLaws.{facts-are, told-parsed}
-use Rattle.picture_header.specs.declared.PictureCodingType.{PictureCodingType}
-use Rattle.picture_header.specs.declared.PictureCodingType.the-variants.{Intra, Predictive, Bidirectional, DcIntra}
-use Rattle.picture_header.specs.declared.PictureStructure.{PictureStructure}
-use Rattle.picture_header.specs.declared.PictureStructure.the-variants.{TopField, BottomField, Frame}
+use Rattle.picture_header.specs.Facts.{factsOf}
+use Rattle.picture_header.proofs.FactLaws.{facts-are, told-parsed, anchor-by, frame-by}
 use Rattle.picture_header.specs.declared.PictureFacts.{PictureFacts}
 use Rattle.pictures.specs.Sequence.{rated, declaredBy, declaredAt, declared}
 use Rattle.pictures.specs.Due.{SequenceDeclares, PictureShows}
@@ -41,19 +35,6 @@ shown-parsed s h x e = told-parsed s h x e
 
 facts-shown : (s : List ℕ) (h : Mpeg2PictureHeader) (x : PictureCodingExtension) (d : ℕ) (f : PictureFacts) → picture s ≡ value (h, x) → shown Mpeg2 s ≡ value (d, f) → factsOf h x ≡ f
 facts-shown s h x d f e t = let z : _≡_ {A = ℕ × PictureFacts} (h .«vbv_delay», factsOf h x) (d, f) = same-value (sym (shown-parsed s h x e) ∙ t) in ap (λ (y : ℕ × PictureFacts). y .1) z
-
-anchor-by : (t : PictureCodingType) → (isAnchor t ≡ true) ↔ ((t ≡ Intra) ⊎ (t ≡ Predictive))
-unfolding isAnchor
-anchor-by Intra = (λ e. inl refl, λ e. refl)
-anchor-by Predictive = (λ e. inr refl, λ e. refl)
-anchor-by Bidirectional = (λ e. absurd (true≢false (sym e)), λ e. ⊎-elim (λ z. cc) (λ z. cc) e)
-anchor-by DcIntra = (λ e. absurd (true≢false (sym e)), λ e. ⊎-elim (λ z. cc) (λ z. cc) e)
-
-frame-by : (t : PictureStructure) → (isField t ≡ false) ↔ (t ≡ Frame)
-unfolding isField
-frame-by TopField = (λ e. absurd (true≢false e), λ e. cc)
-frame-by BottomField = (λ e. absurd (true≢false e), λ e. cc)
-frame-by Frame = (λ e. refl, λ e. refl)
 
 pub sequence-declares : SequenceDeclares
 unfolding declaredBy rated

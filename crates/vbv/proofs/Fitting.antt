@@ -140,6 +140,15 @@ periods-most ThreeFields = omega arith
 periods-most TwoFrames = omega arith
 periods-most ThreeFrames = omega arith
 
+-- a field picture's interval, and a frame's
+pub of-field : intervalOf true ≡ Field
+unfolding intervalOf
+of-field = refl
+
+pub of-frame : intervalOf false ≡ Frame
+unfolding intervalOf
+of-frame = refl
+
 -- a field picture lasts one, a frame two
 pub field-lasts : periods (intervalOf true) ≡ 1
 unfolding intervalOf

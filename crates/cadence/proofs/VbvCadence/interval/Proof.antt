@@ -1,7 +1,4 @@
-use Rattle.cadence.proofs.Ways.{field-long, field-short, frame-anchor, frame-own}
-use Rattle.bits.specs.Bits.{pick}
-use Rattle.vbv.specs.Model.{intervalOf}
-use Rattle.cadence.specs.Cadence.{interval}
+use Rattle.cadence.proofs.Ways.{plain-field, plain-frame, field-long, field-short, frame-anchor, frame-own}
 use borrow.Author.Needs.{needs}
 use Rattle.cadence.proofs.VbvCadence.interval.Statement.{statement}
 use Rattle.cadence.proofs.VbvCadence.interval.Tie as tie
@@ -28,12 +25,10 @@ returns-4 : tie.Need-returns-4
 returns-4 c = search (needs, frame-own)
 
 returns-5 : tie.Need-returns-5
-unfolding interval intervalOf pick
-returns-5 c = search needs
+returns-5 c = search (needs, plain-field)
 
 returns-6 : tie.Need-returns-6
-unfolding interval intervalOf pick
-returns-6 c = search needs
+returns-6 c = search (needs, plain-frame)
 
 pub interval-spec : {M : Type 1} → statement M
 interval-spec =
