@@ -9,8 +9,8 @@ pub mod Retries
 pub mod Fitting
 pub mod Placing
 pub mod Testing
-pub mod Offering
 pub mod Lasting
+pub mod Offering
 pub mod Invariant
 pub mod Creation
 pub mod Removing

@@ -21,21 +21,22 @@ use Rattle.vbv.proofs.Fitting.{model-fits}
 use Rattle.layers.specs.declared.PictureKind.{PictureKind}
 use Rattle.layers.specs.Headers.{headersFit}
 use Rattle.layers.specs.Layer.{layerFits, factsIn}
-use Rattle.cadence.specs.Cadence.{interval, after}
-use Rattle.picture_header.specs.declared.PictureFacts.{PictureFacts}
+use Rattle.cadence.specs.Cadence.{after}
 use Rattle.cadence.specs.declared.VbvCadence.{VbvCadence}
 use Rattle.rate_control.specs.Answers.{Given, offerAnswer}
 use Rattle.rate_control.specs.Writer.{writerFits, index, of, clashes, asked}
 use Rattle.rate_control.specs.Offer.{Offer, position, content, end, cadenceAt, intervalAt, stuffing, endCode, placedBytes, withPlaced, offer, left, outOf, outAfter}
-use Rattle.rate_control.specs.Steps.{measured, tested, Placeable, placedBy, refusedInCode, tooLargeInCode, placedInCode, offerInCode}
+use Rattle.rate_control.specs.Steps.{timing, measured, tested, Placeable, placedBy, refusedInCode, tooLargeInCode, placedInCode, offerInCode}
 use Rattle.rate_control.specs.declared.CbrWriter.{CbrWriter}
 use Rattle.rate_control.specs.declared.CbrError.{CbrError}
 use Rattle.rate_control.specs.declared.CbrError.the-variants.{Model, Kind, Headers, Layer, Output}
 use Rattle.rate_control.specs.declared.CbrOffered.{CbrOffered}
 use Rattle.rate_control.specs.declared.Placement.{Placement}
+use Rattle.rate_control.specs.declared.Timing.{Timing}
 use Rattle.rate_control.specs.declared.Tested.{Tested}
 use Rattle.rate_control.specs.declared.Tested.the-variants.{Refused, TooLarge, Ready}
 use Rattle.rate_control.proofs.Fitting.{all-fit-get, writer-fits}
+use Rattle.rate_control.proofs.Lasting.{timing-lasts}
 use Rattle.rate_control.proofs.Placing.{placed-size}
 use Rattle.rate_control.proofs.Numbers.{answer-is, writer-is}
 use Rattle.rate_control.proofs.Testing.{placement, measuredFor, measured-is}
@@ -82,16 +83,30 @@ testedFor w o = tested w (o .headers) (o .kind) (o .interval) (o .last) (o .laye
 abbrev pub cadenceLeft : CbrWriter → Offer → VbvCadence
 cadenceLeft w o = after (cadenceAt w (o .headers)) (factsIn (o .layer))
 
--- as the code comes to them, by the facts f of the layer and the cadence k before the picture
-pub tested-by : (w : CbrWriter) (o : Offer) {f : PictureFacts} {k : VbvCadence} {j : RemovalInterval} {t : Tested} → f ≡ factsIn (o .layer) → k ≡ cadenceAt w (o .headers) → j ≡ interval k f
-    → t ≡ tested w (o .headers) (o .kind) (o .interval) (o .last) (o .layer) j → t ≡ testedFor w o
-unfolding intervalAt
-tested-by w o a b c e = e ∙ ap (tested w (o .headers) (o .kind) (o .interval) (o .last) (o .layer)) (c ∙ rw (a, b))
+-- the same with the code's timing, which plays no part where the layer does not fit
+timing-same : (w : CbrWriter) (o : Offer)
+    → tested w (o .headers) (o .kind) (o .interval) (o .last) (o .layer) (timing (cadenceAt w (o .headers)) (o .interval) (o .layer) .interval) ≡ testedFor w o
+unfolding tested
+timing-same w o =
+    pick-alike Same _ refl λ h12.
+    pick-alike Same _ refl λ h17.
+    pick-alike Same _ refl λ h18.
+    pick-alike Same _ refl λ h20.
+    ap (λ (j : RemovalInterval). measured (w .model) (length (o .headers)) (length (o .layer)) j (o .last)) (timing-lasts w o (not-false _ h20))
+  where
+    Same : Tested → Tested → Type 0
+    Same s t = s ≡ t
 
-pub placed-left : (w : CbrWriter) (headers : List ℕ) (k : PictureKind) (layer : List ℕ) (last : Bool) (p : Placement) {f : PictureFacts} {b c : VbvCadence} {r : CbrOffered}
-    → f ≡ factsIn layer → b ≡ cadenceAt w headers → c ≡ after b f → r ≡ placedBy w k (length layer) last p c
+-- as the code comes to them, by the cadence k before the picture
+pub tested-by : (w : CbrWriter) (o : Offer) {k : VbvCadence} {x : Timing} {t : Tested} → k ≡ cadenceAt w (o .headers) → x ≡ timing k (o .interval) (o .layer)
+    → t ≡ tested w (o .headers) (o .kind) (o .interval) (o .last) (o .layer) (x .interval) → t ≡ testedFor w o
+tested-by w o a b e = e ∙ rw (b, a) (timing-same w o)
+
+pub placed-left : (w : CbrWriter) (headers : List ℕ) (k : PictureKind) (i : RemovalInterval) (layer : List ℕ) (last : Bool) (p : Placement) {b : VbvCadence} {x : Timing} {r : CbrOffered}
+    → b ≡ cadenceAt w headers → x ≡ timing b i layer → r ≡ placedBy w k (length layer) last p (x .cadence)
     → r ≡ placedBy w k (length layer) last p (after (cadenceAt w headers) (factsIn layer))
-placed-left w headers k layer last p a b c e = e ∙ ap (placedBy w k (length layer) last p) (c ∙ rw (a, b))
+unfolding timing
+placed-left w headers k i layer last p a b e = e ∙ rw (b, a)
 
 unfoldable answerTo : CbrWriter → Offer → Tested → CbrOffered
 answerTo w o (Refused e) = refusedInCode w e
@@ -199,13 +214,13 @@ module _ (w : CbrWriter) (headers : List ℕ) (k : PictureKind) (i : RemovalInte
   abbrev any-out : Offer
   any-out = record { headers = headers; kind = k; interval = i; last = last; layer = layer; out = [] }
 
-  module _ {f : PictureFacts} {b : VbvCadence} {j : RemovalInterval} {t : Tested} (a : f ≡ factsIn layer) (c : b ≡ cadenceAt w headers) (d : j ≡ interval b f)
-      (e : t ≡ tested w headers k i last layer j) (p : Placement) (h : t ≡ Ready p) where
+  module _ {b : VbvCadence} {x : Timing} {t : Tested} (a : b ≡ cadenceAt w headers) (c : x ≡ timing b i layer)
+      (e : t ≡ tested w headers k i last layer (x .interval)) (p : Placement) (h : t ≡ Ready p) where
     pub bytes-are : p .bytes ≡ length headers + length layer + p .«stuffing_bytes» + length (endCode last)
-    bytes-are = bytes-of w any-out t (tested-by w any-out a c d e) p h
+    bytes-are = bytes-of w any-out t (tested-by w any-out a c e) p h
 
     pub placeable : Placeable w k (length layer) p
-    placeable = placeable-of w any-out t (tested-by w any-out a c d e) p h
+    placeable = placeable-of w any-out t (tested-by w any-out a c e) p h
 
 -- ---- what is promised
 

@@ -28,7 +28,8 @@ use Rattle.vbv.specs.declared.VbvBits.{VbvBits}
 use Rattle.vbv.specs.declared.VbvBits.the-variants as bt
 use Rattle.layers.specs.declared.PictureKind.{PictureKind}
 use Rattle.layers.specs.Headers.{headersFit}
-use Rattle.layers.specs.Layer.{layerFits}
+use Rattle.layers.specs.Layer.{layerFits, factsIn}
+use Rattle.cadence.specs.Cadence.{interval, after}
 use Rattle.cadence.specs.declared.VbvCadence.{VbvCadence}
 use Rattle.rate_control.specs.Answers.{createdAnswer}
 use Rattle.rate_control.specs.Create.{writerParams, freshWriter, noWriter}
@@ -45,6 +46,7 @@ use Rattle.rate_control.specs.declared.CbrAnswer.the-variants.{Placed, A
 use Rattle.rate_control.specs.declared.CbrOffered.{CbrOffered}
 use Rattle.rate_control.specs.declared.Extent.{Extent}
 use Rattle.rate_control.specs.declared.Placement.{Placement}
+use Rattle.rate_control.specs.declared.Timing.{Timing}
 use Rattle.rate_control.specs.declared.Tested.{Tested}
 use Rattle.rate_control.specs.declared.Tested.the-variants.{Refused, TooLarge, Ready}
 
@@ -69,6 +71,12 @@ Creates r a = (createdAnswer r ≡ a) × (r .writer ≡ orElse noWriter a)
 -- once the frame rate is known
 abbrev pub withRate : CbrConfig → ℕ × ℕ → Answer CbrWriter
 withRate c f = andThen (newModel (writerParams c f)) (λ m. value (freshWriter c m))
+
+-- ---- how long an offered picture lasts, and the cadence after it
+
+-- in film by the layer's facts, else as offered
+unfoldable pub timing : VbvCadence → RemovalInterval → List ℕ → Timing
+timing k i layer = record { interval = pick (k .film) (interval k (factsIn layer)) i; cadence = after k (factsIn layer) }
 
 -- ---- the tests of an offer, by what the model answers
 

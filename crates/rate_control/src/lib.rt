@@ -15,6 +15,7 @@ use bits::VbvRefusal;
 use bits::plain;
 use cadence::VbvCadence;
 use layers::PictureKind;
+use vbv::RemovalInterval;
 use vbv::VbvCbrModel;
 use vbv::VbvError;
 use vbv::VbvViolation;
@@ -115,6 +116,12 @@ struct Extent {
     pub position: u64,
     pub content: u64,
     pub bytes: u64,
+}
+
+// How long an offered picture lasts, and the cadence after it.
+struct Timing {
+    pub interval: RemovalInterval,
+    pub cadence: VbvCadence,
 }
 
 // What is placed: the model after it, the delay, all bytes and the zeros among them.

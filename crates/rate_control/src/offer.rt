@@ -2,11 +2,12 @@
 ghost use mathlib.Core.Path.{_≡_};
 ghost use Rattle.rate_control.specs.Answers.{offerAnswer};
 ghost use Rattle.rate_control.specs.Offer.{cadenceAt, offer, left, outAfter};
-ghost use Rattle.rate_control.specs.Steps.{tested};
+ghost use Rattle.rate_control.specs.Steps.{tested, timing};
 use crate::CbrError;
 use crate::CbrOffered;
 use crate::CbrWriter;
 use crate::Tested;
+use crate::Timing;
 use crate::measure::measured;
 use crate::output::put_placed;
 use crate::state::clashes;
@@ -15,6 +16,20 @@ use layers::PictureKind;
 use pictures::cadence_by;
 use vbv::RemovalInterval;
 use vbv::VbvError;
+
+// Outside film a picture lasts as offered and moves no cadence: a layer's facts are read in film alone.
+fn timing(cadence: VbvCadence, interval: RemovalInterval, layer: &[u8]) -> Timing
+    ensures { λ r. ⌜ r ≡ timing cadence interval (now (layer .entry)) ⌝ }
+{
+    if cadence.film {
+        let facts = layers::layer_facts(layer);
+        return Timing {
+            interval: cadence.interval(facts),
+            cadence: cadence.after(facts),
+        };
+    }
+    Timing { interval, cadence }
+}
 
 impl CbrWriter {
     // The cadence before the picture: until one is placed, that which its own headers open.
@@ -76,16 +91,9 @@ impl CbrWriter {
         ensures { λ r. ⌜ r .writer ≡ left self (record { headers = now (headers .entry); kind = kind; interval = interval; last = last; layer = now (layer .entry); out = now (out .entry) }) ⌝ }
         ensures { λ r. ⌜ now (out .exit) ≡ outAfter self (record { headers = now (headers .entry); kind = kind; interval = interval; last = last; layer = now (layer .entry); out = now (out .entry) }) ⌝ }
     {
-        let facts = layers::layer_facts(layer);
-        let cadence = self.cadence_at(headers);
-        match self.tested(
-            headers,
-            kind,
-            interval,
-            last,
-            layer,
-            cadence.interval(facts),
-        ) {
+        let timing = timing(self.cadence_at(headers), interval, layer);
+        let lasts = timing.interval;
+        match self.tested(headers, kind, interval, last, layer, lasts) {
             Tested::Refused(error) => self.refused(error),
             Tested::TooLarge => self.too_large(kind),
             Tested::Ready(placement) => {
@@ -97,7 +105,8 @@ impl CbrWriter {
                 let zeros = placement.stuffing_bytes as usize;
                 put_placed(out, headers, layer, placement.vbv_delay, zeros, last);
                 let layer_bytes = layer.len() as u64;
-                self.placed(kind, layer_bytes, last, placement, cadence.after(facts))
+                let cadence = timing.cadence;
+                self.placed(kind, layer_bytes, last, placement, cadence)
             }
         }
     }

@@ -4,14 +4,11 @@ use borrow.Author.Needs.{needs}
 use Rattle.rate_control.proofs.CbrWriter.offer.Statement.{statement}
 use Rattle.rate_control.proofs.CbrWriter.offer.Tie as tie
 
-layer-facts-requires : tie.Need-layer-facts-requires
-layer-facts-requires c κs = search needs
-
 cadence-at-requires : tie.Need-cadence-at-requires
 cadence-at-requires c κs = search needs
 
-interval-requires : tie.Need-interval-requires
-interval-requires c κs = search needs
+timing-requires : tie.Need-timing-requires
+timing-requires c κs = search needs
 
 tested-requires : tie.Need-tested-requires
 tested-requires c κs = search needs
@@ -38,33 +35,30 @@ returns : tie.Need-returns
 returns c =
     let p = c .before .before .before in
     let t = p .before .before in
-    offer-short _ _ _ (tested-by _ _ (t .before .before .before .layer-facts .ensures) (t .before .before .cadence-at .ensures) (t .before .interval .ensures) (t .tested .ensures)) _ _ (p .placement .given .1) (omega arith) (c .refused2 .ensures)
+    offer-short _ _ _ (tested-by _ _ (t .before .before .cadence-at .ensures) (t .before .timing .ensures) (t .tested .ensures)) _ _ (p .placement .given .1) (omega arith) (c .refused2 .ensures)
 
 put-placed-requires : tie.Need-put-placed-requires
 put-placed-requires c κs =
     let p = c .before .before .before in
     let t = p .before .before in
-    omega (arith, bytes-are _ _ _ _ _ _ (t .before .before .before .layer-facts .ensures) (t .before .before .cadence-at .ensures) (t .before .interval .ensures) (t .tested .ensures) _ (p .placement .given .1))
-
-after-requires : tie.Need-after-requires
-after-requires c κs = search needs
+    omega (arith, bytes-are _ _ _ _ _ _ (t .before .before .cadence-at .ensures) (t .before .timing .ensures) (t .tested .ensures) _ (p .placement .given .1))
 
 placed-requires : tie.Need-placed-requires
 placed-requires c κs =
     let p = c .before .before .before .before .before .before .before in
     let t = p .before .before in
-    placeable _ _ _ _ _ _ (t .before .before .before .layer-facts .ensures) (t .before .before .cadence-at .ensures) (t .before .interval .ensures) (t .tested .ensures) _ (p .placement .given .1)
+    placeable _ _ _ _ _ _ (t .before .before .cadence-at .ensures) (t .before .timing .ensures) (t .tested .ensures) _ (p .placement .given .1)
 
 returns-2 : tie.Need-returns-2
 returns-2 c =
     let p = c .before .before in
     let t = p .before .before in
-    offer-refused _ _ _ (tested-by _ _ (t .before .before .before .layer-facts .ensures) (t .before .before .cadence-at .ensures) (t .before .interval .ensures) (t .tested .ensures)) _ _ (p .error .given .1) (c .refused .ensures)
+    offer-refused _ _ _ (tested-by _ _ (t .before .before .cadence-at .ensures) (t .before .timing .ensures) (t .tested .ensures)) _ _ (p .error .given .1) (c .refused .ensures)
 
 returns-3 : tie.Need-returns-3
 returns-3 c =
     let t = c .before .before .before in
-    offer-large _ _ _ (tested-by _ _ (t .before .before .before .layer-facts .ensures) (t .before .before .cadence-at .ensures) (t .before .interval .ensures) (t .tested .ensures)) _ (c .before .enum-told .given .1) (c .too-large .ensures)
+    offer-large _ _ _ (tested-by _ _ (t .before .before .cadence-at .ensures) (t .before .timing .ensures) (t .tested .ensures)) _ (c .before .enum-told .given .1) (c .too-large .ensures)
 
 same-length : tie.Need-same-length
 same-length c = search needs
@@ -74,16 +68,15 @@ returns-4 c =
     let o = c .before .before .before .before in
     let p = o .before .before .before .before in
     let t = p .before .before in
-    offer-placed _ _ _ (tested-by _ _ (t .before .before .before .layer-facts .ensures) (t .before .before .cadence-at .ensures) (t .before .interval .ensures) (t .tested .ensures)) _ _ (p .placement .given .1) _ (omega arith)
-    (placed-left _ _ _ _ _ _ (t .before .before .before .layer-facts .ensures) (t .before .before .cadence-at .ensures) (c .before .after .ensures) (c .placed .ensures)) (o .put-placed .ensures)
+    offer-placed _ _ _ (tested-by _ _ (t .before .before .cadence-at .ensures) (t .before .timing .ensures) (t .tested .ensures)) _ _ (p .placement .given .1) _ (omega arith)
+    (placed-left _ _ _ _ _ _ _ (t .before .before .cadence-at .ensures) (t .before .timing .ensures) (c .placed .ensures)) (o .put-placed .ensures)
 
 pub offer-spec : {M : Type 1} → statement M
 offer-spec =
     tie.close
     (tie.spec
-    layer-facts-requires
     cadence-at-requires
-    interval-requires
+    timing-requires
     tested-requires
     enum-known-error
     refused-requires
@@ -93,7 +86,6 @@ offer-spec =
     refused-requires-2
     returns
     put-placed-requires
-    after-requires
     placed-requires
     returns-2
     returns-3
