@@ -94,14 +94,14 @@ static void print_input(const struct told *t)
     printf("%s %s", begins_like_option(t->name) ? " --" : "", shell_word(t->name, word, sizeof word));
 }
 
-/* How a stream of a variable rate is made constant; with --film where the writer must take repeated fields. */
+/* How a stream of a variable rate is made constant; with --film where the writer must take repeat_first_field. */
 static void print_remedy(const struct told *t)
 {
     if (t->standard == VBV_MPEG1) {
         printf("  cbrsend takes only MPEG-2, so encode this one again, at a constant rate.\n");
     } else {
         char buffer[TEXT] = "BUFFER";
-        const char *film = t->answer->look.repeats > 0 ? " --film" : "";
+        const char *film = t->answer->look.flagged > 0 ? " --film" : "";
         uint64_t units = t->answer->declared.buffer_bits / CBR_BUFFER_UNIT;
         if (units >= 1 && units <= CBR_MOST_BUFFER)
             snprintf(buffer, sizeof buffer, "%" PRIu64, units);
