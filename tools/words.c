@@ -113,7 +113,7 @@ static void print_remedy(const struct told *t)
     }
 }
 
-/* Delays that count repeated fields differ from those of a check that does not. */
+/* Delays that count repeated fields differ from those of a check that does not, in which pictures are due earlier. */
 static void print_film(const struct told *t)
 {
     printf("  Its pictures repeat fields, which this check does not count. With these counted: vbvreport --film%s",
@@ -133,7 +133,7 @@ static void print_refusal(const struct told *t)
         print_sequence(t);
     if (a->number >= VBV_EARLY && a->number <= VBV_DELAY_MISMATCH)
         print_frame_rate(&a->declared);
-    int film = a->number == VBV_DELAY_MISMATCH && spoils_model(a);
+    int film = (a->number == VBV_EARLY || a->number == VBV_DELAY_MISMATCH) && spoils_model(a);
     if (film)
         print_film(t);
     printf("  %s%s\n", film ? "If that refuses it too: " : "", vbv_refusal_text(a->number));
