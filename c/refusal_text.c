@@ -32,7 +32,7 @@ static const struct {
         "Encode it smaller, or raise the rate or the buffer: cbrsend says to what." },
     [VBV_DELAY_MISMATCH] = { "delay mismatch",
         "The picture's delay is not the time at which it is due: a set that tunes in there overflows or runs dry later. "
-        "Write the right delays: cbrsend does, or vbv_patch_delay." },
+        "Write the right delays: cbrsend does, for film cbrsend --film, or vbv_patch_delay." },
     [VBV_PARAMETER] = { "parameter out of range",
         "The rate or the buffer is zero or too large, or the buffer takes more than 65,534 ticks to fill. Choose others. "
         "From C also: a bad configuration, mode, kind, interval, flag or state." },
@@ -49,8 +49,8 @@ static const struct {
         "The output part, or a place for a report, refusal, answer or state, is too short. Make the same call with more room; "
         "the buffer's size is always enough for a picture." },
     [CBR_LAYER] = { "layer does not fit",
-        "This is not one whole MPEG-2 picture of the kind and interval given, or it repeats a field and the writer is not for "
-        "film; for vbv_patch_delay, no picture header. Correct the encoder." },
+        "This is not one whole MPEG-2 picture of the kind and interval given, or for vbv_patch_delay no picture header: correct "
+        "the encoder. Or it repeats a field, which only a film writer takes: create one." },
     [CBR_TOO_LARGE] = { "too large",
         "At this rate and buffer the picture is not whole in a set when it is due. "
         "Encode it with less detail, or raise the rate or the buffer." },

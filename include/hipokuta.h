@@ -94,8 +94,9 @@ struct vbv_refusal {
  * Pictures are removed at the frame rate of the first sequence header: its code's, in MPEG-2 times (n + 1) / (d + 1), n and d
  * being frame_rate_extension_n and _d of its sequence extension.
  *
- * mode is VBV_MPEG1, VBV_MPEG2 or VBV_MPEG2 + VBV_FILM, else 12. In film mode the next removal waits for repeated fields, by
- * progressive_sequence and low_delay of the first sequence header's extension:
+ * mode is VBV_MPEG1, VBV_MPEG2 or VBV_MPEG2 + VBV_FILM, else 12; it is a uint8_t, so that C itself cuts a larger number (262 is
+ * 6). In film mode the next removal waits for repeated fields, by progressive_sequence and low_delay of the first sequence
+ * header's extension:
  * - a B frame lasts 2 field periods, with repeat_first_field 3; an I or P frame lasts 2 or 3 by that flag of the I or P picture
  *   before it, 2 where there is none;
  * - a field lasts 1; but the second of a pair that I or P leads lasts 2 where the I or P picture before the pair has the flag.
@@ -162,8 +163,9 @@ struct cbr_state {
     uint64_t finished;       /* 1 once the last picture was placed */
     uint64_t mode;           /* as created: VBV_MPEG2, in which the words below are 0, or VBV_MPEG2 + VBV_FILM */
     uint64_t progressive_sequence, low_delay; /* by the first placed picture's headers */
-    uint64_t anchor_repeat_first_field;       /* of the last I or P frame placed; 0 before there is one, and after a pair of */
-    uint64_t anchor_top_field_first;          /* fields, or a field left over, that I or P leads; of the same */
+    uint64_t anchor_repeat_first_field;       /* of the last I or P frame placed; 0 before there is one, and after a pair of
+                                               * fields, or a field left over, that I or P leads */
+    uint64_t anchor_top_field_first;          /* of the same frame; 0 in the same cases */
     uint64_t open_field;     /* a field that waits for the second of its pair: 0 none, 1 an I or P field, 2 a B field */
 };
 

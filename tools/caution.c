@@ -64,8 +64,8 @@ static void of_pictures(const struct answer *a, struct cautions *c)
 {
     const struct look *l = &a->look;
     if (spoils_model(a))
-        add(c, "repeated fields", "Pictures that repeat a field: %zu of %zu. This check does not read that: a set removes pictures "
-            "later than here, and its buffer may overflow. --film counts them.", l->repeats, l->pictures);
+        add(c, "repeated fields", "Pictures that repeat a field: %zu of %zu. This check does not read that: a set may remove what "
+            "follows later than here, and then its buffer may overflow. --film counts them.", l->repeats, l->pictures);
 }
 
 /* Bytes that the header at the stream's end must have at least; 0 for a code that is none. */

@@ -96,7 +96,8 @@ static void begin_picture(struct walk *w, size_t at)
     l->in_force = l->latest;
     l->last_slice = 0;
     l->early += l->sequence == w->s->length;
-    l->repeats += l->last.facts.repeats;
+    l->flagged += l->last.facts.repeats;
+    l->repeats += l->last.facts.repeats && !l->last.facts.field;
     l->pictures++;
     w->stand = OPEN;
 }

@@ -17,7 +17,8 @@ struct shown {
 struct look {
     size_t first_code, sequence; /* the first start code, and the first sequence header */
     size_t pictures, early;      /* early: before the first sequence header */
-    size_t repeats;              /* pictures that repeat a field */
+    size_t repeats;              /* frames that repeat a field */
+    size_t flagged;              /* pictures with repeat_first_field, fields too, in which it says nothing */
     size_t changes, change;      /* later sequence headers that say something else, and the first of them */
     size_t latest, in_force;     /* the last sequence header, and the last one before the last picture */
     size_t last_code;

@@ -94,14 +94,14 @@ static void print_input(const struct told *t)
     printf("%s %s", begins_like_option(t->name) ? " --" : "", shell_word(t->name, word, sizeof word));
 }
 
-/* How a stream of a variable rate is made constant; with --film where the writer must take repeated fields. */
+/* How a stream of a variable rate is made constant; with --film where the writer must take repeat_first_field. */
 static void print_remedy(const struct told *t)
 {
     if (t->standard == VBV_MPEG1) {
         printf("  cbrsend takes only MPEG-2, so encode this one again, at a constant rate.\n");
     } else {
         char buffer[TEXT] = "BUFFER";
-        const char *film = t->answer->look.repeats > 0 ? " --film" : "";
+        const char *film = t->answer->look.flagged > 0 ? " --film" : "";
         uint64_t units = t->answer->declared.buffer_bits / CBR_BUFFER_UNIT;
         if (units >= 1 && units <= CBR_MOST_BUFFER)
             snprintf(buffer, sizeof buffer, "%" PRIu64, units);
@@ -113,7 +113,7 @@ static void print_remedy(const struct told *t)
     }
 }
 
-/* Delays that count repeated fields differ from those of a check that does not. */
+/* Delays that count repeated fields differ from those of a check that does not, in which pictures are due earlier. */
 static void print_film(const struct told *t)
 {
     printf("  Its pictures repeat fields, which this check does not count. With these counted: vbvreport --film%s",
@@ -133,7 +133,7 @@ static void print_refusal(const struct told *t)
         print_sequence(t);
     if (a->number >= VBV_EARLY && a->number <= VBV_DELAY_MISMATCH)
         print_frame_rate(&a->declared);
-    int film = a->number == VBV_DELAY_MISMATCH && spoils_model(a);
+    int film = (a->number == VBV_EARLY || a->number == VBV_DELAY_MISMATCH) && spoils_model(a);
     if (film)
         print_film(t);
     printf("  %s%s\n", film ? "If that refuses it too: " : "", vbv_refusal_text(a->number));
