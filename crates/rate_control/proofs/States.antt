@@ -1,10 +1,10 @@
 -- The ranges of a writer's state as the code tests them.
 -- Assumes nothing.
 use mathlib.Core.Path.{_≡_, refl, sym, _∙_}
-use mathlib.Core.Bool.{Bool, true, false, _&&_}
+use mathlib.Core.Bool.{Bool, true, false, _&&_, and-assoc}
 use mathlib.Core.List.{List, [], _∷_}
 use mathlib.Core.Logic.{⊎-elim}
-use Prim.Native.Nat.{ℕ, _*_, _/_, _%_, _≤_, _<_}
+use Prim.Native.Nat.{ℕ, _*_, _/_, _%_, _≤_, _<_, max}
 use native.Mathlib.Omega.{arith}
 use lib.Dec.{leb, eqb}
 use lib.ListN.{length, getD}
@@ -12,6 +12,7 @@ use borrow.Author.Tests.{le-leb, lt-leb}
 use Rattle.bits.specs.Bits.{pick}
 use Rattle.bits.proofs.Appending.{lt-or-le}
 use Rattle.vbv.specs.Model.{farthest, modelFits}
+use Rattle.vbv.proofs.Fitting.{both-below}
 use Rattle.layers.specs.declared.PictureKind.{PictureKind}
 use Rattle.cadence.specs.Cadence.{cadenceFits}
 use Rattle.rate_control.specs.Writer.{allFit, quantiserFits, pendingFits, writerFits}
@@ -48,6 +49,10 @@ pub quantisers-told : (s : List ℕ) (a b d : Bool) → length s ≡ 3 → a ≡
     → (a && (b && d)) ≡ allFit quantiserFits s
 quantisers-told s a b d l e f g = rw (e, f, g) (all-fit-three quantiserFits s l)
 
+pub targets-told : (s : List ℕ) {g h : ℕ} → length s ≡ 3 → h ≡ max (getD s 1 0) (getD s 2 0) → g ≡ max (getD s 0 0) h → leb g farthest ≡ allFit (λ t. leb t farthest) s
+targets-told s l e f =
+    rw (f, e, both-below (getD s 0 0) (max (getD s 1 0) (getD s 2 0)) farthest, both-below (getD s 1 0) (getD s 2 0) farthest) (all-fit-three (λ t. leb t farthest) s l)
+
 -- bytes against bits
 bytes-bits : (n b : ℕ) → leb n (b / 8) ≡ leb (8 * n) b
 bytes-bits n b =
@@ -56,15 +61,25 @@ bytes-bits n b =
     (λ (h : n ≤ b / 8). le-leb n (b / 8) h ∙ sym (le-leb (8 * n) b (omega arith)))
     (lt-or-le (b / 8) n)
 
-pub writer-tested : (w : CbrWriter) (f t q p k : Bool) → f ≡ modelFits (w .model) → t ≡ allFit (λ x. leb x farthest) (w .«target_bits»)
+pub writer-tested : (w : CbrWriter) (f t q p k : Bool) (g : ℕ) → f ≡ modelFits (w .model) → g ≡ max (w .model .removed) (w .«stuffing_bytes») → t ≡ allFit (λ x. leb x farthest) (w .«target_bits»)
     → q ≡ allFit quantiserFits (w .q) → p ≡ pendingFits (w .pending) → k ≡ cadenceFits (w .cadence)
     → (f && (eqb (w .model .«prev_end_bits» % 8) 0
-    && (leb (w .model .removed) (w .model .«prev_end_bits» / 8)
-    && (leb (w .«stuffing_bytes») (w .model .«prev_end_bits» / 8) && (t && (q && (p && k)))))))
+    && (leb g (w .model .«prev_end_bits» / 8) && (t && (q && (p && k))))))
     ≡ writerFits w
 unfolding writerFits
-writer-tested w f t q p k a b d e g =
-    rw (a, b, d, e, g, bytes-bits (w .model .removed) (w .model .«prev_end_bits»), bytes-bits (w .«stuffing_bytes») (w .model .«prev_end_bits»))
+writer-tested w f t q p k g a h b d e c =
+    rw (
+      a,
+      h,
+      b,
+      d,
+      e,
+      c,
+      both-below (w .model .removed) (w .«stuffing_bytes») (w .model .«prev_end_bits» / 8),
+      bytes-bits (w .model .removed) (w .model .«prev_end_bits»),
+      bytes-bits (w .«stuffing_bytes») (w .model .«prev_end_bits»),
+    )
+    (simp and-assoc)
 
 pub pending-none : (p : Pending) → p ≡ Nothing → true ≡ pendingFits p
 unfolding pendingFits

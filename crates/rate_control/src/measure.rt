@@ -148,7 +148,7 @@ fn ended(model: VbvCbrModel, extent: Extent, interval: RemovalInterval, last: bo
     }
 }
 
-fn greater(a: u64, b: u64) -> u64
+pub(crate) fn greater(a: u64, b: u64) -> u64
     ensures { λ r. ⌜ r ≡ max a b ⌝ }
 {
     if a < b { b } else { a }

@@ -6,6 +6,7 @@ ghost use Rattle.rate_control.specs.Writer.{quantiserFits, allFit, pendi
 ghost use Rattle.vbv.specs.Model.{farthest};
 use crate::CbrWriter;
 use crate::Pending;
+use crate::measure::greater;
 use layers::PictureKind;
 use vbv::FARTHEST;
 
@@ -24,7 +25,7 @@ fn all_quantisers(q: [u8; 3]) -> bool
 fn all_targets(target_bits: [u64; 3]) -> bool
     ensures { λ r. ⌜ r ≡ allFit (λ t. leb t farthest) «target_bits» ⌝ }
 {
-    (target_bits[0] <= FARTHEST) & ((target_bits[1] <= FARTHEST) & (target_bits[2] <= FARTHEST))
+    greater(target_bits[0], greater(target_bits[1], target_bits[2])) <= FARTHEST
 }
 
 fn pending_fits(pending: Pending) -> bool
@@ -115,7 +116,8 @@ impl CbrWriter {
         }
     }
 
-    // Every field in its range. What was handed out is whole bytes, at least as many as pictures, and as bytes of stuffing.
+    // Every field in its range. What was handed out is whole bytes, at least as many as pictures, and as bytes of stuffing:
+    // both in one test, as the targets are, so that the function stays small enough to be joined with its callers.
     pub fn fits(self) -> bool
         ensures { λ r. ⌜ r ≡ writerFits self ⌝ }
     {
@@ -128,9 +130,8 @@ impl CbrWriter {
         let bytes = bits / 8;
         model.fits()
             & ((bits % 8 == 0)
-                & ((model.removed <= bytes)
-                    & ((self.stuffing_bytes <= bytes)
-                        & (all_targets(target_bits)
-                            & (all_quantisers(q) & (pending_fits(pending) & cadence.fits()))))))
+                & ((greater(model.removed, self.stuffing_bytes) <= bytes)
+                    & (all_targets(target_bits)
+                        & (all_quantisers(q) & (pending_fits(pending) & cadence.fits())))))
     }
 }

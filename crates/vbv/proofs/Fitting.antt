@@ -66,7 +66,7 @@ end-fits h =
     }
 
 -- two numbers below one bound
-both-below : (a b n : ℕ) → leb (max a b) n ≡ (leb a n && leb b n)
+pub both-below : (a b n : ℕ) → leb (max a b) n ≡ (leb a n && leb b n)
 both-below a b n = go (leb a n) refl (leb b n) refl
   where
     go : (p : Bool) → leb a n ≡ p → (q : Bool) → leb b n ≡ q → leb (max a b) n ≡ (p && q)

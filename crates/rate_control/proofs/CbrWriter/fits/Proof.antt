@@ -6,6 +6,9 @@ use Rattle.rate_control.proofs.CbrWriter.fits.Tie as tie
 fits-requires : tie.Need-fits-requires
 fits-requires c κs = search needs
 
+greater-requires : tie.Need-greater-requires
+greater-requires c κs = search needs
+
 all-targets-requires : tie.Need-all-targets-requires
 all-targets-requires c κs = search needs
 
@@ -26,6 +29,7 @@ fits-spec =
     tie.close
     (tie.spec
     fits-requires
+    greater-requires
     all-targets-requires
     all-quantisers-requires
     pending-fits-requires

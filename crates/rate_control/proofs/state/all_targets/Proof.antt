@@ -1,20 +1,33 @@
-use Rattle.rate_control.proofs.States.{all-fit-three}
+use Rattle.rate_control.proofs.States.{targets-told}
 use borrow.Author.Needs.{needs}
 use Rattle.rate_control.proofs.state.all_targets.Statement.{statement}
 use Rattle.rate_control.proofs.state.all_targets.Tie as tie
 
-array-read-result : tie.Need-array-read-result
-array-read-result c = search needs
+array-read-greater : tie.Need-array-read-greater
+array-read-greater c = search needs
 
-array-read-result-2 : tie.Need-array-read-result-2
-array-read-result-2 c = search needs
+array-read-greater-2 : tie.Need-array-read-greater-2
+array-read-greater-2 c = search needs
 
-array-read-result-3 : tie.Need-array-read-result-3
-array-read-result-3 c = search needs
+array-read-greater-3 : tie.Need-array-read-greater-3
+array-read-greater-3 c = search needs
+
+greater-requires : tie.Need-greater-requires
+greater-requires c κs = search needs
+
+greater-requires-2 : tie.Need-greater-requires-2
+greater-requires-2 c κs = search needs
 
 returns : tie.Need-returns
-returns c = all-fit-three _ _ (search needs)
+returns c = search (needs, targets-told)
 
 pub all-targets-spec : {M : Type 1} → statement M
 all-targets-spec =
-    tie.close (tie.spec array-read-result array-read-result-2 array-read-result-3 returns)
+    tie.close
+    (tie.spec
+    array-read-greater
+    array-read-greater-2
+    array-read-greater-3
+    greater-requires
+    greater-requires-2
+    returns)
