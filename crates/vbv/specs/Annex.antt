@@ -1,8 +1,8 @@
--- The video buffering verifier at a constant rate (ISO/IEC 13818-2 Annex C; 11172-2 Annex C), exact, in unbounded ℕ.
+-- The video buffering verifier (ISO/IEC 13818-2 Annex C; 11172-2 Annex C), exact, in unbounded ℕ: at a constant rate, and at a variable one, where every vbv_delay is 0xFFFF (C.3.2).
 -- Bits delivered to the buffer are counted in 1/unit bit: in these every tick of 1/90,000 s and every field period delivers a whole number.
 -- Assumes nothing.
-use Prim.Native.Nat.{ℕ, _+_, _-_, _*_, _/_}
-use mathlib.Core.Bool.{Bool}
+use Prim.Native.Nat.{ℕ, _+_, _-_, _*_, _/_, min}
+use mathlib.Core.Bool.{Bool, true, false}
 use lib.Dec.{ltb}
 use Rattle.vbv.specs.declared.VbvParams.{VbvParams}
 
@@ -39,3 +39,24 @@ greatestEnd p d = d / unit p
 
 unfoldable pub leastEnd : VbvParams → ℕ → ℕ
 leastEnd p d = (d - p .«buffer_size_bits» * unit p + (unit p - 1)) / unit p
+
+-- ---- at a variable rate, or a constant one (paper 02, request 06)
+
+-- all up to `end`, which is removed, and a full buffer
+unfoldable pub full : VbvParams → ℕ → ℕ
+full p end = (end + p .«buffer_size_bits») * unit p
+
+-- arrived at the first removal: at a variable rate the buffer is full, wherever the picture lies and whatever its delay
+abbrev pub firstArrived : Bool → VbvParams → ℕ → ℕ → ℕ
+firstArrived true p position delay = full p 0
+firstArrived false p position delay = firstDelivered p position delay
+
+-- arrived at the removal that comes so many field periods after one with d arrived, of a picture that ends at `end`: at a variable rate the buffer stays at B once it is full
+abbrev pub arrived : Bool → VbvParams → ℕ → ℕ → ℕ → ℕ
+arrived true p end d periods = min (d + gain p periods) (full p end)
+arrived false p end d periods = d + gain p periods
+
+-- 6.3.9: the delay of a picture at `position`: at a variable rate 0xFFFF, and no time is told
+abbrev pub expected : Bool → VbvParams → ℕ → ℕ → ℕ
+expected true p position d = 0xFFFF
+expected false p position d = expectedDelay p position d

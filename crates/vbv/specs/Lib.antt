@@ -6,6 +6,7 @@ pub mod Model
 pub mod Steps
 pub mod Patch
 pub mod Fractions
+pub mod Arrival
 pub mod Numbers
 pub mod Figures
 pub mod Lent

@@ -41,14 +41,26 @@ paramsFit p = paramsInRange p && ratioFits p
 unfoldable pub delivered : VbvCbrModel → ℕ
 delivered m = m .whole * unit (m .params) + m .rest
 
--- every field in its range
-unfoldable pub modelFits : VbvCbrModel → Bool
-modelFits m =
-    paramsFit (m .params)
-    && leb (m .whole) mostDelivered
+-- at a variable rate no delay is told, and the ratio is not asked (paper 02, request 06)
+abbrev pub paramsFitAt : Bool → VbvParams → Bool
+paramsFitAt true p = paramsInRange p
+paramsFitAt false p = paramsFit p
+
+-- what is counted is in its range
+unfoldable pub countsFit : VbvCbrModel → Bool
+countsFit m =
+    leb (m .whole) mostDelivered
     && ltb (m .rest) (unit (m .params))
     && leb (m .«prev_end_bits») farthest
     && leb (m .removed) farthest
+
+-- every field in its range
+unfoldable pub modelFits : VbvCbrModel → Bool
+modelFits m = paramsFit (m .params) && countsFit m
+
+-- but for the ratio
+unfoldable pub modelInRange : VbvCbrModel → Bool
+modelInRange m = paramsInRange (m .params) && countsFit m
 
 -- the state with d units delivered at the pending removal
 unfoldable pub atDelivered : VbvCbrModel → ℕ → VbvCbrModel
@@ -87,6 +99,10 @@ periods ThreeFrames = 6
 
 unfoldable pub nextDelivered : VbvCbrModel → RemovalInterval → ℕ
 nextDelivered m i = delivered m + gain (m .params) (periods i)
+
+-- the state with what the interval brings delivered too, nothing removed; whatever the ratio
+unfoldable pub gained : VbvCbrModel → RemovalInterval → Answer VbvCbrModel
+gained m i = refuse 12 (not (modelInRange m)) (value (atDelivered m (nextDelivered m i)))
 
 unfoldable pub newModel : VbvParams → Answer VbvCbrModel
 newModel p =

@@ -2,11 +2,11 @@
 -- Assumes nothing.
 use Prim.Native.Nat.{ℕ, _+_, _*_, _≤_, _<_}
 use mathlib.Core.Path.{_≡_}
-use mathlib.Core.Bool.{true}
+use mathlib.Core.Bool.{Bool, true}
 use Rattle.bits.specs.Refusals.{value, refused}
-use Rattle.vbv.specs.Annex.{firstDelivered, gain, overflows, beyond, expectedDelay, occupancy, greatestEnd, leastEnd}
+use Rattle.vbv.specs.Annex.{firstDelivered, gain, overflows, beyond, expectedDelay, occupancy, greatestEnd, leastEnd, firstArrived, arrived, expected as expectedAt}
 use Rattle.vbv.specs.Answers.{frameRate}
-use Rattle.vbv.specs.Model.{paramsFit}
+use Rattle.vbv.specs.Model.{paramsFit, paramsFitAt}
 use Rattle.vbv.specs.Params.{sameParams}
 use Rattle.vbv.specs.declared.VbvParams.{VbvParams}
 
@@ -58,6 +58,11 @@ pub record SameTold (p q : VbvParams) : Type 0 where
   pub held : (previous d e : ℕ) → SameBits p q d e → occupancy p previous d ≡ occupancy q previous e
   pub greatest-end : (d e : ℕ) → SameBits p q d e → greatestEnd p d ≡ greatestEnd q e
   pub least-end : (d e : ℕ) → SameBits p q d e → leastEnd p d ≡ leastEnd q e
+  -- at a variable rate too (request 06)
+  pub fits-at : (v : Bool) → paramsFitAt v p ≡ paramsFitAt v q
+  pub first-arrived : (v : Bool) (position delay : ℕ) → SameBits p q (firstArrived v p position delay) (firstArrived v q position delay)
+  pub next-arrived : (v : Bool) (end d e n : ℕ) → SameBits p q d e → SameBits p q (arrived v p end d n) (arrived v q end e n)
+  pub expected-at : (v : Bool) (position d e : ℕ) → SameBits p q d e → expectedAt v p position d ≡ expectedAt v q position e
 
 -- what is owed
 pub record RatesOwed : Type 0 where

@@ -39,6 +39,15 @@ pub record ModelFits (m : VbvCbrModel) : Type 0 where
   pub end-high : m .«prev_end_bits» ≤ farthest
   pub removed-high : m .removed ≤ farthest
 
+-- what the sums of an advance need: the ranges, whatever the ratio
+pub record ModelInRange (m : VbvCbrModel) : Type 0 where
+  pub rate-high : m .params .«bit_rate» ≤ 429496729200
+  pub frn-low : 1 ≤ m .params .frn
+  pub frn-high : m .params .frn ≤ 240000
+  pub frd-high : m .params .frd ≤ 32032
+  pub whole-high : m .whole ≤ mostDelivered
+  pub rest-low : m .rest < 180000 * m .params .frn
+
 pub record EndFits (m : VbvCbrModel) (end : ℕ) : Type 0 where
   pub end-far : end ≤ farthest
   pub end-low : m .«prev_end_bits» ≤ end

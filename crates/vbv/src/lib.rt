@@ -1,12 +1,13 @@
-// The exact constant-rate buffer model of Annex C, in 64 bits, and the delay in a picture header.
+// The exact constant-rate buffer model of Annex C, in 64 bits, and the delay in a picture header. (The variable-rate model is
+// crates/vbr.)
 ghost use mathlib.Core.Path.{_≡_};
 ghost use mathlib.Core.Bool.{true};
 ghost use Prim.Native.Nat.{_+_, _-_, _/_, _^_, _≤_, _<_, max};
 ghost use Rattle.vbv.specs.Annex.{unit, firstDelivered};
 ghost use Rattle.vbv.specs.Answers.{modelNumber, modelAnswer, removalAnswer, delayAnswer, modelBitsAnswer, patchAnswer, rateAnswer, codeRate, frameRate, violationRefusal};
-ghost use Rattle.vbv.specs.Steps.{ModelFits, EndFits};
+ghost use Rattle.vbv.specs.Steps.{ModelFits, ModelInRange, EndFits};
 ghost use Rattle.vbv.specs.Params.{paramsOf, sameParams};
-ghost use Rattle.vbv.specs.Model.{farthest, paramsInRange, paramsFit, delivered, modelFits, atDelivered, periods as periodsOf, nextDelivered, newModel, startModel, delayForPicture, removePicture, maxEndBits, minEndBits, occupancyBeforeRemoval};
+ghost use Rattle.vbv.specs.Model.{farthest, paramsInRange, paramsFit, delivered, countsFit, modelFits, atDelivered, periods as periodsOf, nextDelivered, modelInRange, gained, newModel, startModel, delayForPicture, removePicture, maxEndBits, minEndBits, occupancyBeforeRemoval};
 ghost use Rattle.vbv.specs.Patch.{startsPicture, patchPicture, patched};
 
 pub mod lent; // the model by reference
@@ -225,8 +226,8 @@ pub fn params_of(rate: u32, buffer: u32, frn: u64, frd: u64) -> VbvParams
 }
 
 impl VbvParams {
-    // Each parameter in its range.
-    fn in_range(self) -> bool
+    // Each parameter in its range; the ratio is not asked.
+    pub fn in_range(self) -> bool
         ensures { λ r. ⌜ r ≡ paramsInRange self ⌝ }
     {
         (1 <= self.bit_rate)
@@ -266,15 +267,36 @@ impl VbvParams {
 }
 
 impl VbvCbrModel {
+    // What is counted is in its range.
+    fn counts_fit(self) -> bool
+        requires { ⌜ self .params .frn ≤ 240000 ⌝ }
+        ensures { λ r. ⌜ r ≡ countsFit self ⌝ }
+    {
+        let params = self.params;
+        (self.whole <= MOST_DELIVERED)
+            & (self.rest < 180000 * params.frn)
+            & (greater(self.prev_end_bits, self.removed) <= FARTHEST)
+    }
+
     // Every field in its range.
     pub fn fits(self) -> bool
         ensures { λ r. ⌜ r ≡ modelFits self ⌝ }
     {
         let params = self.params;
         if params.fit() {
-            (self.whole <= MOST_DELIVERED)
-                & (self.rest < 180000 * params.frn)
-                & (greater(self.prev_end_bits, self.removed) <= FARTHEST)
+            self.counts_fit()
+        } else {
+            false
+        }
+    }
+
+    // Every field in its range; the ratio is not asked.
+    pub fn in_range(self) -> bool
+        ensures { λ r. ⌜ r ≡ modelInRange self ⌝ }
+    {
+        let params = self.params;
+        if params.in_range() {
+            self.counts_fit()
         } else {
             false
         }
@@ -449,7 +471,7 @@ impl VbvCbrModel {
 
     // The removal after the pending one becomes the pending one.
     fn advanced(self, interval: RemovalInterval) -> VbvCbrModel
-        requires { ⌜ ModelFits self ⌝ }
+        requires { ⌜ ModelInRange self ⌝ }
         ensures { λ r. ⌜ r ≡ atDelivered self (nextDelivered self interval) ⌝ }
     {
         let params = self.params;
@@ -465,6 +487,17 @@ impl VbvCbrModel {
             prev_end_bits: self.prev_end_bits,
             removed: self.removed,
             started: true,
+        }
+    }
+
+    // What the interval brings is delivered too, whatever the ratio; nothing is removed.
+    pub fn gained(self, interval: RemovalInterval) -> VbvModel
+        ensures { λ r. ⌜ modelAnswer r ≡ gained self interval ⌝ }
+    {
+        if self.in_range() {
+            VbvModel::Model(self.advanced(interval))
+        } else {
+            VbvModel::Refused(VbvError::Params)
         }
     }
 

@@ -1,0 +1,4 @@
+pub mod Variable
+pub mod Steps
+pub mod Figures
+pub mod Numbers
