@@ -89,21 +89,20 @@ pub(crate) fn list(s: &[u8], out: &mut [u8], given: &mut [u64]) -> usize {
     }
 }
 
-// The mode of its number; MPEG-1 with film, which is none, is 5.
+// The mode of its number: the standard, 4 more for film and 8 more for a variable rate. Those of MPEG-1 with either are none.
 fn mode(number: u8) -> VbvMode {
-    match number {
-        1 => VbvMode::plain(VbvStandard::Mpeg1),
-        2 => VbvMode::plain(VbvStandard::Mpeg2),
-        5 => film(VbvStandard::Mpeg1),
-        _ => film(VbvStandard::Mpeg2),
+    VbvMode {
+        standard: standard(number % 4),
+        film: number / 4 % 2 == 1,
+        variable: 8 <= number,
     }
 }
 
-fn film(standard: VbvStandard) -> VbvMode {
-    VbvMode {
-        standard,
-        film: true,
+fn standard(number: u8) -> VbvStandard {
+    if number == 1 {
+        return VbvStandard::Mpeg1;
     }
+    VbvStandard::Mpeg2
 }
 
 // Creation's byte and the targets, and what each call is answered.
@@ -399,7 +398,7 @@ fn put_writer(out: &mut [u8], at: usize, w: CbrWriter) -> usize {
     let pending = put_bytes(out, at, &q);
     let finished = put_pending(out, pending, waiting);
     let mode = put(out, finished, w.finished as u8);
-    let next = put_cadence(out, mode, cadence);
+    let next = put_cadence(out, mode, w.variable, cadence);
     let words = [
         w.stuffing_bytes,
         model.whole,
@@ -411,10 +410,10 @@ fn put_writer(out: &mut [u8], at: usize, w: CbrWriter) -> usize {
 }
 
 // The mode's number, the sequence's flags, the previous anchor's, and the open field.
-fn put_cadence(out: &mut [u8], at: usize, k: VbvCadence) -> usize {
+fn put_cadence(out: &mut [u8], at: usize, variable: bool, k: VbvCadence) -> usize {
     let waiting = k.waiting;
     let bytes = [
-        mode_number(k.film),
+        mode_number(k.film, variable),
         k.progressive as u8,
         k.low_delay as u8,
         k.repeat as u8,
@@ -424,11 +423,8 @@ fn put_cadence(out: &mut [u8], at: usize, k: VbvCadence) -> usize {
     put_bytes(out, at, &bytes)
 }
 
-fn mode_number(film: bool) -> u8 {
-    if film {
-        return 6;
-    }
-    2
+fn mode_number(film: bool, variable: bool) -> u8 {
+    2 + 4 * (film as u8) + 8 * (variable as u8)
 }
 
 fn open_code(waiting: OpenField) -> u8 {

@@ -1,7 +1,7 @@
 // Compares the buffer model and the check of streams: reads cases with the original's answers (oracle/FORMAT.md, kinds 14 to
-// 18 and 20 to 23), works each answer out with the functions of `vbv` and `verify`, and prints how many cases there were and how
+// 18 and 20 to 27), works each answer out with the functions of `vbv` and `verify`, and prints how many cases there were and how
 // many differ.
-mod checked; // kinds 17, 18 and 20 to 23
+mod checked; // kinds 17, 18 and 20 to 27
 mod model; // kinds 14 to 16
 
 use verify::VbvMode;
@@ -15,25 +15,31 @@ fn answer(kind: u8, input: &[u8], out: &mut [u8]) -> usize {
         16 => model::patch(input, out),
         17 => checked::check(input, VbvStandard::Mpeg1, out),
         18 => checked::check(input, VbvStandard::Mpeg2, out),
-        20..=23 => checked::check_in_mode(input, mode(kind), out),
+        20..=27 => checked::check_in_mode(input, mode(kind), out),
         _ => 0,
     }
 }
 
+// At a constant rate up to 23, then at a variable one.
 fn mode(kind: u8) -> VbvMode {
     match kind {
-        20 => film(VbvStandard::Mpeg2),
-        21 => VbvMode::plain(VbvStandard::Mpeg2),
-        22 => VbvMode::plain(VbvStandard::Mpeg1),
-        _ => film(VbvStandard::Mpeg1),
+        20 => of(VbvStandard::Mpeg2, true, false),
+        21 => of(VbvStandard::Mpeg2, false, false),
+        22 => of(VbvStandard::Mpeg1, false, false),
+        23 => of(VbvStandard::Mpeg1, true, false),
+        24 => of(VbvStandard::Mpeg2, false, true),
+        25 => of(VbvStandard::Mpeg2, true, true),
+        26 => of(VbvStandard::Mpeg1, false, true),
+        _ => of(VbvStandard::Mpeg1, true, true),
     }
 }
 
-// There is none of MPEG-1.
-fn film(standard: VbvStandard) -> VbvMode {
+// Of MPEG-1 there is neither film nor a variable rate.
+fn of(standard: VbvStandard, film: bool, variable: bool) -> VbvMode {
     VbvMode {
         standard,
-        film: true,
+        film,
+        variable,
     }
 }
 

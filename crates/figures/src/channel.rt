@@ -29,6 +29,7 @@ fn mode(film: bool) -> VbvMode {
     VbvMode {
         standard: VbvStandard::Mpeg2,
         film,
+        variable: false,
     }
 }
 

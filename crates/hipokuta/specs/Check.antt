@@ -14,7 +14,7 @@ use Rattle.bits.specs.Refusals.{Answer, value, refused, refuse, number}
 use Rattle.scan.specs.Pictures.{pictures}
 use Rattle.verify.specs.Check.{Accepted, verdict, reported}
 use Rattle.verify.specs.Layout.{recordSize, recordsBytes}
-use Rattle.verify.specs.Mode.{plain, film}
+use Rattle.verify.specs.Mode.{plain, film, mpeg2}
 use Rattle.pictures.specs.declared.VbvStandard.the-variants.{Mpeg1, Mpeg2}
 use Rattle.verify.specs.declared.VbvStreamReport.{VbvStreamReport}
 use Rattle.words.specs.Words.{wordsBytes, laid}
@@ -72,14 +72,16 @@ pub record Beside (s : List ℕ) (mode : ℕ) (report recs refusal : List ℕ) :
 abbrev pub OwedOfReports : Type 0
 OwedOfReports = (s : List ℕ) (mode : ℕ) (report recs refusal : List ℕ) → Beside s mode report recs refusal
 
--- ---- the modes of both (request 05)
+-- ---- the modes of both (requests 05 and 06)
 
--- with places that are long enough: 1 is MPEG-1, 2 MPEG-2 and 6 MPEG-2 film, and there is no other
+-- with places that are long enough: 1 is MPEG-1, 2 MPEG-2 and 6 MPEG-2 film, 10 and 14 these two at a variable rate, and there is no other
 pub record Modes (s report recs refusal : List ℕ) : Type 0 where
   pub mpeg-1 : checked s 1 report recs refusal ≡ verdict (plain Mpeg1) s (length recs / recordSize)
   pub mpeg-2 : checked s 2 report recs refusal ≡ verdict (plain Mpeg2) s (length recs / recordSize)
   pub film-2 : checked s 6 report recs refusal ≡ verdict film s (length recs / recordSize)
-  pub no-mode : (mode : ℕ) → (mode ≡ 1 → ⊥) → (mode ≡ 2 → ⊥) → (mode ≡ 6 → ⊥)
+  pub variable-2 : checked s 10 report recs refusal ≡ verdict (mpeg2 false true) s (length recs / recordSize)
+  pub film-variable-2 : checked s 14 report recs refusal ≡ verdict (mpeg2 true true) s (length recs / recordSize)
+  pub no-mode : (mode : ℕ) → (mode ≡ 1 → ⊥) → (mode ≡ 2 → ⊥) → (mode ≡ 6 → ⊥) → (mode ≡ 10 → ⊥) → (mode ≡ 14 → ⊥)
       → (checked s mode report recs refusal ≡ refused 12 0 0 0) × (reportAlone s mode report refusal ≡ refused 12 0 0 0)
 
 -- what is owed

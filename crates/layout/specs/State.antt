@@ -3,7 +3,7 @@
 -- Assumes nothing.
 use Prim.Native.Nat.{ℕ, _+_}
 use mathlib.Core.List.{List, [], _∷_, _++_}
-use mathlib.Core.Bool.{Bool, true, false, _&&_, _||_}
+use mathlib.Core.Bool.{Bool, true, false, not, _&&_}
 use lib.Dec.{leb, eqb}
 use lib.ListN.{length}
 use Rattle.bits.specs.Bits.{pick}
@@ -12,14 +12,14 @@ use Rattle.layers.specs.declared.PictureKind.the-variants.{I, P, B}
 use Rattle.cadence.specs.declared.OpenField.{OpenField}
 use Rattle.cadence.specs.declared.OpenField.the-variants.{Closed, LedByAnchor, LedByOther}
 use Rattle.cadence.specs.declared.VbvCadence.{VbvCadence}
-use Rattle.pictures.specs.declared.VbvStandard.the-variants.{Mpeg2}
+use Rattle.verify.specs.Mode.{mpeg2}
 use Rattle.rate_control.specs.Create.{noWriter}
 use Rattle.rate_control.specs.Writer.{index, writerFits}
 use Rattle.rate_control.specs.declared.Pending.{Pending}
 use Rattle.rate_control.specs.declared.Pending.the-variants.{Nothing, Waits}
 use Rattle.rate_control.specs.declared.CbrWriter.{CbrWriter}
 use Rattle.words.specs.Words.{wordsBytes, wordAt}
-use Rattle.layout.specs.Mode.{modeNumber}
+use Rattle.layout.specs.Mode.{modeNumber, isMode, modeFor}
 use Rattle.layout.specs.declared.CbrState.{CbrState}
 
 -- twenty-five words of 8 bytes
@@ -45,9 +45,9 @@ openCode LedByAnchor = 1
 openCode LedByOther = 2
 
 -- mode, progressive_sequence, low_delay, the previous anchor's repeat_first_field and top_field_first, the open field
-unfoldable pub cadenceWords : VbvCadence → List ℕ
-cadenceWords k =
-    modeNumber (record { standard = Mpeg2; film = k .film })
+unfoldable pub cadenceWords : Bool → VbvCadence → List ℕ
+cadenceWords variable k =
+    modeNumber (mpeg2 (k .film) variable)
     ∷ flagOf (k .progressive)
     ∷ flagOf (k .«low_delay»)
     ∷ flagOf (k .repeat)
@@ -67,7 +67,7 @@ stateWords w =
     ∷ w .model .removed
     ∷ flagOf (w .model .started)
     ∷ (w .«target_bits»
-    ++ (w .q ++ (pendingCode (w .pending) ∷ pendingQuantiser (w .pending) ∷ w .«stuffing_bytes» ∷ flagOf (w .finished) ∷ cadenceWords (w .cadence))))
+    ++ (w .q ++ (pendingCode (w .pending) ∷ pendingQuantiser (w .pending) ∷ w .«stuffing_bytes» ∷ flagOf (w .finished) ∷ cadenceWords (w .variable) (w .cadence))))
 
 unfoldable pub stateBytes : CbrWriter → List ℕ
 stateBytes w = wordsBytes (stateWords w)
@@ -84,10 +84,10 @@ pendingOf code q =
 unfoldable pub openOf : ℕ → OpenField
 openOf code = pick (eqb code 0) Closed (pick (eqb code 1) LedByAnchor LedByOther)
 
--- the mode of a writer, flags, an open field
+-- the mode of a writer, which is not MPEG-1's; flags, an open field
 unfoldable pub cadenceCodesFit : List ℕ → Bool
 cadenceCodesFit s =
-    (eqb (wordAt s 19) 2 || eqb (wordAt s 19) 6)
+    (isMode (wordAt s 19) && not (eqb (wordAt s 19) 1))
     && (leb (wordAt s 20) 1
     && (leb (wordAt s 21) 1
     && (leb (wordAt s 22) 1
@@ -105,7 +105,7 @@ codesFit s =
 
 unfoldable pub cadenceIn : List ℕ → VbvCadence
 cadenceIn s = record {
-  film = eqb (wordAt s 19) 6;
+  film = modeFor (wordAt s 19) .film;
   progressive = eqb (wordAt s 20) 1;
   «low_delay» = eqb (wordAt s 21) 1;
   repeat = eqb (wordAt s 22) 1;
@@ -136,6 +136,7 @@ writerAt s = record {
   «stuffing_bytes» = wordAt s 17;
   finished = eqb (wordAt s 18) 1;
   cadence = cadenceIn s;
+  variable = modeFor (wordAt s 19) .variable;
 }
 
 unfoldable pub stateFits : List ℕ → Bool

@@ -4,18 +4,25 @@ ghost use Rattle.layout.specs.Mode.{isMode, modeFor};
 use verify::VbvMode;
 use verify::VbvStandard;
 
-// The modes: MPEG-1, MPEG-2 and MPEG-2 film.
+// The modes: MPEG-1, MPEG-2 and MPEG-2 film, and the last two at a variable rate.
 pub const MPEG1: u64 = 1;
 
 pub const MPEG2: u64 = 2;
 
 pub const MPEG2_FILM: u64 = 6;
 
+pub const MPEG2_VARIABLE: u64 = 10;
+
+pub const MPEG2_FILM_VARIABLE: u64 = 14;
+
 // Whether a number is a mode's.
 pub fn is_mode(number: u64) -> bool
     ensures { λ r. ⌜ r ≡ isMode number ⌝ }
 {
-    (number == MPEG1) | ((number == MPEG2) | (number == MPEG2_FILM))
+    (number == MPEG1)
+        | ((number == MPEG2)
+            | ((number == MPEG2_FILM)
+                | ((number == MPEG2_VARIABLE) | (number == MPEG2_FILM_VARIABLE))))
 }
 
 // The mode of a number.
@@ -25,11 +32,9 @@ pub fn mode_for(number: u64) -> VbvMode
     if number == MPEG1 {
         return VbvMode::plain(VbvStandard::Mpeg1);
     }
-    if number == MPEG2 {
-        return VbvMode::plain(VbvStandard::Mpeg2);
-    }
     VbvMode {
         standard: VbvStandard::Mpeg2,
-        film: true,
+        film: (number == MPEG2_FILM) | (number == MPEG2_FILM_VARIABLE),
+        variable: (number == MPEG2_VARIABLE) | (number == MPEG2_FILM_VARIABLE),
     }
 }

@@ -4,14 +4,19 @@ ghost use mathlib.Core.Bool.{false};
 ghost use Rattle.headers.specs.Answers.{flagOf};
 ghost use Rattle.rate_control.specs.Create.{noWriter};
 ghost use Rattle.words.specs.Words.{laid};
-ghost use Rattle.pictures.specs.declared.VbvStandard.the-variants.{Mpeg2};
+ghost use Rattle.verify.specs.Mode.{mpeg2};
 ghost use Rattle.layout.specs.Mode.{modeNumber};
 ghost use Rattle.layout.specs.State.{pendingCode, pendingQuantiser, openCode, pendingOf, openOf, cadenceCodesFit, cadenceIn, writerAt, stateBytes, stateAt};
 ghost use Rattle.layout.specs.Steps.{Narrow, narrow};
 use crate::CbrState;
 use crate::STATE_BYTES;
+use crate::mode::MPEG1;
 use crate::mode::MPEG2;
 use crate::mode::MPEG2_FILM;
+use crate::mode::MPEG2_FILM_VARIABLE;
+use crate::mode::MPEG2_VARIABLE;
+use crate::mode::is_mode;
+use crate::mode::mode_for;
 use cadence::OpenField;
 use cadence::VbvCadence;
 use layers::PictureKind;
@@ -64,9 +69,16 @@ fn open_code(waiting: OpenField) -> u64
 }
 
 // The mode of a writer.
-fn mode_word(film: bool) -> u64
-    ensures { λ r. ⌜ r ≡ modeNumber (record { standard = Mpeg2; film = film }) ⌝ }
+fn mode_word(film: bool, variable: bool) -> u64
+    ensures { λ r. ⌜ r ≡ modeNumber (mpeg2 film variable) ⌝ }
 {
+    if variable {
+        return if film {
+            MPEG2_FILM_VARIABLE
+        } else {
+            MPEG2_VARIABLE
+        };
+    }
     if film { MPEG2_FILM } else { MPEG2 }
 }
 
@@ -104,7 +116,7 @@ pub fn put_state(place: &mut [u8], writer: CbrWriter)
         pending_quantiser(pending),
         writer.stuffing_bytes,
         flag(writer.finished),
-        mode_word(cadence.film),
+        mode_word(cadence.film, writer.variable),
         flag(cadence.progressive),
         flag(cadence.low_delay),
         flag(cadence.repeat),
@@ -138,7 +150,7 @@ fn cadence_fits(place: &[u8]) -> bool
     ensures { λ r. ⌜ r ≡ cadenceCodesFit (now (place .entry)) ⌝ }
 {
     let mode = word_at(place, 19);
-    ((mode == MPEG2) | (mode == MPEG2_FILM))
+    (is_mode(mode) & (mode != MPEG1))
         & ((word_at(place, 20) <= 1)
             & ((word_at(place, 21) <= 1)
                 & ((word_at(place, 22) <= 1)
@@ -184,8 +196,9 @@ fn open_at(code: u64) -> OpenField
 fn cadence_at(place: &[u8]) -> VbvCadence
     ensures { λ r. ⌜ r ≡ cadenceIn (now (place .entry)) ⌝ }
 {
+    let mode = mode_for(word_at(place, 19));
     VbvCadence {
-        film: word_at(place, 19) == MPEG2_FILM,
+        film: mode.film,
         progressive: word_at(place, 20) == 1,
         low_delay: word_at(place, 21) == 1,
         repeat: word_at(place, 22) == 1,
@@ -204,6 +217,7 @@ fn writer_at(place: &[u8]) -> CbrWriter
     let p = word_at(place, 13) as u8;
     let b = word_at(place, 14) as u8;
     let waits = word_at(place, 16) as u8;
+    let mode = mode_for(word_at(place, 19));
     CbrWriter {
         model,
         target_bits,
@@ -212,6 +226,7 @@ fn writer_at(place: &[u8]) -> CbrWriter
         stuffing_bytes: word_at(place, 17),
         finished: word_at(place, 18) == 1,
         cadence: cadence_at(place),
+        variable: mode.variable,
     }
 }
 

@@ -1,4 +1,4 @@
--- Creation of a writer (paper 01, 'A placed picture'; requests 02 and 05): 12 for a mode or a range, 6 for the rate code, 12 for the ratio.
+-- Creation of a writer (paper 01, 'A placed picture'; requests 02, 05 and 06): 12 for a mode or a range, 6 for the rate code, at a constant rate 12 for the ratio.
 -- Assumes nothing.
 use Prim.Native.Nat.{ℕ}
 use mathlib.Core.List.{[], _∷_}
@@ -7,7 +7,7 @@ use lib.Dec.{leb}
 use Rattle.bits.specs.Refusals.{Answer, value, refuse, andThen}
 use Rattle.vbv.specs.Params.{paramsOf}
 use Rattle.vbv.specs.Answers.{frameRate}
-use Rattle.vbv.specs.Model.{newModel}
+use Rattle.vbr.specs.Variable.{newModelAt}
 use Rattle.vbv.specs.declared.VbvParams.{VbvParams}
 use Rattle.vbv.specs.declared.VbvCbrModel.{VbvCbrModel}
 use Rattle.cadence.specs.Cadence.{opened}
@@ -22,7 +22,7 @@ use Rattle.rate_control.specs.declared.CbrWriter.{CbrWriter}
 unfoldable pub within : ℕ → ℕ → ℕ → Bool
 within low high v = leb low v && leb v high
 
--- a writer writes MPEG-2, plain or film
+-- a writer writes MPEG-2, plain or film, at a constant or a variable rate
 unfoldable pub isWritten : VbvStandard → Bool
 isWritten Mpeg1 = false
 isWritten Mpeg2 = true
@@ -51,13 +51,14 @@ freshWriter c m = record {
   «stuffing_bytes» = 0;
   finished = false;
   cadence = opened (c .mode .film) false false;
+  variable = c .mode .variable;
 }
 
 unfoldable pub create : CbrConfig → Answer CbrWriter
 create c =
     refuse 12 (not (configFits c))
     (andThen (frameRate (c .«frame_rate_code») (c .«frame_rate_extension_n») (c .«frame_rate_extension_d»)) (λ f.
-    andThen (newModel (writerParams c f)) (λ m.
+    andThen (newModelAt (c .mode .variable) (writerParams c f)) (λ m.
     value (freshWriter c m))))
 
 -- beside a refusal stands a writer of no use: all zeros, so that every call refuses it
@@ -70,4 +71,5 @@ noWriter = record {
   «stuffing_bytes» = 0;
   finished = false;
   cadence = opened false false false;
+  variable = false;
 }

@@ -10,7 +10,7 @@ use lib.ListN.{length, take, drop, replicate, set}
 use Rattle.bits.specs.Bits.{pick}
 use Rattle.bits.specs.Refusals.{Answer, value, refused}
 use Rattle.rate_control.specs.Create.{writerParams}
-use Rattle.vbv.specs.Annex.{unit, firstDelivered, gain, expectedDelay}
+use Rattle.vbv.specs.Annex.{unit, firstArrived, arrived, expected}
 use Rattle.vbv.specs.Model.{farthest, periods}
 use Rattle.vbv.specs.Patch.{patched}
 use Rattle.vbv.specs.Answers.{frameRate}
@@ -37,8 +37,8 @@ use Rattle.rate_control.specs.declared.CbrWriter.{CbrWriter}
 
 -- ---- what is known between two calls
 
--- bytes handed out, the zeros among them, pictures placed, units delivered at the next removal (unread until a picture is placed), the quantisers of I, P and B, the picture to be
--- offered again, whether the last picture is placed, and the cadence (its flags unread until a picture is placed)
+-- bytes handed out, the zeros among them, pictures placed, units arrived at the next removal (unread until a picture is placed), the quantisers of I, P and B, the picture to be
+-- offered again, whether the last picture is placed, the cadence (its flags unread until a picture is placed), and whether the rate is variable
 pub record Known : Type 0 where
   pub bytes : ℕ
   pub stuffing : ℕ
@@ -48,6 +48,7 @@ pub record Known : Type 0 where
   pub pending : Pending
   pub finished : Bool
   pub cadence : VbvCadence
+  pub variable : Bool
 
 -- after creation
 abbrev pub atFirst : CbrConfig → Known
@@ -60,14 +61,15 @@ atFirst c = record {
   pending = Nothing;
   finished = false;
   cadence = opened (c .mode .film) false false;
+  variable = c .mode .variable;
 }
 
 abbrev pub anyPlaced : Known → Bool
 anyPlaced x = ltb 0 (x .pictures)
 
--- units delivered at this picture's removal: until a picture is placed, from the offer's own headers and the first delay
+-- units arrived at this picture's removal: until a picture is placed, from the offer's own headers and the first delay; at a variable rate a full buffer (request 06)
 abbrev pub deliveredFor : VbvParams → Known → Offer → ℕ
-deliveredFor p x o = pick (anyPlaced x) (x .delivered) (firstDelivered p (positionOf (x .bytes) o) (firstDelay p))
+deliveredFor p x o = pick (anyPlaced x) (x .delivered) (firstArrived (x .variable) p (positionOf (x .bytes) o) (firstDelay p))
 
 -- the cadence before it: until a picture is placed, the one that the offer's own headers open (request 05)
 abbrev pub cadenceFor : Known → Offer → VbvCadence
@@ -94,6 +96,7 @@ pendingNow x y = record {
   pending = y;
   finished = x .finished;
   cadence = x .cadence;
+  variable = x .variable;
 }
 
 -- after an offer's answer, the targets being t: of a refusal only 21 changes anything
@@ -102,11 +105,12 @@ knownAfterOffer p t x o (value (placed q delay bytes stuffing)) = record {
   bytes = x .bytes + bytes;
   stuffing = x .stuffing + stuffing;
   pictures = suc (x .pictures);
-  delivered = deliveredFor p x o + gain p (periods (lastsIn x o));
+  delivered = arrived (x .variable) p (8 * (x .bytes + bytes)) (deliveredFor p x o) (periods (lastsIn x o));
   q = set (x .q) (index (o .kind)) (steered q (of (o .kind) t) (8 * length (o .layer)));
   pending = Nothing;
   finished = o .last;
   cadence = after (cadenceFor x o) (factsFor o);
+  variable = x .variable;
 }
 knownAfterOffer p t x o (value (again q)) = pendingNow x (Waits (o .kind) q)
 knownAfterOffer p t x o (refused n picture coded expected) = pick (eqb n 21) (pendingNow x Nothing) x
@@ -138,6 +142,7 @@ holding p t x = record {
   «stuffing_bytes» = x .stuffing;
   finished = x .finished;
   cadence = x .cadence;
+  variable = x .variable;
 }
 
 -- ---- the tests, in paper 01's order
@@ -156,14 +161,14 @@ pub record Fitting (p : VbvParams) (x : Known) (o : Offer) : Type 0 where
 -- passed: 17, 18, 20, 14; z is the zero bytes due
 pub record Near (p : VbvParams) (x : Known) (o : Offer) (z : ℕ) : Type 0 where
   pub fitting : Fitting p x o
-  pub stuffs : Stuffs p (x .bytes) (deliveredFor p x o) (lastsIn x o) o z
+  pub stuffs : Stuffs (x .variable) p (x .bytes) (deliveredFor p x o) (lastsIn x o) o z
   pub position-near : positionOf (x .bytes) o ≤ farthest
   pub end-near : contentOf (x .bytes) o + 8 * z ≤ farthest
 
--- passed: 17, 18, 20, 14, 7, 9
+-- passed: 17, 18, 20, 14, 7, 9; at a variable rate 7 is not asked
 pub record OnTime (p : VbvParams) (x : Known) (o : Offer) (z : ℕ) : Type 0 where
   pub near : Near p x o z
-  pub in-time : positionOf (x .bytes) o * unit p ≤ deliveredFor p x o
+  pub in-time : x .variable ≡ false → positionOf (x .bytes) o * unit p ≤ deliveredFor p x o
   pub no-overflow : deliveredFor p x o ≤ (8 * x .bytes + p .«buffer_size_bits») * unit p
 
 -- passed: 17, 18, 20, 14, 7, 9, size, 22
@@ -171,12 +176,12 @@ pub record AllDelivered (p : VbvParams) (x : Known) (o : Offer) (z : ℕ) : Type
   pub on-time : OnTime p x o z
   pub end-delivered : (contentOf (x .bytes) o + 8 * z) * unit p ≤ deliveredFor p x o
 
--- the bytes to place, and the delay: the first one, then what Annex C expects
+-- the bytes to place, and the delay: the first one, then what Annex C expects; at a variable rate always 0xFFFF
 abbrev pub sizeOf : Offer → ℕ → ℕ
 sizeOf o z = length (o .headers) + length (o .layer) + z + length (endCode (o .last))
 
 abbrev pub delayFor : VbvParams → Known → Offer → ℕ
-delayFor p x o = pick (anyPlaced x) (expectedDelay p (positionOf (x .bytes) o) (x .delivered)) (firstDelay p)
+delayFor p x o = pick (x .variable) 0xFFFF (pick (anyPlaced x) (expected false p (positionOf (x .bytes) o) (x .delivered)) (firstDelay p))
 
 -- ---- an offer's answer
 
@@ -186,17 +191,17 @@ pub data Due (p : VbvParams) (x : Known) (o : Offer) : Answer Given → Type 0 w
   bad-layer : (OutOfTurn x o → ⊥) → headersFit p (anyPlaced x) (o .headers) ≡ true
       → layerFits (x .cadence .film) (o .kind) (o .interval) (o .layer) ≡ false → Due p x o (refused 20 0 0 0)
   far-position : Fitting p x o → farthest < positionOf (x .bytes) o → Due p x o (refused 14 0 0 0)
-  far-end : {z : ℕ} → Fitting p x o → Stuffs p (x .bytes) (deliveredFor p x o) (lastsIn x o) o z → farthest < contentOf (x .bytes) o + 8 * z
+  far-end : {z : ℕ} → Fitting p x o → Stuffs (x .variable) p (x .bytes) (deliveredFor p x o) (lastsIn x o) o z → farthest < contentOf (x .bytes) o + 8 * z
       → Due p x o (refused 14 0 0 0)
   -- the last condition of these two is added: it always holds where they arise, for before a placing the position is always delivered, and after one the stuffing keeps overflow away.
-  -- So a 9 names picture 0, and no delay, since none was coded (docs/DECISIONS.md 40)
-  early-position : {z : ℕ} → Near p x o z → deliveredFor p x o < positionOf (x .bytes) o * unit p → 1 ≤ x .pictures → Due p x o (refused 7 0 0 0)
-  overflowing : {z : ℕ} → Near p x o z → positionOf (x .bytes) o * unit p ≤ deliveredFor p x o
+  -- So a 9 names picture 0, and no delay, since none was coded (docs/DECISIONS.md 40). 'never 7, 9 or 22' at a variable rate (request 06): of 9 and 22 this is added too
+  early-position : {z : ℕ} → x .variable ≡ false → Near p x o z → deliveredFor p x o < positionOf (x .bytes) o * unit p → 1 ≤ x .pictures → Due p x o (refused 7 0 0 0)
+  overflowing : {z : ℕ} → x .variable ≡ false → Near p x o z → positionOf (x .bytes) o * unit p ≤ deliveredFor p x o
       → (8 * x .bytes + p .«buffer_size_bits») * unit p < deliveredFor p x o → x .pictures ≡ 0 → Due p x o (refused 9 0 0 0)
   too-large : {z : ℕ} → OnTime p x o z → deliveredFor p x o < contentOf (x .bytes) o * unit p → askedFor x o < 31
       → Due p x o (value (again (coarser (askedFor x o))))
   largest : {z : ℕ} → OnTime p x o z → deliveredFor p x o < contentOf (x .bytes) o * unit p → askedFor x o ≡ 31 → Due p x o (refused 21 0 0 0)
-  no-edge : {z : ℕ} → OnTime p x o z → contentOf (x .bytes) o * unit p ≤ deliveredFor p x o
+  no-edge : {z : ℕ} → x .variable ≡ false → OnTime p x o z → contentOf (x .bytes) o * unit p ≤ deliveredFor p x o
       → deliveredFor p x o < (contentOf (x .bytes) o + 8 * z) * unit p → Due p x o (refused 22 0 0 0)
   no-room : {z : ℕ} → AllDelivered p x o z → length (o .out) < sizeOf o z → Due p x o (refused 19 0 0 0)
   room : {z : ℕ} → AllDelivered p x o z → sizeOf o z ≤ length (o .out)
@@ -234,14 +239,14 @@ pub record Ranges (c : CbrConfig) : Type 0 where
 abbrev pub targetsOf : CbrConfig → ℕ × ℕ → List ℕ
 targetsOf c f = targets (writerParams c f) (c .«b_between») (c .«anchors_per_gop»)
 
--- 12 for a range, 6 for the rate code, 12 for the ratio; else a writer that holds what is known at first
+-- 12 for a range, 6 for the rate code, at a constant rate 12 for the ratio; else a writer that holds what is known at first
 pub data CreationDue (c : CbrConfig) : Answer CbrWriter → Type 0 where
   bad-range : (Ranges c → ⊥) → CreationDue c (refused 12 0 0 0)
   bad-code : Ranges c → (1 ≤ c .«frame_rate_code» → c .«frame_rate_code» ≤ 8 → ⊥) → CreationDue c (refused 6 0 0 0)
-  bad-ratio : {f : ℕ × ℕ} → Ranges c → 1 ≤ c .«frame_rate_code» → c .«frame_rate_code» ≤ 8 → frameRate (c .«frame_rate_code») (c .«frame_rate_extension_n») (c .«frame_rate_extension_d») ≡ value f
+  bad-ratio : {f : ℕ × ℕ} → c .mode .variable ≡ false → Ranges c → 1 ≤ c .«frame_rate_code» → c .«frame_rate_code» ≤ 8 → frameRate (c .«frame_rate_code») (c .«frame_rate_extension_n») (c .«frame_rate_extension_d») ≡ value f
       → 65534 * writerParams c f .«bit_rate» < 90000 * writerParams c f .«buffer_size_bits» → CreationDue c (refused 12 0 0 0)
   created : {f : ℕ × ℕ} → Ranges c → 1 ≤ c .«frame_rate_code» → c .«frame_rate_code» ≤ 8 → frameRate (c .«frame_rate_code») (c .«frame_rate_extension_n») (c .«frame_rate_extension_d») ≡ value f
-      → 90000 * writerParams c f .«buffer_size_bits» ≤ 65534 * writerParams c f .«bit_rate»
+      → (c .mode .variable ≡ false → 90000 * writerParams c f .«buffer_size_bits» ≤ 65534 * writerParams c f .«bit_rate»)
       → CreationDue c (value (holding (writerParams c f) (targetsOf c f) (atFirst c)))
 
 -- ---- of a list

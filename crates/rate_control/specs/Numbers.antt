@@ -7,7 +7,7 @@ use Rattle.rate_control.specs.Offer.{Offer, offer, withdraw}
 use Rattle.rate_control.specs.declared.CbrConfig.{CbrConfig}
 use Rattle.rate_control.specs.declared.CbrWriter.{CbrWriter}
 
--- what is owed
+-- what is owed (of a variable writer's 7, 9 and 22: `never` of `Demand`)
 pub record WriterNumbers : Type 0 where
   pub creation : (c : CbrConfig) → Numbered (12 ∷ 6 ∷ []) [] [] (create c)
   pub offers : (w : CbrWriter) (o : Offer) → Numbered (12 ∷ 17 ∷ 18 ∷ 20 ∷ 14 ∷ 7 ∷ 21 ∷ 22 ∷ 19 ∷ []) (9 ∷ []) [] (offer w o)

@@ -1,14 +1,14 @@
--- An offer and a withdrawal (paper 01, 'A placed picture'; paper 02, request 05): in this order 12 for the state, then 17, 18, 20, 14, 7, 9, size, 22, 19; else the picture is placed.
+-- An offer and a withdrawal (paper 01, 'A placed picture'; paper 02, requests 05 and 06): in this order 12 for the state, then 17, 18, 20, 14, 7, 9, size, 22, 19; else the picture is placed. At a variable rate 7 is not asked: a picture whose start has not arrived is too large.
 -- Assumes nothing.
 use Prim.Native.Nat.{ℕ, _+_, _-_, _*_, _/_}
 use mathlib.Core.List.{List, [], _++_}
-use mathlib.Core.Bool.{Bool, true, false, not, _||_}
+use mathlib.Core.Bool.{Bool, true, false, not, _&&_, _||_}
 use lib.Dec.{ltb, eqb}
 use lib.ListN.{length, replicate, set}
 use Rattle.bits.specs.Bits.{pick}
 use Rattle.bits.specs.Answers.{over}
 use Rattle.bits.specs.Refusals.{Answer, value, refused, refuse, violate}
-use Rattle.vbv.specs.Annex.{firstDelivered, gain, overflows, beyond, expectedDelay, leastEnd}
+use Rattle.vbv.specs.Annex.{gain, overflows, beyond, leastEnd, firstArrived, arrived, expected}
 use Rattle.vbv.specs.Model.{farthest, delivered, periods, afterRemoval}
 use Rattle.vbv.specs.Patch.{patched}
 use Rattle.vbv.specs.declared.RemovalInterval.{RemovalInterval}
@@ -50,15 +50,15 @@ endCode false = []
 unfoldable pub content : CbrWriter → Offer → ℕ
 content w o = w .model .«prev_end_bits» + 8 * (length (o .headers) + length (o .layer) + length (endCode (o .last)))
 
--- the first delay: three quarters of the buffer
+-- the first delay at a constant rate: three quarters of the buffer
 unfoldable pub firstDelay : VbvParams → ℕ
 firstDelay p = 90000 * p .«buffer_size_bits» * 3 / (4 * p .«bit_rate»)
 
--- units delivered at this picture's removal, and at the next
+-- units arrived at this picture's removal
 unfoldable pub deliveredAt : CbrWriter → Offer → ℕ
 unfolding position
 deliveredAt w o =
-    pick (w .model .started) (delivered (w .model)) (firstDelivered (w .model .params) (position w o) (firstDelay (w .model .params)))
+    pick (w .model .started) (delivered (w .model)) (firstArrived (w .variable) (w .model .params) (position w o) (firstDelay (w .model .params)))
 
 -- the cadence before the picture: until one is placed, that which the offer's own headers open
 unfoldable pub cadenceAt : CbrWriter → List ℕ → VbvCadence
@@ -69,24 +69,30 @@ unfoldable pub intervalAt : CbrWriter → Offer → RemovalInterval
 unfolding cadenceAt
 intervalAt w o = interval (cadenceAt w (o .headers)) (factsIn (o .layer))
 
-unfoldable pub deliveredNext : CbrWriter → Offer → ℕ
+-- and what the rate brings by the next
+unfoldable pub broughtNext : CbrWriter → Offer → ℕ
 unfolding deliveredAt intervalAt
-deliveredNext w o = deliveredAt w o + gain (w .model .params) (periods (intervalAt w o))
+broughtNext w o = deliveredAt w o + gain (w .model .params) (periods (intervalAt w o))
 
--- zero bytes to the least byte edge at which the next removal does not overflow; none after the last
+-- zero bytes to the least byte edge at which the next removal does not overflow; none after the last, and none at a variable rate, where no removal does
 unfoldable pub stuffing : CbrWriter → Offer → ℕ
-unfolding content deliveredNext
-stuffing w o = pick (o .last) 0 ((leastEnd (w .model .params) (deliveredNext w o) - content w o + 7) / 8)
+unfolding content broughtNext
+stuffing w o = pick (w .variable || o .last) 0 ((leastEnd (w .model .params) (broughtNext w o) - content w o + 7) / 8)
 
 unfoldable pub end : CbrWriter → Offer → ℕ
 unfolding content stuffing
 end w o = content w o + 8 * stuffing w o
 
+-- units arrived at the next removal
+unfoldable pub deliveredNext : CbrWriter → Offer → ℕ
+unfolding deliveredAt intervalAt end
+deliveredNext w o = arrived (w .variable) (w .model .params) (end w o) (deliveredAt w o) (periods (intervalAt w o))
+
 -- ---- what is placed
 
 unfoldable pub delay : CbrWriter → Offer → ℕ
 unfolding position deliveredAt
-delay w o = expectedDelay (w .model .params) (position w o) (deliveredAt w o)
+delay w o = expected (w .variable) (w .model .params) (position w o) (deliveredAt w o)
 
 unfoldable pub placedBytes : CbrWriter → Offer → List ℕ
 unfolding delay stuffing endCode
@@ -105,7 +111,7 @@ offer w o =
     (refuse 18 (not (headersFit (w .model .params) (w .model .started) (o .headers)))
     (refuse 20 (not (layerFits (w .cadence .film) (o .kind) (o .interval) (o .layer)))
     (refuse 14 (ltb farthest (position w o) || ltb farthest (end w o))
-    (refuse 7 (beyond (w .model .params) (position w o) (deliveredAt w o))
+    (refuse 7 (not (w .variable) && beyond (w .model .params) (position w o) (deliveredAt w o))
     (violate 9 (w .model .removed) 0 0 (overflows (w .model .params) (w .model .«prev_end_bits») (deliveredAt w o))
     (pick (beyond (w .model .params) (content w o) (deliveredAt w o)) (tooLarge (asked w (o .kind)))
     (refuse 22 (beyond (w .model .params) (end w o) (deliveredAt w o))
@@ -121,6 +127,7 @@ withPending w x = record {
   «stuffing_bytes» = w .«stuffing_bytes»;
   finished = w .finished;
   cadence = w .cadence;
+  variable = w .variable;
 }
 
 -- the writer that a placing leaves: the next removal's bits are delivered, the kind's quantiser is steered, nothing is pending, the cadence has moved on
@@ -133,6 +140,7 @@ withPlaced w o = record {
   «stuffing_bytes» = w .«stuffing_bytes» + stuffing w o;
   finished = o .last;
   cadence = after (cadenceAt w (o .headers)) (factsIn (o .layer));
+  variable = w .variable;
 }
 
 -- the writer that an answer leaves: a refusal changes nothing, 21 excepted, which closes the pending picture

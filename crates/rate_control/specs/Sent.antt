@@ -7,7 +7,7 @@ use mathlib.Core.Bool.{Bool, true, false}
 use mathlib.Core.Logic.{_↔_}
 use lib.ListN.{length, take, replicate}
 use Rattle.bits.specs.Refusals.{Answer, value, refused}
-use Rattle.vbv.specs.Annex.{unit, firstDelivered, gain, expectedDelay, occupancy}
+use Rattle.vbv.specs.Annex.{unit, occupancy, firstArrived, arrived, expected}
 use Rattle.vbv.specs.Model.{periods}
 use Rattle.vbv.specs.Params.{sameParams}
 use Rattle.vbv.specs.Patch.{patched}
@@ -37,10 +37,11 @@ positionOf n o = 8 * (n + length (o .headers) + 4)
 unfoldable pub contentOf : ℕ → Offer → ℕ
 contentOf n o = 8 * (n + length (o .headers) + length (o .layer) + length (endCode (o .last)))
 
--- d units being delivered at its removal, which the interval i follows: k zero bytes keep the next removal from overflow exactly if z ≤ k, so z is the least; after the last picture z is 0
-pub record Stuffs (p : VbvParams) (n d : ℕ) (i : RemovalInterval) (o : Offer) (z : ℕ) : Type 0 where
+-- d units having arrived at its removal, which the interval i follows: k zero bytes keep the next removal from overflow exactly if z ≤ k, so z is the least; after the last picture z is 0.
+-- At a variable rate no removal overflows, with any k, and z is 0
+pub record Stuffs (variable : Bool) (p : VbvParams) (n d : ℕ) (i : RemovalInterval) (o : Offer) (z : ℕ) : Type 0 where
   pub least : o .last ≡ false
-      → (k : ℕ) → (z ≤ k) ↔ (d + gain p (periods i) ≤ (contentOf n o + 8 * k + p .«buffer_size_bits») * unit p)
+      → (k : ℕ) → (z ≤ k) ↔ (arrived variable p (contentOf n o + 8 * k) d (periods i) ≤ (contentOf n o + 8 * k + p .«buffer_size_bits») * unit p)
   pub after-last : o .last ≡ true → z ≡ 0
 
 -- ---- what was handed out
@@ -91,32 +92,34 @@ sentFacts x = offeredFacts (x .offer .kind) (x .offer .interval) (x .offer .laye
 abbrev pub lastsFor : VbvCadence → Sent → RemovalInterval
 lastsFor k x = interval k (sentFacts x)
 
--- what holds of each picture and the interval after it, as it is removed with d units delivered and all before `previous` removed
-pub data Removals (p : VbvParams) (Holds : RemovalInterval → ℕ → ℕ → Sent → Type 0) : VbvCadence → ℕ → ℕ → List Sent → Type 0 where
-  no-removal : {k : VbvCadence} {d previous : ℕ} → Removals p Holds k d previous []
+-- what holds of each picture and the interval after it, as it is removed with d units arrived and all before `previous` removed
+pub data Removals (variable : Bool) (p : VbvParams) (Holds : RemovalInterval → ℕ → ℕ → Sent → Type 0) : VbvCadence → ℕ → ℕ → List Sent → Type 0 where
+  no-removal : {k : VbvCadence} {d previous : ℕ} → Removals variable p Holds k d previous []
   removal-then : {k : VbvCadence} {d previous : ℕ} {x : Sent} {xs : List Sent} → Holds (lastsFor k x) d previous x
-      → Removals p Holds (after k (sentFacts x)) (d + gain p (periods (lastsFor k x))) (sentEnd x) xs → Removals p Holds k d previous (x ∷ xs)
+      → Removals variable p Holds (after k (sentFacts x)) (arrived variable p (sentEnd x) d (periods (lastsFor k x))) (sentEnd x) xs → Removals variable p Holds k d previous (x ∷ xs)
 
--- C.3.1: the first picture's position and delay say what is delivered at its removal; and its headers open the cadence
-abbrev pub EachRemoval : Bool → VbvParams → (RemovalInterval → ℕ → ℕ → Sent → Type 0) → List Sent → Type 0
-EachRemoval film p Holds [] = Unit {0}
-EachRemoval film p Holds (x ∷ xs) = Removals p Holds (cadenceBy film (x .offer .headers)) (firstDelivered p (sentPosition x) (x .delay)) 0 (x ∷ xs)
+-- C.3.1: the first picture's position and delay say what has arrived at its removal; at a variable rate the buffer is full (C.3.2); and its headers open the cadence
+abbrev pub EachRemoval : VbvMode → VbvParams → (RemovalInterval → ℕ → ℕ → Sent → Type 0) → List Sent → Type 0
+EachRemoval m p Holds [] = Unit {0}
+EachRemoval m p Holds (x ∷ xs) =
+    Removals (m .variable) p Holds (cadenceBy (m .film) (x .offer .headers)) (firstArrived (m .variable) p (sentPosition x) (x .delay)) 0 (x ∷ xs)
 
 -- C.5, C.6: what is in the buffer is no more than it holds, and all of the picture is there
 pub record InBuffer (p : VbvParams) (d previous : ℕ) (x : Sent) : Type 0 where
   pub no-overflow : d ≤ (previous + p .«buffer_size_bits») * unit p
   pub no-underflow : sentEnd x * unit p ≤ d
 
--- its bytes are headers, layer with the delay patched, zeros and end code; the delay is the expected one, and no 0xFFFF
-pub record WellPlaced (p : VbvParams) (d previous : ℕ) (x : Sent) : Type 0 where
+-- its bytes are headers, layer with the delay patched, zeros and end code; the delay is the expected one, and no 0xFFFF but at a variable rate, where it is nothing else
+pub record WellPlaced (variable : Bool) (p : VbvParams) (d previous : ℕ) (x : Sent) : Type 0 where
   pub bytes-are : x .bytes
       ≡ x .offer .headers ++ (patched (x .offer .layer) (x .delay) ++ (replicate (x .stuffing) 0 ++ endCode (x .offer .last)))
-  pub delay-exact : x .delay ≡ expectedDelay p (sentPosition x) d
-  pub delay-told : x .delay ≤ 65534
+  pub delay-exact : x .delay ≡ expected variable p (sentPosition x) d
+  pub delay-told : variable ≡ false → x .delay ≤ 65534
+  pub no-stuffing : variable ≡ true → x .stuffing ≡ 0
 
 -- its zeros are the least
-abbrev pub LeastStuffing : VbvParams → RemovalInterval → ℕ → ℕ → Sent → Type 0
-LeastStuffing p i d previous x = Stuffs p (x .before) d i (x .offer) (x .stuffing)
+abbrev pub LeastStuffing : Bool → VbvParams → RemovalInterval → ℕ → ℕ → Sent → Type 0
+LeastStuffing variable p i d previous x = Stuffs variable p (x .before) d i (x .offer) (x .stuffing)
 
 -- ---- the check
 
@@ -131,10 +134,11 @@ sentRecord p i d previous x = record {
 }
 
 -- one record a picture, in order
-unfoldable pub sentRecords : VbvParams → VbvCadence → ℕ → ℕ → List Sent → List VbvPictureRecord
-sentRecords p k d previous [] = []
-sentRecords p k d previous (x ∷ xs) =
-    sentRecord p (lastsFor k x) d previous x ∷ sentRecords p (after k (sentFacts x)) (d + gain p (periods (lastsFor k x))) (sentEnd x) xs
+unfoldable pub sentRecords : Bool → VbvParams → VbvCadence → ℕ → ℕ → List Sent → List VbvPictureRecord
+sentRecords variable p k d previous [] = []
+sentRecords variable p k d previous (x ∷ xs) =
+    sentRecord p (lastsFor k x) d previous x
+    ∷ sentRecords variable p (after k (sentFacts x)) (arrived variable p (sentEnd x) d (periods (lastsFor k x))) (sentEnd x) xs
 
 -- a verdict that reports R and B of p, with these records. The first headers may show the frame rate by another code, n and d than p has it by, and then the check counts in their units:
 -- its parameters are what they declare, which is the same as p but for numerator and denominator (request 02)
@@ -149,5 +153,5 @@ abbrev pub PassesCheck : VbvMode → VbvParams → List Sent → Type 0
 PassesCheck m p [] = Unit {0}
 PassesCheck m p (x ∷ xs) =
     (places : ℕ) → length (x ∷ xs) ≤ places
-    → AcceptedFor p (x .offer .headers) (sentRecords p (cadenceBy (m .film) (x .offer .headers)) (firstDelivered p (sentPosition x) (x .delay)) 0 (x ∷ xs))
+    → AcceptedFor p (x .offer .headers) (sentRecords (m .variable) p (cadenceBy (m .film) (x .offer .headers)) (firstArrived (m .variable) p (sentPosition x) (x .delay)) 0 (x ∷ xs))
     (verdict m (endToEnd (x ∷ xs)) places)

@@ -2,14 +2,15 @@
 -- Assumes nothing.
 use Prim.Native.Nat.{ℕ, _+_, _-_, _*_, _/_, _≤_, max}
 use mathlib.Core.Path.{_≡_}
-use mathlib.Core.Bool.{Bool, not, _||_}
+use mathlib.Core.Bool.{Bool, true, false, not, _&&_, _||_}
 use mathlib.Core.List.{List}
 use lib.Dec.{ltb, eqb}
 use lib.ListN.{length, set}
 use Rattle.bits.specs.Bits.{pick}
 use Rattle.bits.specs.Refusals.{Answer, value, andThen, orElse}
 use Rattle.vbv.specs.Annex.{overflows, beyond}
-use Rattle.vbv.specs.Model.{farthest, newModel, startModel, delayForPicture, removePicture, maxEndBits, minEndBits}
+use Rattle.vbr.specs.Variable.{newModelAt, startVariable, removeVariable}
+use Rattle.vbv.specs.Model.{farthest, startModel, delayForPicture, removePicture, maxEndBits, minEndBits}
 use Rattle.vbv.specs.Steps.{modelOf, delayOf, bitsOf, removalOf}
 use Rattle.vbv.specs.declared.VbvError.{VbvError}
 use Rattle.vbv.specs.declared.RemovalInterval.{RemovalInterval}
@@ -70,7 +71,7 @@ Creates r a = (createdAnswer r ≡ a) × (r .writer ≡ orElse noWriter a)
 
 -- once the frame rate is known
 abbrev pub withRate : CbrConfig → ℕ × ℕ → Answer CbrWriter
-withRate c f = andThen (newModel (writerParams c f)) (λ m. value (freshWriter c m))
+withRate c f = andThen (newModelAt (c .mode .variable) (writerParams c f)) (λ m. value (freshWriter c m))
 
 -- ---- how long an offered picture lasts, and the cadence after it
 
@@ -133,6 +134,24 @@ unfoldable pub byStart : Extent → RemovalInterval → Bool → VbvModel → Te
 byStart x i last (md.Model m) = byLeast m x i last (bitsOf (minEndBits m i))
 byStart x i last (md.Refused e) = Refused (Model e)
 
+-- at a variable rate: the model as it is, or, before the first placing, with a full buffer
+unfoldable pub filledAt : VbvCbrModel → VbvModel
+filledAt m = pick (m .started) (md.Model m) (modelOf (startVariable m))
+
+-- the size alone is asked; the header tells no time, and no byte is stuffed
+unfoldable pub flowedBy : Extent → VbvRemoval → Tested
+flowedBy x (rm.Model next) = Ready (record { model = next; «vbv_delay» = 0xFFFF; bytes = x .bytes; «stuffing_bytes» = 0 })
+flowedBy x (rm.Refused e) = Refused (Model e)
+flowedBy x (rm.Violation v) = violated v
+
+unfoldable pub byFilled : Extent → RemovalInterval → VbvModel → Tested
+byFilled x i (md.Model m) = flowedBy x (removalOf (removeVariable m (x .content) i))
+byFilled x i (md.Refused e) = Refused (Model e)
+
+unfoldable pub byRate : Bool → VbvCbrModel → Extent → RemovalInterval → Bool → Tested
+byRate true m x i last = byFilled x i (filledAt m)
+byRate false m x i last = byStart x i last (startedAt m (x .position))
+
 unfoldable pub extentOf : VbvCbrModel → ℕ → ℕ → Bool → Extent
 extentOf m headers layer last = record {
   position = m .«prev_end_bits» + 8 * (headers + 4);
@@ -141,15 +160,15 @@ extentOf m headers layer last = record {
 }
 
 -- 14 of the position and of the end without stuffing
-unfoldable pub within14 : Extent → RemovalInterval → Bool → VbvModel → Tested
-within14 x i last m =
-    pick (ltb farthest (max (x .position) (x .content))) (Refused (Model Range)) (byStart x i last m)
+unfoldable pub within14 : Bool → VbvCbrModel → Extent → RemovalInterval → Bool → Tested
+within14 v m x i last =
+    pick (ltb farthest (max (x .position) (x .content))) (Refused (Model Range)) (byRate v m x i last)
 
 -- more than 2^45 bytes of headers or layer pass these
-unfoldable pub measured : VbvCbrModel → ℕ → ℕ → RemovalInterval → Bool → Tested
-measured m headers layer i last =
+unfoldable pub measured : Bool → VbvCbrModel → ℕ → ℕ → RemovalInterval → Bool → Tested
+measured v m headers layer i last =
     pick (ltb (farthest / 8) (max headers layer)) (Refused (Model Range))
-    (within14 (extentOf m headers layer last) i last (startedAt m (extentOf m headers layer last .position)))
+    (within14 v m (extentOf m headers layer last) i last)
 
 -- 12 for the state, 17, 18 and 20 before these
 -- the picture lasts j
@@ -159,7 +178,7 @@ tested w headers k i last layer j =
     (pick (w .finished || clashes (w .pending) k) (Refused Kind)
     (pick (not (headersFit (w .model .params) (w .model .started) headers)) (Refused Headers)
     (pick (not (layerFits (w .cadence .film) k i layer)) (Refused Layer)
-    (measured (w .model) (length headers) (length layer) j last))))
+    (measured (w .variable) (w .model) (length headers) (length layer) j last))))
 
 -- ---- the answer
 
@@ -181,6 +200,7 @@ placedBy w k layer last p cadence = record {
         «stuffing_bytes» = w .«stuffing_bytes» + p .«stuffing_bytes»;
         finished = last;
         cadence = cadence;
+        variable = w .variable;
       };
 }
 
@@ -209,7 +229,7 @@ offerInCode w o =
     (pick (not (headersFit (w .model .params) (w .model .started) (o .headers))) (refusedInCode w Headers)
     (pick (not (layerFits (w .cadence .film) (o .kind) (o .interval) (o .layer))) (refusedInCode w Layer)
     (pick (ltb farthest (position w o) || ltb farthest (end w o)) (refusedInCode w (Model Range))
-    (pick (beyond (w .model .params) (position w o) (deliveredAt w o)) (refusedInCode w (Model Early))
+    (pick (not (w .variable) && beyond (w .model .params) (position w o) (deliveredAt w o)) (refusedInCode w (Model Early))
     (pick (overflows (w .model .params) (w .model .«prev_end_bits») (deliveredAt w o)) (refusedInCode w (Violation (Overflow (w .model .removed) 0 0)))
     (pick (beyond (w .model .params) (content w o) (deliveredAt w o)) (tooLargeInCode w (o .kind) (asked w (o .kind)))
     (pick (beyond (w .model .params) (end w o) (deliveredAt w o)) (refusedInCode w Stuffing)

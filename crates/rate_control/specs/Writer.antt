@@ -6,7 +6,8 @@ use mathlib.Core.Bool.{Bool, true, false, not, _&&_}
 use lib.Dec.{leb, ltb, eqb}
 use lib.ListN.{getD}
 use Rattle.bits.specs.Bits.{pick}
-use Rattle.vbv.specs.Model.{farthest, modelFits}
+use Rattle.vbv.specs.Model.{farthest}
+use Rattle.vbr.specs.Variable.{modelFitsAt}
 use Rattle.cadence.specs.Cadence.{cadenceFits}
 use Rattle.layers.specs.declared.PictureKind.{PictureKind}
 use Rattle.layers.specs.declared.PictureKind.the-variants.{I, P, B}
@@ -30,10 +31,10 @@ unfoldable pub pendingFits : Pending → Bool
 pendingFits Nothing = true
 pendingFits (Waits k n) = quantiserFits n
 
--- the model's ranges; the previous end is whole bytes, at least as many as pictures placed, and as bytes stuffed; targets up to 2^48, quantisers 1 to 31; outside film no cadence is kept
+-- the model's ranges, at a variable rate its own (request 06); the previous end is whole bytes, at least as many as pictures placed, and as bytes stuffed; targets up to 2^48, quantisers 1 to 31; outside film no cadence is kept
 unfoldable pub writerFits : CbrWriter → Bool
 writerFits w =
-    modelFits (w .model)
+    modelFitsAt (w .variable) (w .model)
     && (eqb (w .model .«prev_end_bits» % 8) 0
     && (leb (8 * w .model .removed) (w .model .«prev_end_bits»)
     && (leb (8 * w .«stuffing_bytes») (w .model .«prev_end_bits»)

@@ -78,6 +78,7 @@ impl CbrWriter {
                 stuffing_bytes: self.stuffing_bytes + stuffing_bytes,
                 finished: last,
                 cadence,
+                variable: self.variable,
             },
         }
     }

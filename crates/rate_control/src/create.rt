@@ -1,6 +1,8 @@
 // Creation of a writer, and the bits that a picture of each kind is meant to have.
 ghost use mathlib.Core.Path.{_≡_};
 ghost use Rattle.bits.specs.Refusals.{orElse};
+ghost use Rattle.vbv.specs.Answers.{modelAnswer};
+ghost use Rattle.vbr.specs.Variable.{newModelAt};
 ghost use Rattle.rate_control.specs.Answers.{createdAnswer};
 ghost use Rattle.rate_control.specs.Create.{within, isWritten, configFits, freshWriter, noWriter, create};
 ghost use Rattle.rate_control.specs.Due.{Ranges};
@@ -74,7 +76,18 @@ pub fn no_writer() -> CbrWriter
         stuffing_bytes: 0,
         finished: false,
         cadence: VbvCadence::opened(false, false, false),
+        variable: false,
     }
+}
+
+// At a variable rate the ratio is not asked.
+fn new_model(params: VbvParams, variable: bool) -> VbvModel
+    ensures { λ r. ⌜ modelAnswer r ≡ newModelAt variable params ⌝ }
+{
+    if variable {
+        return vbr::new(params);
+    }
+    VbvCbrModel::new(params)
 }
 
 fn not_created(error: VbvError) -> CbrCreated
@@ -128,6 +141,7 @@ impl CbrConfig {
             stuffing_bytes: 0,
             finished: false,
             cadence: VbvCadence::opened(mode.film, false, false),
+            variable: mode.variable,
         }
     }
 
@@ -137,7 +151,8 @@ impl CbrConfig {
     {
         let buffer = self.vbv_buffer_size_value as u32;
         let params = vbv::params_of(self.bit_rate_value, buffer, frn, frd);
-        match VbvCbrModel::new(params) {
+        let mode = self.mode;
+        match new_model(params, mode.variable) {
             VbvModel::Model(model) => CbrCreated {
                 answer: CbrCreation::Created,
                 writer: self.fresh(model),
@@ -148,7 +163,7 @@ impl CbrConfig {
 }
 
 impl CbrWriter {
-    // Refused in this order: 12 for a range, 6 for the rate code, 12 for the ratio.
+    // Refused in this order: 12 for a range, 6 for the rate code, at a constant rate 12 for the ratio.
     pub fn create(config: CbrConfig) -> CbrCreated
         ensures { λ r. ⌜ createdAnswer r ≡ create config ⌝ }
         ensures { λ r. ⌜ r .writer ≡ orElse noWriter (create config) ⌝ }

@@ -1,4 +1,4 @@
-// The constant-rate writer: creation, offers of pictures and withdrawals (paper 01, 'A placed picture').
+// The writer, at a constant or a variable rate: creation, offers of pictures and withdrawals (paper 01, 'A placed picture').
 ghost use mathlib.Core.Path.{_≡_};
 ghost use Rattle.rate_control.specs.Answers.{offerRefusal};
 
@@ -6,6 +6,7 @@ mod create; // creation, and the targets
 mod state; // the ranges of a state, and what it keeps for each kind
 mod withdraw; // withdrawals
 mod measure; // where an offered picture lies in the stream, and what the model says to it
+mod flow; // what the model says to it at a variable rate
 mod answer; // the writer after an offer
 mod output; // the bytes placed
 mod offer; // an offer: its tests and its answer
@@ -21,7 +22,7 @@ use vbv::VbvError;
 use vbv::VbvViolation;
 use verify::VbvMode;
 
-// What a writer is created with: MPEG-2, plain or film; the sequence header's fields, the quantiser that every kind starts from,
+// What a writer is created with: MPEG-2, plain or film, at a constant or a variable rate; the sequence header's fields, the quantiser that every kind starts from,
 // B pictures between anchors and anchors in a group.
 pub struct CbrConfig {
     pub mode: VbvMode,
@@ -51,6 +52,7 @@ pub struct CbrWriter {
     pub stuffing_bytes: u64,
     pub finished: bool,
     pub cadence: VbvCadence,
+    pub variable: bool,
 }
 
 pub enum CbrCreation {

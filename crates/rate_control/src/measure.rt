@@ -1,15 +1,18 @@
-// Where an offered picture lies in the stream, and what the model says to it: 14, 7, 9, the size and 22, in this order.
+// Where an offered picture lies in the stream, and what the model says to it: 14, 7, 9, the size and 22, in this order; at a
+// variable rate 14 and the size.
 ghost use mathlib.Core.Path.{_≡_};
+ghost use mathlib.Core.Bool.{false};
 ghost use Prim.Native.Nat.{_+_, _*_, _≤_, max};
 ghost use lib.ListN.{length};
 ghost use Rattle.vbv.specs.Model.{farthest, delayForPicture, removePicture, maxEndBits, minEndBits};
-ghost use Rattle.vbv.specs.Steps.{ParamsFit, ModelFits, delayOf, bitsOf, removalOf};
+ghost use Rattle.vbv.specs.Steps.{ParamsFit, delayOf, bitsOf, removalOf};
 ghost use Rattle.rate_control.specs.Offer.{firstDelay, endCode};
 ghost use Rattle.rate_control.specs.Steps.{ExtentFits, startedAt, stuffingUpTo, violated, readyBy, byEnd, byMost, byLeast, measured};
 use crate::CbrError;
 use crate::Extent;
 use crate::Placement;
 use crate::Tested;
+use crate::flow::flowed;
 use vbv::FARTHEST;
 use vbv::RemovalInterval;
 use vbv::VbvBits;
@@ -57,7 +60,7 @@ fn stuffing(least: u64, content: u64, last: bool) -> u64
 }
 
 // An underflow is a picture too large.
-fn violated(violation: VbvViolation) -> Tested
+pub(crate) fn violated(violation: VbvViolation) -> Tested
     ensures { λ r. ⌜ r ≡ violated violation ⌝ }
 {
     match violation {
@@ -163,13 +166,15 @@ fn end_code_bytes(last: bool) -> u64
 // 14 of the position and of the end without stuffing, and what follows.
 pub(crate) fn measured(
     model: VbvCbrModel,
+    variable: bool,
     headers: u64,
     layer: u64,
     interval: RemovalInterval,
     last: bool,
 ) -> Tested
-    requires { ⌜ ModelFits model ⌝ }
-    ensures { λ r. ⌜ r ≡ measured model headers layer interval last ⌝ }
+    requires { ⌜ model .«prev_end_bits» ≤ farthest ⌝ }
+    requires { ⌜ variable ≡ false → ParamsFit (model .params) ⌝ }
+    ensures { λ r. ⌜ r ≡ measured variable model headers layer interval last ⌝ }
 {
     if FARTHEST / 8 < greater(headers, layer) {
         return Tested::Refused(CbrError::Model(VbvError::Range));
@@ -186,6 +191,9 @@ pub(crate) fn measured(
         content,
         bytes,
     };
+    if variable {
+        return flowed(model, extent, interval);
+    }
     match started(model, position) {
         VbvModel::Refused(error) => Tested::Refused(CbrError::Model(error)),
         VbvModel::Model(begun) => ended(begun, extent, interval, last),

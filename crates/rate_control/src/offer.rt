@@ -68,7 +68,7 @@ impl CbrWriter {
                 if layers::layer_fits(layer, cadence.film, kind, interval) {
                     let ahead = headers.len() as u64;
                     let bytes = layer.len() as u64;
-                    return measured(model, ahead, bytes, lasts, last);
+                    return measured(model, self.variable, ahead, bytes, lasts, last);
                 }
                 return Tested::Refused(CbrError::Layer);
             }

@@ -4,6 +4,7 @@ ghost use Prim.Native.Nat.{_+_, _-_, _≤_, _<_, min, max};
 ghost use lib.Dec.{leb};
 ghost use Rattle.rate_control.specs.Writer.{quantiserFits, allFit, pendingFits, writerFits, index, clashes, asked, coarser, steered};
 ghost use Rattle.vbv.specs.Model.{farthest};
+ghost use Rattle.vbr.specs.Variable.{modelFitsAt};
 use crate::CbrWriter;
 use crate::Pending;
 use crate::measure::greater;
@@ -116,6 +117,17 @@ impl CbrWriter {
         }
     }
 
+    // The model's ranges, at its rate.
+    fn model_fits(self) -> bool
+        ensures { λ r. ⌜ r ≡ modelFitsAt (self .variable) (self .model) ⌝ }
+    {
+        let model = self.model;
+        if self.variable {
+            return vbr::fits(model);
+        }
+        model.fits()
+    }
+
     // Every field in its range. What was handed out is whole bytes, at least as many as pictures, and as bytes of stuffing:
     // both in one test, as the targets are, so that the function stays small enough to be joined with its callers.
     pub fn fits(self) -> bool
@@ -128,7 +140,7 @@ impl CbrWriter {
         let cadence = self.cadence;
         let bits = model.prev_end_bits;
         let bytes = bits / 8;
-        model.fits()
+        self.model_fits()
             & ((bits % 8 == 0)
                 & ((greater(model.removed, self.stuffing_bytes) <= bytes)
                     & (all_targets(target_bits)

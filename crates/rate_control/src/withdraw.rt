@@ -25,6 +25,7 @@ impl CbrWriter {
             stuffing_bytes: self.stuffing_bytes,
             finished: self.finished,
             cadence,
+            variable: self.variable,
         }
     }
 

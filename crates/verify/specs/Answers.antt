@@ -5,7 +5,7 @@ use Rattle.bits.specs.Refusals.{Answer, value, refused, plain}
 use Rattle.headers.specs.Answers.{errorNumber}
 use Rattle.vbv.specs.Answers.{modelNumber, violationRefusal}
 use Rattle.verify.specs.declared.VbvVerifyError.{VbvVerifyError}
-use Rattle.verify.specs.declared.VbvVerifyError.the-variants.{Parse, Model, NoSequenceHeader, NoPictures, VariableRate, RecordPlaces, Violation}
+use Rattle.verify.specs.declared.VbvVerifyError.the-variants.{Parse, Model, NoSequenceHeader, NoPictures, VariableRate, ConstantRate, RecordPlaces, Violation}
 use Rattle.bits.specs.declared.VbvRefusal.{VbvRefusal}
 use Rattle.verify.specs.declared.VbvStreamReport.{VbvStreamReport}
 use Rattle.verify.specs.declared.VbvVerified.{VbvVerified}
@@ -18,6 +18,7 @@ refusalOf (Model e) = plain (modelNumber e)
 refusalOf NoSequenceHeader = plain 3
 refusalOf NoPictures = plain 4
 refusalOf VariableRate = plain 5
+refusalOf ConstantRate = plain 25
 refusalOf RecordPlaces = plain 15
 refusalOf (Violation v) = violationRefusal v
 

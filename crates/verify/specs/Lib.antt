@@ -12,3 +12,4 @@ pub mod Plain
 pub mod Sizes
 pub mod Numbers
 pub mod Steps
+pub mod Variable

@@ -1,10 +1,10 @@
 -- What is owed of the periods in the records (requests 04 and 05): the field periods up to the next removal. Outside film 1 for a field picture and 2 for a frame, and repeat_first_field does
 -- not count (docs/DIFFERENCES.md); in film mode what the pictures before tell (cadence/specs/History.antt). The last picture has its own too, though no removal follows. Assumes nothing.
-use Prim.Native.Nat.{ℕ, _+_}
+use Prim.Native.Nat.{ℕ}
 use mathlib.Core.Path.{_≡_}
 use mathlib.Core.Bool.{Bool, true, false}
 use mathlib.Core.List.{List, [], _∷_}
-use Rattle.vbv.specs.Annex.{firstDelivered, gain}
+use Rattle.vbv.specs.Annex.{firstArrived, arrived}
 use Rattle.vbv.specs.Model.{periods}
 use Rattle.vbv.specs.declared.RemovalInterval.{RemovalInterval}
 use Rattle.vbv.specs.declared.VbvParams.{VbvParams}
@@ -21,10 +21,10 @@ use Rattle.verify.specs.declared.CodedPicture.{CodedPicture}
 use Rattle.verify.specs.declared.VbvPictureRecord.{VbvPictureRecord}
 
 -- one removal after another, each with its record, as in `Along`; but by the next one the field periods that the record tells bring the gain (C.9, C.11)
-pub data Counted (p : VbvParams) : ℕ → ℕ → List CodedPicture → List VbvPictureRecord → Type 0 where
-  no-more : {previous d : ℕ} → Counted p previous d [] []
-  one-more : {previous d : ℕ} {c : CodedPicture} {cs : List CodedPicture} {r : VbvPictureRecord} {rs : List VbvPictureRecord} → Conforms p previous d c r
-      → Counted p (c .«end_bits») (d + gain p (r .periods)) cs rs → Counted p previous d (c ∷ cs) (r ∷ rs)
+pub data Counted (v : Bool) (p : VbvParams) : ℕ → ℕ → List CodedPicture → List VbvPictureRecord → Type 0 where
+  no-more : {previous d : ℕ} → Counted v p previous d [] []
+  one-more : {previous d : ℕ} {c : CodedPicture} {cs : List CodedPicture} {r : VbvPictureRecord} {rs : List VbvPictureRecord} → Conforms v p previous d c r
+      → Counted v p (c .«end_bits») (arrived v p (c .«end_bits») d (r .periods)) cs rs → Counted v p previous d (c ∷ cs) (r ∷ rs)
 
 -- a picture as its headers show it, and its record, outside film
 pub record Lasts (standard : VbvStandard) (x : SeenPicture) (r : VbvPictureRecord) : Type 0 where
@@ -53,7 +53,7 @@ pub data FilmTimed (progressive low : Bool) : List PictureFacts → List SeenPic
 -- what is owed, of every stream that the check accepts (`Passes`: these and no others, specs/Accepted.antt)
 pub record PeriodsTold : Type 0 where
   pub up-to-next : (m : VbvMode) (s : List ℕ) (places : ℕ) (p : VbvParams) (rs : List VbvPictureRecord) (a : Passes m s places p rs)
-      → Counted p 0 (firstDelivered p (a .first .«pos_bits») (a .first .«vbv_delay»)) (timedIn m s (a .first ∷ a .others)) rs
+      → Counted (m .variable) p 0 (firstArrived (m .variable) p (a .first .«pos_bits») (a .first .«vbv_delay»)) (timedIn m s (a .first ∷ a .others)) rs
   pub by-structure : (m : VbvMode) (s : List ℕ) (places : ℕ) (p : VbvParams) (rs : List VbvPictureRecord) (a : Passes m s places p rs) → m .film ≡ false
       → Paired (m .standard) (a .first ∷ a .others) rs
   -- progressive_sequence and low_delay are those of the extension after the first sequence header (`SequenceOpens`, pictures/specs/Due.antt)

@@ -2,7 +2,7 @@
 -- film is plain: the same report, records or refusal, so that film mode may be left on for such material. Assumes nothing.
 use Prim.Native.Nat.{ℕ}
 use mathlib.Core.Path.{_≡_}
-use mathlib.Core.Bool.{false}
+use mathlib.Core.Bool.{Bool, true, false}
 use mathlib.Core.List.{List, [], _∷_}
 use Rattle.bits.specs.Refusals.{value, andThen}
 use Rattle.vbv.specs.Model.{intervalOf}
@@ -11,7 +11,7 @@ use Rattle.pictures.specs.Seen.{seenPictures}
 use Rattle.pictures.specs.declared.VbvStandard.{VbvStandard}
 use Rattle.pictures.specs.declared.VbvStandard.the-variants.{Mpeg2}
 use Rattle.pictures.specs.declared.SeenPicture.{SeenPicture}
-use Rattle.verify.specs.Mode.{plain, film}
+use Rattle.verify.specs.Mode.{plain, mpeg2}
 use Rattle.verify.specs.Coded.{codedOf}
 use Rattle.verify.specs.Check.{withPictures, verdict}
 use Rattle.verify.specs.declared.CodedPicture.{CodedPicture}
@@ -29,5 +29,6 @@ pub data NoFlags : List SeenPicture → Type 0 where
 pub record PlainMode : Type 0 where
   pub as-before : (standard : VbvStandard) (s : List ℕ) (places : ℕ)
       → verdict (plain standard) s places
-      ≡ andThen (front standard s) (λ f. withPictures places (f .params) (f .first) (timedByStructure (f .first ∷ f .others)))
-  pub without-flags : (s : List ℕ) (xs : List SeenPicture) (places : ℕ) → seenPictures Mpeg2 s ≡ value xs → NoFlags xs → verdict film s places ≡ verdict (plain Mpeg2) s places
+      ≡ andThen (front standard s) (λ f. withPictures false places (f .params) (f .first) (timedByStructure (f .first ∷ f .others)))
+  -- at a variable rate too
+  pub without-flags : (v : Bool) (s : List ℕ) (xs : List SeenPicture) (places : ℕ) → seenPictures Mpeg2 s ≡ value xs → NoFlags xs → verdict (mpeg2 true v) s places ≡ verdict (mpeg2 false v) s places

@@ -1,6 +1,7 @@
 -- The check as the code goes: a picture at a time, with the model and what the report needs of the removals so far; and the records of a stream one by one.
 -- The promises of private functions; proofs/Verdict.antt and Recording.antt say that they come to specs/Check.antt. Assumes nothing.
 use Prim.Native.Nat.{ℕ, zero, suc, _+_, _-_, _*_, min, max}
+use mathlib.Core.Bool.{Bool, true, false}
 use mathlib.Core.List.{List, [], _∷_}
 use lib.Dec.{eqb, leb, ltb}
 use lib.ListN.{length}
@@ -21,6 +22,7 @@ use Rattle.vbv.specs.declared.VbvDelay.{VbvDelay}
 use Rattle.vbv.specs.declared.VbvDelay.the-variants as dl
 use Rattle.vbv.specs.declared.VbvBits.{VbvBits}
 use Rattle.vbv.specs.declared.VbvBits.the-variants as bt
+use Rattle.vbr.specs.Variable.{newVariable, startVariable, removeVariable, occupancyVariable}
 use Rattle.pictures.specs.Seen.{Sight, nothing, one, nextSeen}
 use Rattle.pictures.specs.Answers.{unread}
 use Rattle.pictures.specs.declared.VbvStandard.{VbvStandard}
@@ -35,7 +37,7 @@ use Rattle.verify.specs.Run.{apart, occupancyAfter}
 use Rattle.verify.specs.declared.CodedPicture.{CodedPicture}
 use Rattle.verify.specs.declared.VbvPictureRecord.{VbvPictureRecord}
 use Rattle.verify.specs.declared.VbvVerifyError.{VbvVerifyError}
-use Rattle.verify.specs.declared.VbvVerifyError.the-variants.{Parse, Model, NoSequenceHeader, NoPictures, VariableRate, RecordPlaces, Violation}
+use Rattle.verify.specs.declared.VbvVerifyError.the-variants.{Parse, Model, NoSequenceHeader, NoPictures, VariableRate, ConstantRate, RecordPlaces, Violation}
 use Rattle.verify.specs.declared.VbvVerified.{VbvVerified}
 use Rattle.verify.specs.declared.VbvVerified.the-variants as vf
 use Rattle.verify.specs.declared.Removed.{Removed}
@@ -85,6 +87,14 @@ removedAfter m c (dl.Refused e) = Refused (Model e)
 unfoldable pub removed : VbvCbrModel → CodedPicture → Removed
 removed m c = removedAfter m c (delayOf (delayForPicture m (c .«pos_bits»)))
 
+-- at a variable rate no time is expected
+unfoldable pub takenFrom : VbvCbrModel → CodedPicture → VbvBits → Removed
+takenFrom m c (bt.Bits before) = recordedIf m c 0xFFFF before (removalOf (removeVariable m (c .«end_bits») (c .interval)))
+takenFrom m c (bt.Refused e) = Refused (Model e)
+
+unfoldable pub taken : VbvCbrModel → CodedPicture → Removed
+taken m c = takenFrom m c (bitsOf (occupancyVariable m))
+
 -- ---- the progress
 
 unfoldable pub progressed : ℕ → ℕ → Removed → Progress
@@ -103,21 +113,48 @@ firstMade c buffer (md.Refused e) = Unmodelled (Model e)
 unfoldable pub firstRemoved : VbvParams → CodedPicture → Progress
 firstRemoved p c = pick (eqb (c .«vbv_delay») 0xFFFF) (Unmodelled VariableRate) (firstMade c (p .«buffer_size_bits») (modelOf (newModel p)))
 
-unfoldable pub advanced : VbvParams → Progress → CodedPicture → Progress
-advanced p Fresh c = firstRemoved p c
-advanced p (Unmodelled e) c = Unmodelled e
-advanced p (Running m r least greatest) c = progressed least greatest (removed m c)
-advanced p (Stopped e) c = Stopped e
+unfoldable pub goneOnFrom : VbvParams → Progress → CodedPicture → Progress
+goneOnFrom p Fresh c = firstRemoved p c
+goneOnFrom p (Unmodelled e) c = Unmodelled e
+goneOnFrom p (Running m r least greatest) c = progressed least greatest (removed m c)
+goneOnFrom p (Stopped e) c = Stopped e
 
 -- what a removal makes of what stands before it
 unfoldable pub goneOn : CodedPicture → BeforeRemoval → Progress
 goneOn c (br.Model least greatest m) = progressed least greatest (removed m c)
 goneOn c (br.Stays st) = st
 
+-- at a variable rate the first removal finds the buffer full
+unfoldable pub firstFull : CodedPicture → ℕ → VbvModel → Progress
+firstFull c buffer (md.Model m) = progressed buffer 0 (taken m c)
+firstFull c buffer (md.Refused e) = Unmodelled (Model e)
+
+unfoldable pub firstFilled : CodedPicture → ℕ → VbvModel → Progress
+firstFilled c buffer (md.Model m) = firstFull c buffer (modelOf (startVariable m))
+firstFilled c buffer (md.Refused e) = Unmodelled (Model e)
+
+unfoldable pub firstTaken : VbvParams → CodedPicture → Progress
+firstTaken p c = firstFilled c (p .«buffer_size_bits») (modelOf (newVariable p))
+
+unfoldable pub flowedFrom : VbvParams → Progress → CodedPicture → Progress
+flowedFrom p Fresh c = firstTaken p c
+flowedFrom p (Unmodelled e) c = Unmodelled e
+flowedFrom p (Running m r least greatest) c = progressed least greatest (taken m c)
+flowedFrom p (Stopped e) c = Stopped e
+
+unfoldable pub flowed : CodedPicture → BeforeRemoval → Progress
+flowed c (br.Model least greatest m) = progressed least greatest (taken m c)
+flowed c (br.Stays st) = st
+
+-- another delay than 0xFFFF makes 25 of any progress: it comes before 12 and every 10
+unfoldable pub advanced : Bool → VbvParams → Progress → CodedPicture → Progress
+advanced false p st c = goneOnFrom p st c
+advanced true p st c = pick (eqb (c .«vbv_delay») 0xFFFF) (flowedFrom p st c) (Unmodelled ConstantRate)
+
 -- over all pictures
-unfoldable pub advancedAll : VbvParams → Progress → List CodedPicture → Progress
-advancedAll p st [] = st
-advancedAll p st (c ∷ cs) = advancedAll p (advanced p st c) cs
+unfoldable pub advancedAll : Bool → VbvParams → Progress → List CodedPicture → Progress
+advancedAll v p st [] = st
+advancedAll v p st (c ∷ cs) = advancedAll v p (advanced v p st c) cs
 
 -- ---- the walk
 
@@ -126,10 +163,10 @@ walkedAnswer (wk.Refused e) = unread e
 walkedAnswer (wk.Read p n st) = value (p, (n, st))
 
 -- after n pictures, and those still to come: their number and the progress; 4 where there are none
-unfoldable pub walkedOver : VbvParams → VbvCadence → ℕ → Progress → List SeenPicture → Answer (VbvParams × (ℕ × Progress))
-walkedOver p k n st xs =
+unfoldable pub walkedOver : Bool → VbvParams → VbvCadence → ℕ → Progress → List SeenPicture → Answer (VbvParams × (ℕ × Progress))
+walkedOver v p k n st xs =
     refuse 4 (eqb (n + length xs) 0)
-    (value (p, (n + length xs, advancedAll p st (timed k xs))))
+    (value (p, (n + length xs, advancedAll v p st (timed k xs))))
 
 -- how many pictures a walk came over; none where a header is refused
 unfoldable pub walkedCount : Answer (VbvParams × (ℕ × Progress)) → ℕ
@@ -188,14 +225,15 @@ storedNext count i st out = pick (ltb i count) (sets out (recordSize * i) (recor
 -- a walk over the pictures: where it goes on, the cadence before the next picture, and how far the model has come
 pub record Walker : Type 0 where
   pub standard : VbvStandard
+  pub variable : Bool
   pub params : VbvParams
   pub at : ℕ
   pub cadence : VbvCadence
   pub progress : Progress
 
 -- before the first picture, with these parameters and this cadence
-abbrev pub walkerOf : VbvStandard → VbvCadence → VbvParams → Walker
-walkerOf standard k p = record { standard = standard; params = p; at = 0; cadence = k; progress = Fresh }
+abbrev pub walkerOf : VbvStandard → Bool → VbvCadence → VbvParams → Walker
+walkerOf standard v k p = record { standard = standard; variable = v; params = p; at = 0; cadence = k; progress = Fresh }
 
 -- after one more picture, and that picture's record
 unfoldable pub steppedBy : Walker → Sight → Walker × VbvPictureRecord
@@ -203,12 +241,13 @@ steppedBy w nothing = (w, noRecord)
 steppedBy w (one x next) = (
   record {
     standard = w .standard;
+    variable = w .variable;
     params = w .params;
     at = next;
     cadence = after (w .cadence) (x .facts);
-    progress = advanced (w .params) (w .progress) (codedOf (interval (w .cadence) (x .facts)) x);
+    progress = advanced (w .variable) (w .params) (w .progress) (codedOf (interval (w .cadence) (x .facts)) x);
   },
-  lastOf (advanced (w .params) (w .progress) (codedOf (interval (w .cadence) (x .facts)) x)),
+  lastOf (advanced (w .variable) (w .params) (w .progress) (codedOf (interval (w .cadence) (x .facts)) x)),
 )
 
 unfoldable pub nextStep : List ℕ → Walker → Walker × VbvPictureRecord
@@ -220,11 +259,11 @@ recordsBy next w zero = []
 recordsBy next w (suc i) = next w .1 ∷ recordsBy next (next w .0) i
 
 -- of a stream, by what its opening answers; where it is refused (14, 3, 1, 2, 6) none is asked
-unfoldable pub recordsAfter : VbvStandard → VbvCadence → List ℕ → Answer VbvParams → ℕ → List VbvPictureRecord
-recordsAfter standard k s (value p) i = recordsBy (nextStep s) (walkerOf standard k p) i
-recordsAfter standard k s (refused n j c e) i = []
+unfoldable pub recordsAfter : VbvStandard → Bool → VbvCadence → List ℕ → Answer VbvParams → ℕ → List VbvPictureRecord
+recordsAfter standard v k s (value p) i = recordsBy (nextStep s) (walkerOf standard v k p) i
+recordsAfter standard v k s (refused n j c e) i = []
 
--- ---- outside film, as the code's recorder has it: no cadence is kept
+-- ---- outside film and at a constant rate, as the code's recorder has it: no cadence is kept
 
 -- before the first picture; where the opening is refused (14, 3, 1, 2, 6) no record is asked of it
 unfoldable pub recorderOf : VbvStandard → Answer VbvParams → VbvRecorder
@@ -241,7 +280,7 @@ wentOn w next st =
 
 unfoldable pub recordedBy : VbvRecorder → Sight → VbvRecorded
 recordedBy w nothing = stayed w
-recordedBy w (one x next) = wentOn w next (advanced (w .params) (w .progress) (codedOf (intervalOf (x .facts .field)) x))
+recordedBy w (one x next) = wentOn w next (advanced false (w .params) (w .progress) (codedOf (intervalOf (x .facts .field)) x))
 
 unfoldable pub nextRecord : List ℕ → VbvRecorder → VbvRecorded
 nextRecord s w = orElse (stayed w) (andThen (nextSeen (w .standard) s (w .at)) (λ g. value (recordedBy w g)))

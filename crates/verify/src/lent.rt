@@ -1,4 +1,4 @@
-// The check, outside film, with records in a lent slice of structs, thin above the check by value.
+// The check, outside film and at a constant rate, with records in a lent slice of structs, thin above the check by value.
 ghost use mathlib.Core.Path.{_≡_};
 ghost use lib.ListN.{length};
 ghost use Rattle.bits.specs.Answers.{over};

@@ -1,13 +1,14 @@
-// The buffer report of a constant-rate stream: the check of Annex C over the pictures that its headers show.
+// The buffer report of a stream: the check of Annex C, at a constant or a variable rate, over the pictures that its headers show.
 ghost use mathlib.Core.Path.{_≡_};
 ghost use Rattle.verify.specs.Answers.{refusalOf};
-ghost use Rattle.verify.specs.Mode.{plain as plainOf, hasFilm, modeFits};
+ghost use Rattle.verify.specs.Mode.{plain as plainOf, hasModes, modeFits};
 
 pub mod lent; // the check with records in a lent slice of structs
 mod records; // records as bytes
 mod recorder; // the records one by one
 mod report; // the check of a stream
 mod run; // one removal after another
+mod flow; // at a variable rate
 
 pub use crate::report::check_in_mode;
 pub use crate::report::check_stream;
@@ -24,10 +25,11 @@ use vbv::VbvError;
 use vbv::VbvParams;
 use vbv::VbvViolation;
 
-// What a stream is checked as, and a writer writes. Film is MPEG-2's alone.
+// What a stream is checked as, and a writer writes. Film and a variable rate are MPEG-2's alone.
 pub struct VbvMode {
     pub standard: VbvStandard,
     pub film: bool,
+    pub variable: bool,
 }
 
 // The bytes of a record (docs/LAYOUT.md).
@@ -60,6 +62,8 @@ pub enum VbvVerifyError {
     NoPictures,
     // The first delay is 0xFFFF.
     VariableRate,
+    // At a variable rate: a delay is not 0xFFFF.
+    ConstantRate,
     // Fewer record places than pictures.
     RecordPlaces,
     // Overflow, underflow or a delay unlike the expected one.
@@ -117,8 +121,9 @@ enum Walked {
     Read(VbvParams, usize, Progress),
 }
 
-fn has_film(standard: VbvStandard) -> bool
-    ensures { λ r. ⌜ r ≡ hasFilm standard ⌝ }
+// Film and a variable rate.
+fn has_modes(standard: VbvStandard) -> bool
+    ensures { λ r. ⌜ r ≡ hasModes standard ⌝ }
 {
     match standard {
         VbvStandard::Mpeg1 => false,
@@ -127,13 +132,14 @@ fn has_film(standard: VbvStandard) -> bool
 }
 
 impl VbvMode {
-    // Outside film.
+    // Outside film, at a constant rate.
     pub fn plain(standard: VbvStandard) -> VbvMode
         ensures { λ r. ⌜ r ≡ plainOf standard ⌝ }
     {
         VbvMode {
             standard,
             film: false,
+            variable: false,
         }
     }
 
@@ -142,8 +148,8 @@ impl VbvMode {
         ensures { λ r. ⌜ r ≡ modeFits self ⌝ }
     {
         let standard = self.standard;
-        if self.film {
-            return has_film(standard);
+        if self.film | self.variable {
+            return has_modes(standard);
         }
         true
     }
@@ -160,6 +166,7 @@ impl VbvVerifyError {
             VbvVerifyError::NoSequenceHeader => plain(3),
             VbvVerifyError::NoPictures => plain(4),
             VbvVerifyError::VariableRate => plain(5),
+            VbvVerifyError::ConstantRate => plain(25),
             VbvVerifyError::RecordPlaces => plain(15),
             VbvVerifyError::Violation(v) => v.refusal(),
         }

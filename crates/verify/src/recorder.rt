@@ -1,4 +1,4 @@
-// The records of a stream one by one, outside film.
+// The records of a stream one by one, outside film and at a constant rate.
 ghost use mathlib.Core.Path.{_≡_};
 ghost use Rattle.pictures.specs.Front.{opening as openingOf};
 ghost use Rattle.verify.specs.Steps.{recorderOf, recordCount, noRecord, lastOf, stayed, wentOn, nextRecord};
@@ -135,7 +135,7 @@ impl VbvRecorder {
                 let params = self.params;
                 let facts = seen.facts;
                 let interval = VbvCadence::opened(false, false, false).interval(facts);
-                self.go_on(next, advance(progress, params, interval, seen))
+                self.go_on(next, advance(progress, params, false, interval, seen))
             }
         }
     }

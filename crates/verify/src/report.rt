@@ -42,6 +42,7 @@ use vbv::VbvParams;
 fn walk(
     stream: &[u8],
     standard: VbvStandard,
+    variable: bool,
     first: VbvCadence,
     params: VbvParams,
     count: usize,
@@ -49,9 +50,9 @@ fn walk(
 ) -> Walked
     requires { ⌜ 8 * length (now stream) ≤ farthest ⌝ }
     requires { ⌜ recordSize * count ≤ length (now out) ⌝ }
-    requires { ⌜ count ≤ walkedCount (andThen (seenPictures standard (now stream)) (walkedOver params first 0 Fresh)) ⌝ }
-    ensures { λ r. ⌜ walkedAnswer r ≡ andThen (seenPictures standard (now (stream .entry))) (walkedOver params first 0 Fresh) ⌝ }
-    ensures { λ r. ⌜ now (out .exit) ≡ sets (now (out .entry)) 0 (recordsBytes (recordsBy (nextStep (now (stream .entry))) (walkerOf standard first params) count)) ⌝ }
+    requires { ⌜ count ≤ walkedCount (andThen (seenPictures standard (now stream)) (walkedOver variable params first 0 Fresh)) ⌝ }
+    ensures { λ r. ⌜ walkedAnswer r ≡ andThen (seenPictures standard (now (stream .entry))) (walkedOver variable params first 0 Fresh) ⌝ }
+    ensures { λ r. ⌜ now (out .exit) ≡ sets (now (out .entry)) 0 (recordsBytes (recordsBy (nextStep (now (stream .entry))) (walkerOf standard variable first params) count)) ⌝ }
 {
     let mut i: usize = 0;
     let mut n: usize = 0;
@@ -63,7 +64,7 @@ fn walk(
                 let facts = seen.facts;
                 let interval = cadence.interval(facts);
                 cadence = cadence.after(facts);
-                progress = advance(progress, params, interval, seen);
+                progress = advance(progress, params, variable, interval, seen);
                 put_next(out, count, n, progress);
                 n += 1;
                 i = next;
@@ -84,18 +85,19 @@ fn walk(
 fn walk_front(
     stream: &[u8],
     standard: VbvStandard,
+    variable: bool,
     cadence: VbvCadence,
     count: usize,
     out: &mut [u8],
 ) -> Walked
     requires { ⌜ recordSize * count ≤ length (now out) ⌝ }
-    requires { ⌜ count ≤ walkedCount (andThen (front standard (now stream)) (λ f. walkedOver (f .params) cadence 0 Fresh (f .first ∷ f .others))) ⌝ }
-    ensures { λ r. ⌜ walkedAnswer r ≡ andThen (front standard (now (stream .entry))) (λ f. walkedOver (f .params) cadence 0 Fresh (f .first ∷ f .others)) ⌝ }
-    ensures { λ r. ⌜ now (out .exit) ≡ sets (now (out .entry)) 0 (recordsBytes (recordsAfter standard cadence (now (stream .entry)) (openingOf standard (now (stream .entry))) count)) ⌝ }
+    requires { ⌜ count ≤ walkedCount (andThen (front standard (now stream)) (λ f. walkedOver variable (f .params) cadence 0 Fresh (f .first ∷ f .others))) ⌝ }
+    ensures { λ r. ⌜ walkedAnswer r ≡ andThen (front standard (now (stream .entry))) (λ f. walkedOver variable (f .params) cadence 0 Fresh (f .first ∷ f .others)) ⌝ }
+    ensures { λ r. ⌜ now (out .exit) ≡ sets (now (out .entry)) 0 (recordsBytes (recordsAfter standard variable cadence (now (stream .entry)) (openingOf standard (now (stream .entry))) count)) ⌝ }
 {
     match opening(stream, standard) {
         Declared::Refused(error) => Walked::Refused(error),
-        Declared::Params(params) => walk(stream, standard, cadence, params, count, out),
+        Declared::Params(params) => walk(stream, standard, variable, cadence, params, count, out),
     }
 }
 
@@ -151,27 +153,37 @@ fn judge(walked: Walked, places: usize) -> VbvVerified
 }
 
 // The report by a cadence before the first picture, given so many record places, without the records.
-fn check_by(stream: &[u8], standard: VbvStandard, cadence: VbvCadence, places: usize) -> VbvVerified
-    ensures { λ r. ⌜ verifiedAnswer r ≡ reported (verdictBy standard cadence (now (stream .entry)) places) ⌝ }
+fn check_by(
+    stream: &[u8],
+    standard: VbvStandard,
+    variable: bool,
+    cadence: VbvCadence,
+    places: usize,
+) -> VbvVerified
+    ensures { λ r. ⌜ verifiedAnswer r ≡ reported (verdictBy standard variable cadence (now (stream .entry)) places) ⌝ }
 {
-    judge(walk_front(stream, standard, cadence, 0, &mut []), places)
+    judge(
+        walk_front(stream, standard, variable, cadence, 0, &mut []),
+        places,
+    )
 }
 
 // And with them.
 fn verify_by(
     stream: &[u8],
     standard: VbvStandard,
+    variable: bool,
     cadence: VbvCadence,
     records: &mut [u8],
 ) -> VbvVerified
-    ensures { λ r. ⌜ verifiedAnswer r ≡ reported (verdictBy standard cadence (now (stream .entry)) (length (now (records .entry)) / recordSize)) ⌝ }
-    ensures { λ r. ⌜ now (records .exit) ≡ over (recordsBytes (recordsOf (verdictBy standard cadence (now (stream .entry)) (length (now (records .entry)) / recordSize)))) (now (records .entry)) ⌝ }
+    ensures { λ r. ⌜ verifiedAnswer r ≡ reported (verdictBy standard variable cadence (now (stream .entry)) (length (now (records .entry)) / recordSize)) ⌝ }
+    ensures { λ r. ⌜ now (records .exit) ≡ over (recordsBytes (recordsOf (verdictBy standard variable cadence (now (stream .entry)) (length (now (records .entry)) / recordSize)))) (now (records .entry)) ⌝ }
 {
-    let walked = walk_front(stream, standard, cadence, 0, &mut []);
+    let walked = walk_front(stream, standard, variable, cadence, 0, &mut []);
     let answer = judge(walked, records.len() / RECORD_BYTES);
     let count = record_count(answer);
     if 0 < count {
-        walk_front(stream, standard, cadence, count, records);
+        walk_front(stream, standard, variable, cadence, count, records);
     }
     answer
 }
@@ -182,7 +194,13 @@ pub fn check_in_mode(stream: &[u8], mode: VbvMode, places: usize) -> VbvVerified
 {
     if mode.fits() {
         let standard = mode.standard;
-        return check_by(stream, standard, cadence_of(stream, mode.film), places);
+        return check_by(
+            stream,
+            standard,
+            mode.variable,
+            cadence_of(stream, mode.film),
+            places,
+        );
     }
     VbvVerified::Refused(VbvVerifyError::Model(VbvError::Params))
 }
@@ -195,19 +213,19 @@ pub fn verify_in_mode(stream: &[u8], mode: VbvMode, records: &mut [u8]) -> VbvVe
     if mode.fits() {
         let standard = mode.standard;
         let cadence = cadence_of(stream, mode.film);
-        return verify_by(stream, standard, cadence, records);
+        return verify_by(stream, standard, mode.variable, cadence, records);
     }
     VbvVerified::Refused(VbvVerifyError::Model(VbvError::Params))
 }
 
-// Outside film.
+// Outside film, at a constant rate.
 pub fn check_stream(stream: &[u8], standard: VbvStandard, places: usize) -> VbvVerified
     ensures { λ r. ⌜ verifiedAnswer r ≡ reported (verdict (plainOf standard) (now (stream .entry)) places) ⌝ }
 {
     check_in_mode(stream, VbvMode::plain(standard), places)
 }
 
-// Outside film, with the records.
+// Outside film, at a constant rate, with the records.
 pub fn verify_cbr_stream(stream: &[u8], standard: VbvStandard, records: &mut [u8]) -> VbvVerified
     ensures { λ r. ⌜ verifiedAnswer r ≡ reported (verdict (plainOf standard) (now (stream .entry)) (length (now (records .entry)) / recordSize)) ⌝ }
     ensures { λ r. ⌜ now (records .exit) ≡ over (recordsBytes (recordsOf (verdict (plainOf standard) (now (stream .entry)) (length (now (records .entry)) / recordSize)))) (now (records .entry)) ⌝ }

@@ -5,13 +5,14 @@ ghost use Rattle.vbv.specs.Model.{occupancyBeforeRemoval};
 ghost use Rattle.vbv.specs.Steps.{bitsOf};
 ghost use Rattle.verify.specs.Run.{apart};
 ghost use Rattle.verify.specs.Coded.{codedOf};
-ghost use Rattle.verify.specs.Steps.{withDelays, removedFrom, removed, progressed, firstRemoved, advanced, goneOn};
+ghost use Rattle.verify.specs.Steps.{withDelays, recordedIf, removedFrom, removed, progressed, firstRemoved, goneOnFrom, advanced, goneOn};
 use crate::BeforeRemoval;
 use crate::CodedPicture;
 use crate::Progress;
 use crate::Removed;
 use crate::VbvPictureRecord;
 use crate::VbvVerifyError;
+use crate::flow::flow_on;
 use pictures::SeenPicture;
 use vbv::RemovalInterval;
 use vbv::VbvBits;
@@ -86,6 +87,36 @@ fn with_delays(violation: VbvViolation, coded: u16, expected: u16) -> VbvViolati
     }
 }
 
+// The record of a removal, and the model after it.
+pub(crate) fn recorded(
+    model: VbvCbrModel,
+    coded: CodedPicture,
+    expected: u16,
+    before: u64,
+    removal: VbvRemoval,
+) -> Removed
+    ensures { λ r. ⌜ r ≡ recordedIf model coded expected before removal ⌝ }
+{
+    match removal {
+        VbvRemoval::Refused(error) => Removed::Refused(VbvVerifyError::Model(error)),
+        VbvRemoval::Violation(violation) => Removed::Refused(VbvVerifyError::Violation(with_delays(
+            violation,
+            coded.vbv_delay,
+            expected,
+        ))),
+        VbvRemoval::Model(next) => Removed::Recorded(
+            VbvPictureRecord {
+                vbv_delay: coded.vbv_delay,
+                expected_delay: expected,
+                data_bits: less(coded.end_bits, model.prev_end_bits),
+                occupancy_before_bits: before,
+                periods: periods(coded.interval),
+            },
+            next,
+        ),
+    }
+}
+
 // Removes a picture whose coded delay agrees with the expected one.
 fn remove_expected(model: VbvCbrModel, coded: CodedPicture, expected: u16) -> Removed
     ensures { λ r. ⌜ r ≡ removedFrom model coded expected (bitsOf (occupancyBeforeRemoval model)) ⌝ }
@@ -94,26 +125,8 @@ fn remove_expected(model: VbvCbrModel, coded: CodedPicture, expected: u16) -> Re
         VbvBits::Refused(error) => Removed::Refused(VbvVerifyError::Model(error)),
         VbvBits::Bits(before) => {
             let interval = coded.interval;
-            match model.remove_picture(coded.end_bits, interval) {
-                VbvRemoval::Refused(error) => Removed::Refused(VbvVerifyError::Model(error)),
-                VbvRemoval::Violation(violation) => {
-                    Removed::Refused(VbvVerifyError::Violation(with_delays(
-                        violation,
-                        coded.vbv_delay,
-                        expected,
-                    )))
-                }
-                VbvRemoval::Model(next) => Removed::Recorded(
-                    VbvPictureRecord {
-                        vbv_delay: coded.vbv_delay,
-                        expected_delay: expected,
-                        data_bits: less(coded.end_bits, model.prev_end_bits),
-                        occupancy_before_bits: before,
-                        periods: periods(interval),
-                    },
-                    next,
-                ),
-            }
+            let removal = model.remove_picture(coded.end_bits, interval);
+            recorded(model, coded, expected, before, removal)
         }
     }
 }
@@ -138,7 +151,7 @@ fn remove(model: VbvCbrModel, coded: CodedPicture) -> Removed
 }
 
 // The progress after a removal.
-fn go_on(removed: Removed, least: u64, greatest: u64) -> Progress
+pub(crate) fn go_on(removed: Removed, least: u64, greatest: u64) -> Progress
     ensures { λ r. ⌜ r ≡ progressed least greatest «removed» ⌝ }
 {
     match removed {
@@ -177,7 +190,7 @@ fn begin(params: VbvParams, coded: CodedPicture) -> BeforeRemoval
 
 // Before a picture's removal.
 fn before_removal(progress: Progress, params: VbvParams, coded: CodedPicture) -> BeforeRemoval
-    ensures { λ r. ⌜ goneOn coded «r» ≡ advanced params progress coded ⌝ }
+    ensures { λ r. ⌜ goneOn coded «r» ≡ goneOnFrom params progress coded ⌝ }
 {
     match progress {
         Progress::Fresh => begin(params, coded),
@@ -208,12 +221,16 @@ fn coded_picture(interval: RemovalInterval, seen: SeenPicture) -> CodedPicture
 pub(crate) fn advance(
     progress: Progress,
     params: VbvParams,
+    variable: bool,
     interval: RemovalInterval,
     seen: SeenPicture,
 ) -> Progress
-    ensures { λ r. ⌜ r ≡ advanced params progress (codedOf interval seen) ⌝ }
+    ensures { λ r. ⌜ r ≡ advanced variable params progress (codedOf interval seen) ⌝ }
 {
     let coded = coded_picture(interval, seen);
+    if variable {
+        return flow_on(progress, params, coded);
+    }
     match before_removal(progress, params, coded) {
         BeforeRemoval::Model(least, greatest, model) => go_on(
             remove(model, coded),
