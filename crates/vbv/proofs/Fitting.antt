@@ -2,7 +2,7 @@
 -- Assumes nothing.
 use mathlib.Core.Path.{_≡_, refl}
 use mathlib.Core.Bool.{Bool, true, false, _&&_, and-assoc}
-use Prim.Native.Nat.{ℕ, _*_, _/_, _≤_, _<_, max}
+use Prim.Native.Nat.{ℕ, _+_, _*_, _/_, _≤_, _<_, max}
 use native.Mathlib.Omega.{arith}
 use lib.Arith.{digits-div}
 use lib.Dec.{leb, ltb}
@@ -200,10 +200,18 @@ fit-in-at false p h = fit-in p h
 pub unit-pos : (p : VbvParams) → paramsFit p ≡ true → 0 < unit p
 unit-pos p h = unit-pos-in p (fit-in p h)
 
--- the whole bits of what is delivered
+-- what is delivered: whole bits and the rest of one
+pub delivered-parts : (m : VbvCbrModel) → delivered m ≡ m .whole * unit (m .params) + m .rest
+unfolding delivered
+delivered-parts m = refl
+
+pub delivered-whole : (m : VbvCbrModel) → m .rest < unit (m .params) → delivered m / unit (m .params) ≡ m .whole
+unfolding delivered
+delivered-whole m h = digits-div (m .whole) h
+
 pub delivered-div : (m : VbvCbrModel) → modelFits m ≡ true → delivered m / unit (m .params) ≡ m .whole
-unfolding delivered unit
-delivered-div m h = digits-div (m .whole) (model-fits h .rest-low)
+unfolding unit
+delivered-div m h = delivered-whole m (model-fits h .rest-low)
 
 -- an interval is one period at least and six at most
 pub periods-least : (i : RemovalInterval) → 1 ≤ periods i
