@@ -2,16 +2,15 @@
 -- Assumes nothing.
 use mathlib.Core.Path.{_≡_, refl, sym, ap, _∙_}
 use mathlib.Core.Bool.{Bool, true, false, not, _&&_, _||_}
-use mathlib.Core.Logic.{⊎-elim}
-use Prim.Native.Nat.{ℕ, _+_, _-_, _*_, _/_, _%_, _≤_, _<_, min}
+use Prim.Native.Nat.{ℕ, _+_, _-_, _*_, _^_, _≤_, _<_, min}
 use native.Mathlib.Omega.{arith}
 use native.Mathlib.Nat.{mul-le-mul}
 use lib.Arith.{digits-div, digits-mod}
 use lib.Dec.{ltb, eqb}
 use borrow.Author.Tests.{ltb-true, ltb-false, eqb-true, eqb-false, lt-ltb, le-ltb}
+use Rattle.bits.specs.Bits.{pick}
 use Rattle.bits.specs.Refusals.{Answer, value, refused}
 use Rattle.bits.proofs.Flags.{yes, no, held, failed, is-true, clash}
-use Rattle.bits.proofs.Appending.{lt-or-le}
 use Rattle.vbv.specs.Annex.{unit, gain, overflows, beyond, occupancy, full, arrived}
 use Rattle.vbv.specs.Model.{delivered, modelInRange, atDelivered, afterRemoval, periods, nextDelivered, endFits, gained}
 use Rattle.vbv.specs.Steps.{EndFits, modelOf}
@@ -61,9 +60,23 @@ full-test m h = go (ltb (m .whole) (most m)) refl (eqb (m .whole) (most m)) refl
         let z = mul-le-mul {n₁ = most m + 1} {m₁ = unit (m .params)} {n₂ = m .whole} {m₂ = unit (m .params)} (omega (arith, ltb-false (m .whole) (most m) e, eqb-false (m .whole) (most m) f)) (omega arith) in
         rw (over (omega (arith, delivered-parts m, range-fits h .rest-low)))
 
--- the end and a buffer fit in 64 bits
-pub most-fits : (m : VbvCbrModel) → modelInRange m ≡ true → m .«prev_end_bits» + m .params .«buffer_size_bits» < 18446744073709551616
+-- which fits in 64 bits
+pub most-fits : (m : VbvCbrModel) → modelInRange m ≡ true → m .«prev_end_bits» + m .params .«buffer_size_bits» < 2 ^ 64
 most-fits m h = omega (arith, range-fits h .end-high, in-range (m .params) (range-fits h .params-in) .1)
+
+-- a model that fits, out of order or out of range
+module _ (m : VbvCbrModel) (f : variableFits m ≡ true) where
+  pub remove-order : (end : ℕ) (i : RemovalInterval) → m .started ≡ false → refused 13 0 0 0 ≡ removeVariable m end i
+  unfolding removeVariable
+  remove-order end i s = held _ _ _ f (failed _ _ _ s refl)
+
+  pub remove-range : (end : ℕ) (i : RemovalInterval) → m .started ≡ true → endFits m end ≡ false → refused 14 0 0 0 ≡ removeVariable m end i
+  unfolding removeVariable
+  remove-range end i s h = held _ _ _ f (held _ _ _ s (failed _ _ _ h refl))
+
+  pub occupancy-order : m .started ≡ false → refused 13 0 0 0 ≡ occupancyVariable m
+  unfolding occupancyVariable
+  occupancy-order s = held _ _ _ f (failed _ _ _ s refl)
 
 -- a removal: not all there
 module _ (m : VbvCbrModel) (f : variableFits m ≡ true) (s : m .started ≡ true) (end : ℕ) (g : EndFits m end) (i : RemovalInterval) where
@@ -118,19 +131,24 @@ module _ (m : VbvCbrModel) (end : ℕ) (v : Cappable m end) where
       omega (arith, delivered-parts m, full-is (m .params) end)
 
   pub capped-is : (w r : ℕ)
-      → (m .whole < end + m .params .«buffer_size_bits» → (w ≡ m .whole) × (r ≡ m .rest))
-      → (end + m .params .«buffer_size_bits» ≤ m .whole → (w ≡ end + m .params .«buffer_size_bits») × (r ≡ 0))
+      → w ≡ pick (ltb (m .whole) (end + m .params .«buffer_size_bits»)) (m .whole) (end + m .params .«buffer_size_bits»)
+      → r ≡ pick (ltb (m .whole) (end + m .params .«buffer_size_bits»)) (m .rest) 0
       → _≡_ {A = VbvCbrModel}
       (record { params = m .params; whole = w; rest = r; «prev_end_bits» = end; removed = m .removed + 1; started = true })
       (afterRemoval m end (min (delivered m) (full (m .params) end)))
-  capped-is w r f h =
-      ⊎-elim
-      (λ (l : m .whole < end + m .params .«buffer_size_bits»).
-      rw (after-is m end _, below-is l, f l .0, f l .1, digits-div (m .whole) (v .rest-low), digits-mod (m .whole) (v .rest-low)))
-      (λ (l : end + m .params .«buffer_size_bits» ≤ m .whole).
-      let u : 0 < unit (m .params) = omega arith in
-      rw (after-is m end _, above-is l, h l .0, h l .1, digits-div (end + m .params .«buffer_size_bits») u, digits-mod (end + m .params .«buffer_size_bits») u))
-      (lt-or-le (m .whole) (end + m .params .«buffer_size_bits»))
+  unfolding pick
+  capped-is w r x y = go (ltb (m .whole) (end + m .params .«buffer_size_bits»)) refl x y
+    where
+      go : (t : Bool) → ltb (m .whole) (end + m .params .«buffer_size_bits») ≡ t
+          → w ≡ pick t (m .whole) (end + m .params .«buffer_size_bits») → r ≡ pick t (m .rest) 0
+          → _≡_ {A = VbvCbrModel}
+          (record { params = m .params; whole = w; rest = r; «prev_end_bits» = end; removed = m .removed + 1; started = true })
+          (afterRemoval m end (min (delivered m) (full (m .params) end)))
+      go true e x y =
+          rw (after-is m end _, below-is (ltb-true _ _ e), x, y, digits-div (m .whole) (v .rest-low), digits-mod (m .whole) (v .rest-low))
+      go false e x y =
+          let u : 0 < unit (m .params) = omega (arith, v .rest-low) in
+          rw (after-is m end _, above-is (ltb-false _ _ e), x, y, digits-div (end + m .params .«buffer_size_bits») u, digits-mod (end + m .params .«buffer_size_bits») u)
 
 -- a full buffer at the start
 pub start-is : (m : VbvCbrModel) → variableFits m ≡ true → m .started ≡ false

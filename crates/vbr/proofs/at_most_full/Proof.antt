@@ -3,7 +3,7 @@ use Rattle.vbr.proofs.at_most_full.Statement.{statement}
 use Rattle.vbr.proofs.at_most_full.Tie as tie
 
 add-most : tie.Need-add-most
-add-most c = record { fits = most-fits _ (search) }
+add-most c = record { fits = most-fits (c .before .before .before .args .model) (search) }
 
 returns : tie.Need-returns
 returns c = full-test _ (search)

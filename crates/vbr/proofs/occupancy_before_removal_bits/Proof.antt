@@ -1,7 +1,7 @@
 use mathlib.Core.Path.{refl}
-use Rattle.bits.proofs.Flags.{held, failed, told-by}
+use Rattle.bits.proofs.Flags.{failed, told-by}
 use Rattle.vbr.specs.Variable.{variableFits, occupancyVariable}
-use Rattle.vbr.proofs.Ways.{occupancy-is}
+use Rattle.vbr.proofs.Ways.{occupancy-order, occupancy-is}
 use borrow.Author.Needs.{needs}
 use native.Mathlib.Omega.{arith}
 use Rattle.vbr.proofs.occupancy_before_removal_bits.Statement.{statement}
@@ -20,8 +20,7 @@ returns-2 : tie.Need-returns-2
 returns-2 c = occupancy-is _ (search told-by) (search) _ (omega arith)
 
 returns-3 : tie.Need-returns-3
-unfolding occupancyVariable
-returns-3 c = held (variableFits _) _ _ (search told-by) (failed _ _ _ (search) refl)
+returns-3 c = occupancy-order _ (search told-by) (search)
 
 returns-4 : tie.Need-returns-4
 unfolding occupancyVariable

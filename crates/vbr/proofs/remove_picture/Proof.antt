@@ -1,8 +1,9 @@
 use mathlib.Core.Path.{refl}
-use Rattle.bits.proofs.Flags.{held, failed, told-by}
+use Rattle.bits.proofs.Flags.{failed, told-by}
 use Rattle.vbv.specs.Model.{endFits}
 use Rattle.vbv.proofs.Fitting.{end-fits}
 use Rattle.vbr.specs.Variable.{variableFits, removeVariable}
+use Rattle.vbr.proofs.Ways.{remove-order, remove-range}
 use borrow.Author.Needs.{needs}
 use Rattle.vbr.proofs.remove_picture.Statement.{statement}
 use Rattle.vbr.proofs.remove_picture.Tie as tie
@@ -18,12 +19,11 @@ returns : tie.Need-returns
 returns c = search needs
 
 returns-2 : tie.Need-returns-2
-unfolding removeVariable endFits
-returns-2 c = held (variableFits _) _ _ (search told-by) (held _ _ _ (search) (failed _ _ _ (search) refl))
+unfolding endFits
+returns-2 c = remove-range _ (search told-by) _ _ (search) (search)
 
 returns-3 : tie.Need-returns-3
-unfolding removeVariable
-returns-3 c = held (variableFits _) _ _ (search told-by) (failed _ _ _ (search) refl)
+returns-3 c = remove-order _ (search told-by) _ _ (search)
 
 returns-4 : tie.Need-returns-4
 unfolding removeVariable
