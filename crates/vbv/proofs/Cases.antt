@@ -11,7 +11,7 @@ use Rattle.bits.specs.Refusals.{Answer, value, refused, andThen}
 use Rattle.bits.proofs.Flags.{pick-elim, held, was-held, both-true}
 use Rattle.vbv.specs.Annex.{unit}
 use Rattle.vbv.specs.Answers.{codeRate, frameRate}
-use Rattle.vbv.specs.Model.{paramsFit, newModel, delivered, afterRemoval}
+use Rattle.vbv.specs.Model.{paramsFit, newModel, delivered, atDelivered, afterRemoval}
 use Rattle.vbv.specs.declared.VbvParams.{VbvParams}
 use Rattle.vbv.specs.declared.VbvCbrModel.{VbvCbrModel}
 use Rattle.bits.proofs.Following.{refused-value}
@@ -24,6 +24,10 @@ modelAt p d end removed started =
 pub after-is : (m : VbvCbrModel) (end d : ℕ) → afterRemoval m end d ≡ modelAt (m .params) d end (m .removed + 1) true
 unfolding afterRemoval
 after-is m end d = refl
+
+pub at-is : (m : VbvCbrModel) (d : ℕ) → atDelivered m d ≡ modelAt (m .params) d (m .«prev_end_bits») (m .removed) true
+unfolding atDelivered
+at-is m d = refl
 
 pub delivered-of : (p : VbvParams) (d end removed : ℕ) (started : Bool) → delivered (modelAt p d end removed started) ≡ d
 unfolding delivered

@@ -9,7 +9,7 @@ use Rattle.bits.specs.Bits.{pick}
 use Rattle.bits.specs.StartCodes.{startCode, pictureStartCode}
 use Rattle.bits.proofs.Reading.{same-self}
 use Rattle.vbv.specs.Annex.{unit, firstDelivered, gain, overflows, beyond, expectedDelay}
-use Rattle.vbv.specs.Model.{paramsInRange, ratioFits, paramsFit, delivered, modelFits, atDelivered, afterRemoval, nextDelivered, newModel, startModel, delayForPicture, endFits, removePicture}
+use Rattle.vbv.specs.Model.{paramsInRange, ratioFits, paramsFit, delivered, countsFit, modelFits, atDelivered, afterRemoval, nextDelivered, newModel, startModel, delayForPicture, endFits, removePicture}
 use Rattle.vbv.proofs.Params.{params-are}
 use Rattle.vbv.specs.Patch.{startsPicture}
 use Rattle.vbv.specs.Figures.{ModelFigures}
@@ -34,7 +34,7 @@ header-starts : startsPicture patchedHeader ≡ true
 header-starts = sym (starts-picture-is patchedHeader (lit≤ tt)) ∙ same-self (startCode pictureStartCode)
 
 pub model-figures : ModelFigures
-unfolding pick unit firstDelivered gain overflows beyond expectedDelay paramsInRange ratioFits paramsFit delivered modelFits atDelivered afterRemoval nextDelivered newModel startModel delayForPicture endFits removePicture
+unfolding pick unit firstDelivered gain overflows beyond expectedDelay paramsInRange ratioFits paramsFit delivered countsFit modelFits atDelivered afterRemoval nextDelivered newModel startModel delayForPicture endFits removePicture
 model-figures = record {
   fields = params-are 2500 20 25 1;
   end-246755 = refl;

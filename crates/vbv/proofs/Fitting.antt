@@ -2,7 +2,7 @@
 -- Assumes nothing.
 use mathlib.Core.Path.{_≡_, refl}
 use mathlib.Core.Bool.{Bool, true, false, _&&_, and-assoc}
-use Prim.Native.Nat.{ℕ, _*_, _/_, _≤_, _<_, max}
+use Prim.Native.Nat.{ℕ, _+_, _*_, _/_, _≤_, _<_, max}
 use native.Mathlib.Omega.{arith}
 use lib.Arith.{digits-div}
 use lib.Dec.{leb, ltb}
@@ -13,8 +13,8 @@ use Rattle.vbv.specs.declared.RemovalInterval.the-variants.{Frame, Field
 use Rattle.vbv.specs.declared.VbvParams.{VbvParams}
 use Rattle.vbv.specs.declared.VbvCbrModel.{VbvCbrModel}
 use Rattle.vbv.specs.Annex.{unit}
-use Rattle.vbv.specs.Steps.{ParamsFit, ModelFits, EndFits}
-use Rattle.vbv.specs.Model.{farthest, mostDelivered, paramsInRange, ratioFits, paramsFit, delivered, modelFits, intervalOf, periods, endFits}
+use Rattle.vbv.specs.Steps.{ParamsFit, ModelFits, ModelInRange, EndFits}
+use Rattle.vbv.specs.Model.{farthest, mostDelivered, paramsInRange, ratioFits, paramsFit, paramsFitAt, delivered, countsFit, modelFits, modelInRange, intervalOf, periods, endFits}
 
 -- the ranges keep the test of the ratio, and the products of two frame rates, in 64 bits
 pub in-range : (p : VbvParams) → paramsInRange p ≡ true → (p .«bit_rate» ≤ 429496729200) × (p .«buffer_size_bits» ≤ 4294950912)
@@ -46,7 +46,7 @@ params-fit h =
     }
 
 pub model-fits : {m : VbvCbrModel} → modelFits m ≡ true → ModelFits m
-unfolding modelFits unit
+unfolding modelFits countsFit unit
 model-fits h =
     record {
       params-fit = params-fit (search (and-left, and-right) depth 8);
@@ -54,6 +54,50 @@ model-fits h =
       rest-low = ltb-true _ _ (search (and-left, and-right) depth 8);
       end-high = leb-true _ _ (search (and-left, and-right) depth 8);
       removed-high = leb-true _ _ (search (and-left, and-right) depth 8);
+    }
+
+-- whatever the ratio: the parameters in their ranges, and what is counted
+pub record RangeFits (m : VbvCbrModel) : Type 0 where
+  pub params-in : paramsInRange (m .params) ≡ true
+  pub whole-high : m .whole ≤ mostDelivered
+  pub rest-low : m .rest < unit (m .params)
+  pub end-high : m .«prev_end_bits» ≤ farthest
+  pub removed-high : m .removed ≤ farthest
+
+pub range-fits : {m : VbvCbrModel} → modelInRange m ≡ true → RangeFits m
+unfolding modelInRange countsFit
+range-fits h =
+    record {
+      params-in = search (and-left, and-right) depth 8;
+      whole-high = leb-true _ _ (search (and-left, and-right) depth 8);
+      rest-low = ltb-true _ _ (search (and-left, and-right) depth 8);
+      end-high = leb-true _ _ (search (and-left, and-right) depth 8);
+      removed-high = leb-true _ _ (search (and-left, and-right) depth 8);
+    }
+
+-- what an advance needs
+pub fits-in-range : {m : VbvCbrModel} → ModelFits m → ModelInRange m
+fits-in-range f =
+    record {
+      rate-high = omega arith;
+      frn-low = omega arith;
+      frn-high = omega arith;
+      frd-high = omega arith;
+      whole-high = f .whole-high;
+      rest-low = f .rest-low;
+    }
+
+pub model-in-range : {m : VbvCbrModel} → modelInRange m ≡ true → ModelInRange m
+unfolding unit
+model-in-range {m} h =
+    let r = range-fits h in
+    record {
+      rate-high = in-range (m .params) (r .params-in) .0;
+      frn-low = not-zero (m .params) (r .params-in) .1;
+      frn-high = frames-in-range (m .params) (r .params-in) .0;
+      frd-high = frames-in-range (m .params) (r .params-in) .1;
+      whole-high = r .whole-high;
+      rest-low = r .rest-low;
     }
 
 pub end-fits : {m : VbvCbrModel} {end : ℕ} → endFits m end ≡ true → EndFits m end
@@ -74,16 +118,29 @@ both-below a b n = go (leb a n) refl (leb b n) refl
     go true e false f = lt-leb (max a b) n (omega (arith, leb-false b n f))
     go false e q f = lt-leb (max a b) n (omega (arith, leb-false a n e))
 
--- the test of a state by that of its parameters
-pub by-params : (m : VbvCbrModel) → paramsFit (m .params) ≡ true
+-- what is counted, two of it below one bound
+pub counts-are : (m : VbvCbrModel)
     → (leb (m .whole) mostDelivered && ltb (m .rest) (180000 * m .params .frn) && leb (max (m .«prev_end_bits») (m .removed)) farthest)
-    ≡ modelFits m
-unfolding modelFits unit
-by-params m h = rw (h, both-below (m .«prev_end_bits») (m .removed) farthest) (simp and-assoc)
+    ≡ countsFit m
+unfolding countsFit unit
+counts-are m = rw (both-below (m .«prev_end_bits») (m .removed) farthest) (simp and-assoc)
+
+-- the test of a state by that of its parameters
+pub by-params : (m : VbvCbrModel) → paramsFit (m .params) ≡ true → countsFit m ≡ modelFits m
+unfolding modelFits
+by-params m h = rw h
 
 pub no-params : (m : VbvCbrModel) → paramsFit (m .params) ≡ false → false ≡ modelFits m
 unfolding modelFits
 no-params m h = rw h
+
+pub by-ranges : (m : VbvCbrModel) → paramsInRange (m .params) ≡ true → countsFit m ≡ modelInRange m
+unfolding modelInRange
+by-ranges m h = rw h
+
+pub no-ranges : (m : VbvCbrModel) → paramsInRange (m .params) ≡ false → false ≡ modelInRange m
+unfolding modelInRange
+no-ranges m h = rw h
 
 -- and back
 pub fitting-params : (p : VbvParams) → ParamsFit p → paramsFit p ≡ true
@@ -102,10 +159,21 @@ fitting-params p f =
     )
 
 pub fitting-model : (m : VbvCbrModel) → ModelFits m → modelFits m ≡ true
-unfolding modelFits unit
+unfolding modelFits countsFit unit
 fitting-model m f =
     simp (
       fitting-params (m .params) (f .params-fit),
+      le-leb _ _ (f .whole-high),
+      lt-ltb _ _ (f .rest-low),
+      le-leb _ _ (f .end-high),
+      le-leb _ _ (f .removed-high),
+    )
+
+pub fitting-range : (m : VbvCbrModel) → RangeFits m → modelInRange m ≡ true
+unfolding modelInRange countsFit
+fitting-range m f =
+    simp (
+      f .params-in,
       le-leb _ _ (f .whole-high),
       lt-ltb _ _ (f .rest-low),
       le-leb _ _ (f .end-high),
@@ -116,14 +184,34 @@ pub fitting-end : (m : VbvCbrModel) (end : ℕ) → EndFits m end → endFits m 
 unfolding endFits
 fitting-end m end f = simp (le-leb _ _ (f .end-far), le-leb _ _ (f .end-low), lt-ltb _ _ (f .count))
 
-pub unit-pos : (p : VbvParams) → paramsFit p ≡ true → 0 < unit p
+pub unit-pos-in : (p : VbvParams) → paramsInRange p ≡ true → 0 < unit p
 unfolding unit
-unit-pos p h = omega (arith, params-fit h)
+unit-pos-in p h = omega (arith, not-zero p h .1)
 
--- the whole bits of what is delivered
+-- parameters that fit are in their ranges, at either kind of rate
+pub fit-in : (p : VbvParams) → paramsFit p ≡ true → paramsInRange p ≡ true
+unfolding paramsFit
+fit-in p h = and-left (paramsInRange p) (ratioFits p) h
+
+pub fit-in-at : (v : Bool) (p : VbvParams) → paramsFitAt v p ≡ true → paramsInRange p ≡ true
+fit-in-at true p h = h
+fit-in-at false p h = fit-in p h
+
+pub unit-pos : (p : VbvParams) → paramsFit p ≡ true → 0 < unit p
+unit-pos p h = unit-pos-in p (fit-in p h)
+
+-- what is delivered: whole bits and the rest of one
+pub delivered-parts : (m : VbvCbrModel) → delivered m ≡ m .whole * unit (m .params) + m .rest
+unfolding delivered
+delivered-parts m = refl
+
+pub delivered-whole : (m : VbvCbrModel) → m .rest < unit (m .params) → delivered m / unit (m .params) ≡ m .whole
+unfolding delivered
+delivered-whole m h = digits-div (m .whole) h
+
 pub delivered-div : (m : VbvCbrModel) → modelFits m ≡ true → delivered m / unit (m .params) ≡ m .whole
-unfolding delivered unit
-delivered-div m h = digits-div (m .whole) (model-fits h .rest-low)
+unfolding unit
+delivered-div m h = delivered-whole m (model-fits h .rest-low)
 
 -- an interval is one period at least and six at most
 pub periods-least : (i : RemovalInterval) → 1 ≤ periods i

@@ -16,11 +16,11 @@ use Rattle.vbv.specs.declared.RemovalInterval.{RemovalInterval}
 use Rattle.vbv.specs.declared.VbvParams.{VbvParams}
 use Rattle.vbv.specs.declared.VbvCbrModel.{VbvCbrModel}
 use Rattle.vbv.specs.Annex.{unit, firstDelivered, gain, overflows, beyond, expectedDelay, occupancy, greatestEnd, leastEnd}
-use Rattle.vbv.specs.Model.{farthest, mostDelivered, paramsFit, delivered, modelFits, atDelivered, afterRemoval, periods, nextDelivered, newModel, startModel, delayForPicture, endFits, removePicture, ofStarted, maxEndBits, minEndBits, occupancyBeforeRemoval}
+use Rattle.vbv.specs.Model.{farthest, mostDelivered, paramsInRange, paramsFit, delivered, modelFits, modelInRange, atDelivered, afterRemoval, periods, nextDelivered, newModel, startModel, delayForPicture, endFits, removePicture, ofStarted, maxEndBits, minEndBits, occupancyBeforeRemoval}
 use Rattle.vbv.specs.Steps.{ModelFits, EndFits}
-use Rattle.vbv.proofs.Arith.{same-lt, below-floor, above-ceiling, ceiling-beyond, start-div, next-div, ticks-most, next-most}
+use Rattle.vbv.proofs.Arith.{same-lt, below-floor, floor-beyond, above-ceiling, ceiling-beyond, start-div, next-div, ticks-most, next-most}
 use Rattle.bits.proofs.Flags.{no, held, was-no, was-held}
-use Rattle.vbv.proofs.Fitting.{params-fit, model-fits, end-fits, fitting-params, fitting-model, unit-pos, periods-most}
+use Rattle.vbv.proofs.Fitting.{params-fit, model-fits, range-fits, end-fits, fitting-params, fitting-model, fit-in, unit-pos, unit-pos-in, delivered-whole, periods-most}
 
 -- the tests as orders of units, both ways
 module _ (p : VbvParams) where
@@ -53,11 +53,35 @@ module _ (p : VbvParams) where
   unfolding firstDelivered
   first-in-time position delay = units-beyond position (firstDelivered p position delay) (omega arith)
 
+-- whatever the ratio: the greatest end; the buffer, at most full before a removal, and all of the picture in it
+module _ (p : VbvParams) (f : paramsInRange p ≡ true) where
+  pub beyond-greatest-in : (end d : ℕ) → beyond p end d ≡ ltb (greatestEnd p d) end
+  unfolding beyond greatestEnd
+  beyond-greatest-in end d = below-floor d end (unit p) (unit-pos-in p f)
+
+  pub occupancy-most-in : (previous d : ℕ) → overflows p previous d ≡ false → occupancy p previous d ≤ p .«buffer_size_bits»
+  unfolding occupancy
+  occupancy-most-in previous d h =
+      let u = unit-pos-in p f in
+      let l = over-units p previous d h in
+      let q = div-lt-iff-lt-mul {k = unit p} {x = d - previous * unit p} {y = p .«buffer_size_bits» + 1} u .1 (omega arith) in
+      omega arith
+
+  pub occupancy-least-in : (previous end d : ℕ) → beyond p end d ≡ false → end - previous ≤ occupancy p previous d
+  unfolding occupancy
+  occupancy-least-in previous end d h =
+      let l = beyond-units p end d h in
+      ⊎-elim
+      (λ (g : end < previous). omega arith)
+      (λ (g : previous ≤ end).
+      let e : (end - previous + previous) * unit p ≡ end * unit p = ap (λ (x : ℕ). x * unit p) (omega arith) in
+      le-div-iff-mul-le {k = unit p} {x = end - previous} {y = d - previous * unit p} (unit-pos-in p f) .1 (omega arith))
+      (lt-or-le end previous)
+
 -- the ends: a test of either kind is a comparison with the greatest or the least end
 module _ (p : VbvParams) (f : paramsFit p ≡ true) where
   pub beyond-greatest : (end d : ℕ) → beyond p end d ≡ ltb (greatestEnd p d) end
-  unfolding beyond greatestEnd
-  beyond-greatest end d = below-floor d end (unit p) (unit-pos p f)
+  beyond-greatest = beyond-greatest-in p (fit-in p f)
 
   pub overflow-ceiling : (previous d : ℕ) → overflows p previous d ≡ ltb (previous + p .«buffer_size_bits») ((d + (unit p - 1)) / unit p)
   unfolding overflows
@@ -76,23 +100,10 @@ module _ (p : VbvParams) (f : paramsFit p ≡ true) where
 
   -- the buffer: at most full before a removal, and all of the picture is in it
   pub occupancy-most : (previous d : ℕ) → overflows p previous d ≡ false → occupancy p previous d ≤ p .«buffer_size_bits»
-  unfolding occupancy
-  occupancy-most previous d h =
-      let u = unit-pos p f in
-      let l = over-units p previous d h in
-      let q = div-lt-iff-lt-mul {k = unit p} {x = d - previous * unit p} {y = p .«buffer_size_bits» + 1} u .1 (omega arith) in
-      omega arith
+  occupancy-most = occupancy-most-in p (fit-in p f)
 
   pub occupancy-least : (previous end d : ℕ) → beyond p end d ≡ false → end - previous ≤ occupancy p previous d
-  unfolding occupancy
-  occupancy-least previous end d h =
-      let l = beyond-units p end d h in
-      ⊎-elim
-      (λ (g : end < previous). omega arith)
-      (λ (g : previous ≤ end).
-      let e : (end - previous + previous) * unit p ≡ end * unit p = ap (λ (x : ℕ). x * unit p) (omega arith) in
-      le-div-iff-mul-le {k = unit p} {x = end - previous} {y = d - previous * unit p} (unit-pos p f) .1 (omega arith))
-      (lt-or-le end previous)
+  occupancy-least = occupancy-least-in p (fit-in p f)
 
   -- the delay: what a buffer that does not overflow holds can be said, and the first delay is the coded one
   pub delay-most : (previous position d : ℕ) → overflows p previous d ≡ false → previous ≤ position → expectedDelay p position d ≤ 65534
@@ -120,6 +131,18 @@ module _ (p : VbvParams) (f : paramsFit p ≡ true) where
 -- a state that fits has parameters that fit
 pub fits-params : (m : VbvCbrModel) → modelFits m ≡ true → paramsFit (m .params) ≡ true
 fits-params m f = fitting-params (m .params) (model-fits f .params-fit)
+
+-- the whole bits of a state in its ranges, whatever the ratio
+module _ (m : VbvCbrModel) (f : modelInRange m ≡ true) where
+  pub beyond-whole : (end : ℕ) → beyond (m .params) end (delivered m) ≡ ltb (m .whole) end
+  unfolding greatestEnd
+  beyond-whole end =
+      beyond-greatest-in (m .params) (range-fits f .params-in) end (delivered m)
+      ∙ ap (λ (x : ℕ). ltb x end) (delivered-whole m (range-fits f .rest-low))
+
+  pub occupancy-whole : occupancy (m .params) (m .«prev_end_bits») (delivered m) ≡ m .whole - m .«prev_end_bits»
+  unfolding occupancy delivered
+  occupancy-whole = floor-beyond (m .whole) (m .rest) (m .«prev_end_bits») (unit (m .params)) (range-fits f .rest-low)
 
 -- what the state is said to have delivered it has
 pub delivered-at : (m : VbvCbrModel) (d : ℕ) → delivered (atDelivered m d) ≡ d

@@ -12,5 +12,6 @@ pub mod Told
 pub mod Named
 pub mod After
 pub mod Cases
+pub mod Arrival
 pub mod Scale
 pub mod Rates

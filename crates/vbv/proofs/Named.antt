@@ -17,10 +17,10 @@ use Rattle.vbv.specs.declared.VbvRemoval.the-variants as rm
 use Rattle.vbv.specs.declared.VbvDelay.the-variants as dl
 use Rattle.vbv.specs.declared.VbvBits.the-variants as bt
 use Rattle.vbv.specs.Annex.{firstDelivered, overflows, beyond, expectedDelay, occupancy, greatestEnd, leastEnd}
-use Rattle.vbv.specs.Model.{farthest, paramsFit, delivered, modelFits, atDelivered, afterRemoval, nextDelivered, newModel, startModel, delayForPicture, removePicture, maxEndBits, minEndBits, occupancyBeforeRemoval}
+use Rattle.vbv.specs.Model.{farthest, paramsFit, delivered, modelFits, modelInRange, atDelivered, afterRemoval, nextDelivered, gained, newModel, startModel, delayForPicture, removePicture, maxEndBits, minEndBits, occupancyBeforeRemoval}
 use Rattle.vbv.specs.Steps.{EndFits, modelErrorOf, modelOf, delayOf, bitsOf, removalOf}
 use Rattle.vbv.proofs.Laws.{model-starts, delays, occupancy-told, max-end, min-end}
-use Rattle.vbv.proofs.Told.{unmade, makes, delay-told, removal-told}
+use Rattle.vbv.proofs.Told.{unmade, makes, gains, delay-told, removal-told}
 
 pub unmade-named : (p : VbvParams) → paramsFit p ≡ false → modelOf (newModel p) ≡ Refused Params
 unfolding modelOf modelErrorOf pick
@@ -35,6 +35,23 @@ pub starts-named : (m : VbvCbrModel) (delay position : ℕ) → modelFits m ≡ 
     → modelOf (startModel m delay position) ≡ Model (atDelivered m (firstDelivered (m .params) position delay))
 unfolding modelOf
 starts-named m delay position f s h = rw (model-starts m delay position f s h)
+
+pub gained-named : (m : VbvCbrModel) (i : RemovalInterval) → modelInRange m ≡ true → modelOf (gained m i) ≡ Model (atDelivered m (nextDelivered m i))
+unfolding modelOf
+gained-named m i h = rw (gains m i h)
+
+-- each answer by its name
+pub model-12 : modelOf (refused 12 0 0 0) ≡ Refused Params
+unfolding modelOf modelErrorOf pick
+model-12 = refl
+
+pub model-value : (m : VbvCbrModel) → modelOf (value m) ≡ Model m
+unfolding modelOf
+model-value m = refl
+
+pub bits-value : (b : ℕ) → bitsOf (value b) ≡ bt.Bits b
+unfolding bitsOf
+bits-value b = refl
 
 delay-7 : delayOf (refused 7 0 0 0) ≡ dl.Refused Early
 unfolding delayOf modelErrorOf pick
@@ -52,11 +69,11 @@ removal-9 : (n : ℕ) → removalOf (refused 9 n 0 0) ≡ rm.Violation (Overflow
 unfolding removalOf pick
 removal-9 n = refl
 
-removal-10 : (n : ℕ) → removalOf (refused 10 n 0 0) ≡ rm.Violation (Underflow n 0 0)
+pub removal-10 : (n : ℕ) → removalOf (refused 10 n 0 0) ≡ rm.Violation (Underflow n 0 0)
 unfolding removalOf pick
 removal-10 n = refl
 
-removal-value : (m : VbvCbrModel) → removalOf (value m) ≡ rm.Model m
+pub removal-value : (m : VbvCbrModel) → removalOf (value m) ≡ rm.Model m
 unfolding removalOf
 removal-value m = refl
 

@@ -2,16 +2,16 @@
 -- p's units, and e, counted in q's, are as many bits.
 -- Assumes nothing.
 use mathlib.Core.Path.{_≡_, refl, sym, ap, _∙_}
-use Prim.Native.Nat.{ℕ, _+_, _-_, _*_, _/_, _≤_, _<_}
+use Prim.Native.Nat.{ℕ, _+_, _-_, _*_, _/_, _≤_, _<_, min}
 use native.Mathlib.Omega.{arith}
 use native.Mathlib.Decide.{decLt}
 use borrow.Author.Tests.{eqb-true}
-use mathlib.Core.Bool.{true}
+use mathlib.Core.Bool.{Bool, true, false}
 use Rattle.bits.proofs.Flags.{and-left, and-right}
 use native.Mathlib.Nat.{mul-lt-mul-of-pos-right, lt-of-mul-lt-mul-right, mul-div-mul-right, mul-comm, mul-sub, le-antisymm}
 use Rattle.vbv.specs.declared.VbvParams.{VbvParams}
-use Rattle.vbv.specs.Annex.{unit, firstDelivered, gain, overflows, beyond, expectedDelay, occupancy, greatestEnd, leastEnd}
-use Rattle.vbv.specs.Model.{paramsInRange, ratioFits, paramsFit}
+use Rattle.vbv.specs.Annex.{unit, firstDelivered, gain, overflows, beyond, expectedDelay, occupancy, greatestEnd, leastEnd, full, firstArrived, arrived, expected}
+use Rattle.vbv.specs.Model.{paramsInRange, ratioFits, paramsFit, paramsFitAt}
 use Rattle.vbv.specs.Params.{sameParams}
 use Rattle.vbv.specs.Rates.{SameBits, SameTold}
 use Rattle.vbv.proofs.Arith.{same-lt}
@@ -72,6 +72,28 @@ quotient : (a b c d f g : ℕ) → 1 ≤ f → 1 ≤ g → a * g ≡ c * f → b
 quotient a b c d f g hf hg s t =
     sym (mul-div-mul-right {m = g} a b (omega arith)) ∙ ap (λ (z : ℕ). z / (b * g)) s ∙ ap (λ (z : ℕ). c * f / z) t ∙ mul-div-mul-right {m = f} c d (omega arith)
 
+-- the lesser of both
+lesser : (a b c d f g : ℕ) → 1 ≤ f → 1 ≤ g → a * g ≡ c * f → b * g ≡ d * f → min a b * g ≡ min c d * f
+lesser a b c d f g hf hg s t = go (decLt a b)
+  where
+    go : Dec (a < b) → min a b * g ≡ min c d * f
+    go (yes z) =
+        let k : a * g < b * g = mul-lt-mul-of-pos-right z (omega arith) in
+        let l : c < d = lt-of-mul-lt-mul-right f (omega arith) in
+        let x : min a b ≡ a = omega arith in
+        let y : min c d ≡ c = omega arith in
+        rw (x, y) s
+    go (no z) = go-2 (decLt c d)
+      where
+        go-2 : Dec (c < d) → min a b * g ≡ min c d * f
+        go-2 (yes y) =
+            let k : c * f < d * f = mul-lt-mul-of-pos-right y (omega arith) in
+            absurd (z (lt-of-mul-lt-mul-right g (omega arith)))
+        go-2 (no y) =
+            let x : min a b ≡ b = omega (arith, z) in
+            let w : min c d ≡ d = omega (arith, y) in
+            rw (x, w) t
+
 -- ---- Annex C
 
 module _ {p q : VbvParams} (v : SameValue p q) where
@@ -107,6 +129,23 @@ module _ {p q : VbvParams} (v : SameValue p q) where
       let k : p .«bit_rate» * 90000 * n * (p .frn * q .frd) ≡ p .«bit_rate» * 90000 * n * (q .frn * p .frd) = ap (λ (z : ℕ). p .«bit_rate» * 90000 * n * z) (v .frames) in
       rw (v .rate) (omega arith)
 
+  -- a full buffer, and what has arrived at either kind of rate
+  same-full : (end : ℕ) → SameBits p q (full p end) (full q end)
+  unfolding full unit
+  same-full end = rw (v .size) (omega arith)
+
+  same-fits-at : (w : Bool) → paramsFitAt w p ≡ paramsFitAt w q
+  same-fits-at true = rw (v .p-in, v .q-in)
+  same-fits-at false = same-fits
+
+  pub same-first-arrived : (w : Bool) (position delay : ℕ) → SameBits p q (firstArrived w p position delay) (firstArrived w q position delay)
+  same-first-arrived true position delay = same-full 0
+  same-first-arrived false position delay = same-first position delay
+
+  pub same-arrived : (w : Bool) (end d e n : ℕ) → SameBits p q d e → SameBits p q (arrived w p end d n) (arrived w q end e n)
+  same-arrived true end d e n s = lesser (d + gain p n) (full p end) (e + gain q n) (full q end) (p .frn) (q .frn) p-low q-low (same-gain d e n s) (same-full end)
+  same-arrived false end d e n s = same-gain d e n s
+
   module _ (d e : ℕ) (s : SameBits p q d e) where
     pub same-overflows : (previous : ℕ) → overflows p previous d ≡ overflows q previous e
     unfolding overflows unit
@@ -132,6 +171,10 @@ module _ {p q : VbvParams} (v : SameValue p q) where
         (quotient (d - position * (180000 * p .frn) + p .frn * p .«bit_rate») (2 * p .frn * p .«bit_rate»)
         (e - position * (180000 * q .frn) + q .frn * p .«bit_rate») (2 * q .frn * p .«bit_rate») (p .frn) (q .frn)
         p-low q-low (omega arith) (omega arith))
+
+    pub same-expected-at : (w : Bool) (position : ℕ) → expected w p position d ≡ expected w q position e
+    same-expected-at true position = refl
+    same-expected-at false position = same-expected position
 
     same-greatest : greatestEnd p d ≡ greatestEnd q e
     unfolding greatestEnd unit
@@ -160,4 +203,8 @@ same-told p q h =
       held = λ previous d e s. same-occupancy v d e s previous;
       greatest-end = λ d e s. same-greatest v d e s;
       least-end = λ d e s. le-antisymm (least-most (turned v) e d (sym s)) (least-most v d e s);
+      fits-at = same-fits-at v;
+      first-arrived = same-first-arrived v;
+      next-arrived = same-arrived v;
+      expected-at = λ w position d e s. same-expected-at v d e s w position;
     }

@@ -10,7 +10,7 @@ use Rattle.vbv.specs.declared.RemovalInterval.{RemovalInterval}
 use Rattle.vbv.specs.declared.VbvParams.{VbvParams}
 use Rattle.vbv.specs.declared.VbvCbrModel.{VbvCbrModel}
 use Rattle.vbv.specs.Annex.{gain, overflows, beyond, expectedDelay}
-use Rattle.vbv.specs.Model.{farthest, paramsFit, delivered, modelFits, afterRemoval, periods, nextDelivered, newModel, delayForPicture, removePicture}
+use Rattle.vbv.specs.Model.{farthest, paramsFit, delivered, modelFits, modelInRange, atDelivered, afterRemoval, periods, nextDelivered, gained, newModel, delayForPicture, removePicture}
 use Rattle.vbv.specs.Steps.{EndFits}
 use Rattle.bits.proofs.Flags.{no, held, failed}
 use Rattle.vbv.proofs.Fitting.{fitting-end}
@@ -28,6 +28,11 @@ makes p h = sym (held _ _ _ h refl)
 pub next-delivered-is : (m : VbvCbrModel) (i : RemovalInterval) → nextDelivered m i ≡ delivered m + gain (m .params) (periods i)
 unfolding nextDelivered
 next-delivered-is m i = refl
+
+-- what the interval brings is delivered too, nothing removed
+pub gains : (m : VbvCbrModel) (i : RemovalInterval) → modelInRange m ≡ true → gained m i ≡ value (atDelivered m (nextDelivered m i))
+unfolding gained
+gains m i h = sym (held _ _ _ h refl)
 
 module _ (m : VbvCbrModel) (f : modelFits m ≡ true) (s : m .started ≡ true) where
   pub delay-told : (position : ℕ) → position ≤ farthest

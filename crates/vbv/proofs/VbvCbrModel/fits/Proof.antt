@@ -9,17 +9,14 @@ use Rattle.vbv.proofs.VbvCbrModel.fits.Tie as tie
 fit-requires : tie.Need-fit-requires
 fit-requires c κs = search needs
 
-mul-result : tie.Need-mul-result
-mul-result c = let p = params-fit (sym (c .before .before .before .fit .ensures) ∙ c .before .before .if1 .taken) in omega arith
-
-greater-requires : tie.Need-greater-requires
-greater-requires c κs = search needs
+counts-fit-requires : tie.Need-counts-fit-requires
+counts-fit-requires c κs = params-fit (sym (c .before .fit .ensures) ∙ c .if1 .taken) .frn-high
 
 returns : tie.Need-returns
-returns c = rw (c .greater .ensures) (by-params _ (search told-by))
+returns c = c .counts-fit .ensures ∙ by-params _ (search told-by)
 
 returns-2 : tie.Need-returns-2
 returns-2 c = no-params _ (search told-by)
 
 pub fits-spec : {M : Type 1} → statement M
-fits-spec = tie.close (tie.spec fit-requires mul-result greater-requires returns returns-2)
+fits-spec = tie.close (tie.spec fit-requires counts-fit-requires returns returns-2)

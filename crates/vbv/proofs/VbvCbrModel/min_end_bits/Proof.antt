@@ -1,7 +1,7 @@
 use Rattle.vbv.specs.Model.{minEndBits}
 use mathlib.Core.Path.{_∙_}
 use Rattle.bits.proofs.Flags.{told-by}
-use Rattle.vbv.proofs.Fitting.{model-fits}
+use Rattle.vbv.proofs.Fitting.{model-fits, fits-in-range}
 use Rattle.vbv.proofs.Ways.{bits-are, bits-order, bits-params, least-at, next-fits}
 use borrow.Author.Needs.{needs}
 use Rattle.vbv.proofs.VbvCbrModel.min_end_bits.Statement.{statement}
@@ -11,7 +11,7 @@ fits-requires : tie.Need-fits-requires
 fits-requires c κs = search needs
 
 advanced-requires : tie.Need-advanced-requires
-advanced-requires c κs = model-fits (search told-by)
+advanced-requires c κs = fits-in-range (model-fits (search told-by))
 
 rounded-up-requires : tie.Need-rounded-up-requires
 rounded-up-requires c κs = next-fits _ _ (model-fits (search told-by)) _ (c .advanced .ensures)

@@ -1,4 +1,5 @@
 use Rattle.vbv.specs.Annex.{unit}
+use Rattle.vbv.proofs.Fitting.{fits-in-range}
 use Rattle.vbv.proofs.Ways.{remove-over, remove-under, remove-is}
 use borrow.Author.Needs.{needs}
 use native.Mathlib.Omega.{arith}
@@ -19,7 +20,7 @@ returns-2 : tie.Need-returns-2
 returns-2 c = remove-under _ (search) (search) _ (search) _ _ (c .before .before .before .rounded-up .ensures) (omega arith) (omega arith)
 
 advanced-requires : tie.Need-advanced-requires
-advanced-requires c κs = search needs
+advanced-requires c κs = fits-in-range (search)
 
 add-t7 : tie.Need-add-t7
 add-t7 c = search needs

@@ -1,0 +1,4 @@
+pub mod Fitting
+pub mod Laws
+pub mod Ways
+pub mod Named
