@@ -173,7 +173,7 @@ pub(crate) fn measured(
     last: bool,
 ) -> Tested
     requires { ⌜ model .«prev_end_bits» ≤ farthest ⌝ }
-    requires { ⌜ variable ≡ false → ParamsFit (model .params) ⌝ }
+    requires { ⌜ (variable ≡ false → ParamsFit (model .params)) ⌝ }
     ensures { λ r. ⌜ r ≡ measured variable model headers layer interval last ⌝ }
 {
     if FARTHEST / 8 < greater(headers, layer) {

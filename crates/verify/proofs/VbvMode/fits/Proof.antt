@@ -4,16 +4,16 @@ use borrow.Author.Needs.{needs}
 use Rattle.verify.proofs.VbvMode.fits.Statement.{statement}
 use Rattle.verify.proofs.VbvMode.fits.Tie as tie
 
-has-film-requires : tie.Need-has-film-requires
-has-film-requires c κs = search needs
+has-modes-requires : tie.Need-has-modes-requires
+has-modes-requires c κs = search needs
 
 returns : tie.Need-returns
 unfolding modeFits pick
-returns c = rw (c .before .if1 .taken) (c .has-film .ensures)
+returns c = rw (c .before .if1 .taken) (c .has-modes .ensures)
 
 returns-2 : tie.Need-returns-2
 unfolding modeFits pick
 returns-2 c = rw (c .if1 .left)
 
 pub fits-spec : {M : Type 1} → statement M
-fits-spec = tie.close (tie.spec has-film-requires returns returns-2)
+fits-spec = tie.close (tie.spec has-modes-requires returns returns-2)

@@ -44,6 +44,12 @@ enum-told-4 c = search needs
 plain-requires-6 : tie.Need-plain-requires-6
 plain-requires-6 c κs = search needs
 
+enum-told-5 : tie.Need-enum-told-5
+enum-told-5 c = search needs
+
+plain-requires-7 : tie.Need-plain-requires-7
+plain-requires-7 c κs = search needs
+
 enum-known-self-3 : tie.Need-enum-known-self-3
 enum-known-self-3 c = search needs
 
@@ -69,7 +75,10 @@ returns-6 : tie.Need-returns-6
 returns-6 c = rw (c .plain6 .ensures, c .before .enum-told4 .given .1)
 
 returns-7 : tie.Need-returns-7
-returns-7 c = rw (c .refusal .ensures, c .before .before .self3 .given .1)
+returns-7 c = rw (c .plain7 .ensures, c .before .enum-told5 .given .1)
+
+returns-8 : tie.Need-returns-8
+returns-8 c = rw (c .refusal .ensures, c .before .before .self3 .given .1)
 
 pub refusal-spec : {M : Type 1} → statement M
 refusal-spec =
@@ -89,6 +98,8 @@ refusal-spec =
     plain-requires-5
     enum-told-4
     plain-requires-6
+    enum-told-5
+    plain-requires-7
     enum-known-self-3
     refusal-requires
     returns
@@ -97,4 +108,5 @@ refusal-spec =
     returns-4
     returns-5
     returns-6
-    returns-7)
+    returns-7
+    returns-8)
