@@ -142,7 +142,8 @@ pub record ConfigRead : Type 0 where
       → createWith (wordsBytes (configWords c) ++ more) place ≡ createIn c place
   pub too-short : (config place : List ℕ) → length config < 72 → createWith config place ≡ refused 12 0 0 0
   pub no-place : (config place : List ℕ) → 72 ≤ length config → length place < 200 → createWith config place ≡ refused 19 0 0 0
-  pub other-mode : (config place : List ℕ) → 72 ≤ length config → 200 ≤ length place → (wordAt config 0 ≡ 2 → ⊥) → (wordAt config 0 ≡ 6 → ⊥) → createWith config place ≡ refused 12 0 0 0
+  pub other-mode : (config place : List ℕ) → 72 ≤ length config → 200 ≤ length place → (wordAt config 0 ≡ 2 → ⊥) → (wordAt config 0 ≡ 6 → ⊥) → (wordAt config 0 ≡ 10 → ⊥) → (wordAt config 0 ≡ 14 → ⊥)
+      → createWith config place ≡ refused 12 0 0 0
 
 -- an accepted creation by a configuration's bytes leaves the place as the creation with what they hold does, and so it is with every list of calls
 pub record FromConfig (config place : List ℕ) : Type 0 where

@@ -1,4 +1,4 @@
--- `vbv_check` (paper 01, 'The buffer report' and 'Rust forms to replace'; docs/LAYOUT.md): a report or refusal place that is too short is 19, then a mode that is none (1 MPEG-1, 2 MPEG-2, 6 MPEG-2 film) is 12, then the check's own answer.
+-- `vbv_check` (paper 01, 'The buffer report' and 'Rust forms to replace'; docs/LAYOUT.md): a report or refusal place that is too short is 19, then a mode that is none (1 MPEG-1, 2 MPEG-2, 6 MPEG-2 film, 10 and 14 the last two at a variable rate) is 12, then the check's own answer.
 -- `vbv_report`: the same, given a record place for each picture, without the records.
 -- Assumes nothing.
 use Prim.Native.Nat.{ℕ, _/_, _≤_}

@@ -10,10 +10,10 @@ use Rattle.hipokuta.specs.Send.{createIn, createWith, COffer, offerIn, w
 
 pub record EntryNumbers : Type 0 where
   pub vbv-check : (s : List ℕ) (mode : ℕ) (report recs refusal : List ℕ)
-      → Numbered (19 ∷ 12 ∷ 14 ∷ 3 ∷ 1 ∷ 2 ∷ 6 ∷ 4 ∷ 5 ∷ 15 ∷ 7 ∷ 8 ∷ []) [] (11 ∷ 9 ∷ 10 ∷ []) (checked s mode report recs refusal)
+      → Numbered (19 ∷ 12 ∷ 14 ∷ 3 ∷ 1 ∷ 2 ∷ 6 ∷ 4 ∷ 5 ∷ 25 ∷ 15 ∷ 7 ∷ 8 ∷ []) [] (11 ∷ 9 ∷ 10 ∷ []) (checked s mode report recs refusal)
   -- no 15: the places are as many as the pictures
   pub vbv-report : (s : List ℕ) (mode : ℕ) (report refusal : List ℕ)
-      → Numbered (19 ∷ 12 ∷ 14 ∷ 3 ∷ 1 ∷ 2 ∷ 6 ∷ 4 ∷ 5 ∷ 7 ∷ 8 ∷ []) [] (11 ∷ 9 ∷ 10 ∷ []) (reportAlone s mode report refusal)
+      → Numbered (19 ∷ 12 ∷ 14 ∷ 3 ∷ 1 ∷ 2 ∷ 6 ∷ 4 ∷ 5 ∷ 25 ∷ 7 ∷ 8 ∷ []) [] (11 ∷ 9 ∷ 10 ∷ []) (reportAlone s mode report refusal)
   pub vbv-patch-delay : (picture : List ℕ) → Numbered (20 ∷ []) [] [] (patchPicture picture)
   pub cbr-create : (c : CbrConfig) (place : List ℕ) → Numbered (19 ∷ 12 ∷ 6 ∷ []) [] [] (createIn c place)
   pub cbr-create-config : (config place : List ℕ) → Numbered (12 ∷ 19 ∷ 6 ∷ []) [] [] (createWith config place)

@@ -1,4 +1,4 @@
--- `cbr_create`, `cbr_create_config`, `cbr_offer` and `cbr_withdraw` (paper 01, 'A placed picture' and 'Rust forms to replace'; requests 02 and 05; docs/LAYOUT.md): the writer's own answers, its state as bytes.
+-- `cbr_create`, `cbr_create_config`, `cbr_offer` and `cbr_withdraw` (paper 01, 'A placed picture' and 'Rust forms to replace'; requests 02, 05 and 06; docs/LAYOUT.md): the writer's own answers, its state as bytes.
 -- Assumes nothing.
 use Prim.Native.Nat.{ℕ}
 use mathlib.Core.List.{List}
@@ -32,7 +32,7 @@ stateAfter (refused n k c e) place = place
 
 -- ---- creation
 
--- what `cbr_create` brings: MPEG-2, not film, and n and d are 0
+-- what `cbr_create` brings: MPEG-2, not film, at a constant rate, and n and d are 0
 abbrev pub configOf : ℕ → ℕ → ℕ → ℕ → ℕ → ℕ → CbrConfig
 configOf rate buffer code quantiser between anchors = record {
   mode = plain Mpeg2;

@@ -2,7 +2,7 @@
 mod check; // the check of a stream
 mod report; // the report alone
 mod patch; // the delay of a picture header
-mod send; // the constant-rate writer
+mod send; // the writer
 
 pub use crate::check::vbv_check;
 pub use crate::patch::vbv_patch_delay;

@@ -1,4 +1,4 @@
-// The constant-rate writer, its state as bytes.
+// The writer, its state as bytes.
 ghost use mathlib.Core.Path.{_≡_};
 ghost use Rattle.bits.specs.Refusals.{number};
 ghost use Rattle.rate_control.specs.Answers.{createdAnswer, offerAnswer};

@@ -1,6 +1,6 @@
 -- Which answer is due to creation and to each offer (paper 01, 'A placed picture'), by conditions in ≤ and <, from creation, the calls and their answers: not from the writer's state,
 -- nor from the tests, positions, stuffing or bytes of `offer`. The fit tests, `firstDelay`, `endCode`, `patched`, `coarser`, `steered`, `pendingOr`, `of`, `index`, `frameRate`, `writerParams`, `targets`, `periods`, `cadenceBy`, `offeredFacts`, `interval`, `after` and
--- Annex C are the ones that `create` and `offer` compute with: they are to be read against the papers themselves; cadence/specs/Table and History hold `interval` and `after`, `SequenceOpens` (pictures/specs/Due) holds `cadenceBy`. Assumes nothing.
+-- Annex C are the ones that `create` and `offer` compute with: they are to be read against the papers themselves; vbv/specs/Arrival holds `firstArrived` and `arrived`, cadence/specs/Table and History hold `interval` and `after`, `SequenceOpens` (pictures/specs/Due) holds `cadenceBy`. Assumes nothing.
 use Prim.Native.Nat.{ℕ, suc, _+_, _*_, _/_, _%_, _≤_, _<_}
 use mathlib.Core.Path.{_≡_}
 use mathlib.Core.List.{List, [], _∷_, _++_}
@@ -10,7 +10,7 @@ use lib.ListN.{length, take, drop, replicate, set}
 use Rattle.bits.specs.Bits.{pick}
 use Rattle.bits.specs.Refusals.{Answer, value, refused}
 use Rattle.rate_control.specs.Create.{writerParams}
-use Rattle.vbv.specs.Annex.{unit, firstArrived, arrived, expected}
+use Rattle.vbv.specs.Annex.{unit, expectedDelay, firstArrived, arrived}
 use Rattle.vbv.specs.Model.{farthest, periods}
 use Rattle.vbv.specs.Patch.{patched}
 use Rattle.vbv.specs.Answers.{frameRate}
@@ -181,7 +181,7 @@ abbrev pub sizeOf : Offer → ℕ → ℕ
 sizeOf o z = length (o .headers) + length (o .layer) + z + length (endCode (o .last))
 
 abbrev pub delayFor : VbvParams → Known → Offer → ℕ
-delayFor p x o = pick (x .variable) 0xFFFF (pick (anyPlaced x) (expected false p (positionOf (x .bytes) o) (x .delivered)) (firstDelay p))
+delayFor p x o = pick (x .variable) 0xFFFF (pick (anyPlaced x) (expectedDelay p (positionOf (x .bytes) o) (x .delivered)) (firstDelay p))
 
 -- ---- an offer's answer
 
@@ -194,7 +194,7 @@ pub data Due (p : VbvParams) (x : Known) (o : Offer) : Answer Given → Type 0 w
   far-end : {z : ℕ} → Fitting p x o → Stuffs (x .variable) p (x .bytes) (deliveredFor p x o) (lastsIn x o) o z → farthest < contentOf (x .bytes) o + 8 * z
       → Due p x o (refused 14 0 0 0)
   -- the last condition of these two is added: it always holds where they arise, for before a placing the position is always delivered, and after one the stuffing keeps overflow away.
-  -- So a 9 names picture 0, and no delay, since none was coded (docs/DECISIONS.md 40). 'never 7, 9 or 22' at a variable rate (request 06): of 9 and 22 this is added too
+  -- So a 9 names picture 0, and no delay, since none was coded (docs/DECISIONS.md 40). `x .variable ≡ false` is request 06's 'never 7, 9 or 22': 7 is then not asked, and of 9 and 22 it always holds where they arise
   early-position : {z : ℕ} → x .variable ≡ false → Near p x o z → deliveredFor p x o < positionOf (x .bytes) o * unit p → 1 ≤ x .pictures → Due p x o (refused 7 0 0 0)
   overflowing : {z : ℕ} → x .variable ≡ false → Near p x o z → positionOf (x .bytes) o * unit p ≤ deliveredFor p x o
       → (8 * x .bytes + p .«buffer_size_bits») * unit p < deliveredFor p x o → x .pictures ≡ 0 → Due p x o (refused 9 0 0 0)
@@ -220,7 +220,7 @@ PartHolds o (refused n picture coded expected) out = out ≡ o .out
 
 -- ---- creation's answer
 
--- each field in the range of paper 01 or request 02, the rate code apart; of the modes MPEG-2's are written (request 05)
+-- each field in the range of paper 01 or request 02, the rate code apart; of the modes MPEG-2's are written (requests 05 and 06)
 pub record Ranges (c : CbrConfig) : Type 0 where
   pub mode-written : c .mode .standard ≡ Mpeg2
   pub rate-low : 1 ≤ c .«bit_rate_value»

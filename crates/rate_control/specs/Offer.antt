@@ -1,4 +1,4 @@
--- An offer and a withdrawal (paper 01, 'A placed picture'; paper 02, requests 05 and 06): in this order 12 for the state, then 17, 18, 20, 14, 7, 9, size, 22, 19; else the picture is placed. At a variable rate 7 is not asked: a picture whose start has not arrived is too large.
+-- An offer and a withdrawal (paper 01, 'A placed picture'; paper 02, requests 05 and 06): in this order 12 for the state, then 17, 18, 20, 14, 7, 9, size, 22, 19; else the picture is placed. At a variable rate 7 is not asked, for a picture whose start has not arrived is too large, and 9 and 22 do not arise.
 -- Assumes nothing.
 use Prim.Native.Nat.{ℕ, _+_, _-_, _*_, _/_}
 use mathlib.Core.List.{List, [], _++_}
@@ -69,7 +69,7 @@ unfoldable pub intervalAt : CbrWriter → Offer → RemovalInterval
 unfolding cadenceAt
 intervalAt w o = interval (cadenceAt w (o .headers)) (factsIn (o .layer))
 
--- and what the rate brings by the next
+-- arrived at the next removal, were the buffer never full; read at a constant rate alone
 unfoldable pub broughtNext : CbrWriter → Offer → ℕ
 unfolding deliveredAt intervalAt
 broughtNext w o = deliveredAt w o + gain (w .model .params) (periods (intervalAt w o))

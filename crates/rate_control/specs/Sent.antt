@@ -109,7 +109,7 @@ pub record InBuffer (p : VbvParams) (d previous : ℕ) (x : Sent) : Type 0 where
   pub no-overflow : d ≤ (previous + p .«buffer_size_bits») * unit p
   pub no-underflow : sentEnd x * unit p ≤ d
 
--- its bytes are headers, layer with the delay patched, zeros and end code; the delay is the expected one, and no 0xFFFF but at a variable rate, where it is nothing else
+-- its bytes are headers, layer with the delay patched, zeros and end code; the delay is the expected one, and no 0xFFFF but at a variable rate, where it is nothing else and there are no zeros
 pub record WellPlaced (variable : Bool) (p : VbvParams) (d previous : ℕ) (x : Sent) : Type 0 where
   pub bytes-are : x .bytes
       ≡ x .offer .headers ++ (patched (x .offer .layer) (x .delay) ++ (replicate (x .stuffing) 0 ++ endCode (x .offer .last)))

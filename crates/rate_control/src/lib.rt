@@ -22,8 +22,8 @@ use vbv::VbvError;
 use vbv::VbvViolation;
 use verify::VbvMode;
 
-// What a writer is created with: MPEG-2, plain or film, at a constant or a variable rate; the sequence header's fields, the quantiser that every kind starts from,
-// B pictures between anchors and anchors in a group.
+// What a writer is created with: MPEG-2, plain or film, at a constant or a variable rate; the sequence header's fields, the
+// quantiser that every kind starts from, B pictures between anchors and anchors in a group.
 pub struct CbrConfig {
     pub mode: VbvMode,
     pub bit_rate_value: u32,
@@ -43,7 +43,7 @@ pub enum Pending {
 }
 
 // The model is started once a picture is placed; its previous end is the end of what was handed out. Targets and quantisers are
-// those of I, P and B. The cadence is that of the pictures placed.
+// those of I, P and B. The cadence is that of the pictures placed; the rate is constant or variable.
 pub struct CbrWriter {
     pub model: VbvCbrModel,
     pub target_bits: [u64; 3],

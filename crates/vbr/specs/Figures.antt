@@ -25,7 +25,7 @@ pub record VariableFigures : Type 0 where
   pub gains-another : andHeld (andTake 81320 Frame (andTake 80344 Frame filled)) ≡ value 326360
   pub stays-at-B : andHeld (andTake 82296 Field (andTake 81320 Frame (andTake 80344 Frame filled))) ≡ value 327680
   pub fourth : number (andTake 83272 Field (andTake 82296 Field (andTake 81320 Frame (andTake 80344 Frame filled)))) ≡ 0
-  -- a first picture of exactly B bits passes, and what is left are the 40,000 of a frame; a byte more is 10 of picture 0
+  -- a first picture of exactly B bits passes and leaves 0; by the next removal a frame brings 40,000. A byte more is 10 of picture 0
   pub all-of-B : andHeld (andTake 327680 Frame filled) ≡ value 40000
   pub a-byte-more : andTake 327688 Frame filled ≡ refused 10 0 0 0
   -- the ratio is not asked: a full buffer's delay would be 65,829

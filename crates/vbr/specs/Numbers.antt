@@ -10,7 +10,7 @@ use Rattle.vbv.specs.declared.VbvParams.{VbvParams}
 use Rattle.vbv.specs.declared.VbvCbrModel.{VbvCbrModel}
 use Rattle.vbr.specs.Variable.{variableFits, newVariable, startVariable, removeVariable, occupancyVariable}
 
--- of what `new` and calls left 12 is never said but by `new`
+-- what is owed: of what `new` and calls left 12 is never said but by `new`
 pub record VariableStays : Type 0 where
   pub made : (p : VbvParams) (m : VbvCbrModel) → newVariable p ≡ value m → variableFits m ≡ true
   pub begun : (m next : VbvCbrModel) → startVariable m ≡ value next → variableFits next ≡ true

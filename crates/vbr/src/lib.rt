@@ -105,7 +105,7 @@ pub fn remove_picture(model: VbvCbrModel, end_bits: u64, interval: RemovalInterv
     }
 }
 
-// The picture is not all there, or is taken out. (A model that fits gains.)
+// The picture is not all there, or is taken out. (`gained` refuses no model that fits.)
 fn remove(model: VbvCbrModel, end: u64, interval: RemovalInterval) -> VbvRemoval
     requires { ⌜ variableFits model ≡ true ⌝ }
     requires { ⌜ model .started ≡ true ⌝ }

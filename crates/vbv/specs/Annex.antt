@@ -46,12 +46,12 @@ leastEnd p d = (d - p .«buffer_size_bits» * unit p + (unit p - 1)) / unit p
 unfoldable pub full : VbvParams → ℕ → ℕ
 full p end = (end + p .«buffer_size_bits») * unit p
 
--- arrived at the first removal: at a variable rate the buffer is full, wherever the picture lies and whatever its delay
+-- arrived at the first removal (C.3.1, C.3.2): at a variable rate the buffer is full, wherever the picture lies and whatever its delay
 abbrev pub firstArrived : Bool → VbvParams → ℕ → ℕ → ℕ
 firstArrived true p position delay = full p 0
 firstArrived false p position delay = firstDelivered p position delay
 
--- arrived at the removal that comes so many field periods after one with d arrived, of a picture that ends at `end`: at a variable rate the buffer stays at B once it is full
+-- arrived at the removal that comes so many field periods after one with d arrived, of a picture that ends at `end` (C.3.2): at a variable rate the buffer stays at B once it is full
 abbrev pub arrived : Bool → VbvParams → ℕ → ℕ → ℕ → ℕ
 arrived true p end d periods = min (d + gain p periods) (full p end)
 arrived false p end d periods = d + gain p periods

@@ -1,9 +1,10 @@
 -- What is owed of what has arrived (paper 02, request 06; ISO/IEC 13818-2 C.3.2): at a variable rate 'the buffer is full at the first removal, gains R times the period after each, and
--- stays at B once full'. Of the picture that ends at `end` all is removed; d − end is what it leaves. Assumes nothing.
+-- stays at B once full'. Of the picture that ends at `end` all is removed; d − end × unit is what it leaves, in units. Assumes nothing.
 use Prim.Native.Nat.{ℕ, _+_, _-_, _*_, _≤_, min}
 use mathlib.Core.Path.{_≡_}
 use mathlib.Core.Bool.{true, false}
-use Rattle.vbv.specs.Annex.{unit, firstDelivered, gain, overflows, expectedDelay, occupancy, firstArrived, arrived, expected}
+use Rattle.vbv.specs.Annex.{unit, firstDelivered, gain, overflows, expectedDelay, firstArrived, arrived, expected}
+use Rattle.vbv.specs.Model.{paramsInRange, paramsFit, paramsFitAt}
 use Rattle.vbv.specs.declared.VbvParams.{VbvParams}
 
 pub record Arrival (p : VbvParams) : Type 0 where
@@ -16,6 +17,9 @@ pub record Arrival (p : VbvParams) : Type 0 where
   pub next-fits : (end d periods : ℕ) → overflows p end (arrived true p end d periods) ≡ false
   -- the delay is always the one that tells no time
   pub no-time : (position d : ℕ) → expected true p position d ≡ 65535
+  -- '12 does not test the ratio'
+  pub ranges-alone : paramsFitAt true p ≡ paramsInRange p
+  pub with-ratio : paramsFitAt false p ≡ paramsFit p
   -- at a constant rate all is as without a variable one
   pub first-constant : (position delay : ℕ) → firstArrived false p position delay ≡ firstDelivered p position delay
   pub constant : (end d periods : ℕ) → arrived false p end d periods ≡ d + gain p periods

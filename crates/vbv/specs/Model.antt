@@ -100,9 +100,12 @@ periods ThreeFrames = 6
 unfoldable pub nextDelivered : VbvCbrModel → RemovalInterval → ℕ
 nextDelivered m i = delivered m + gain (m .params) (periods i)
 
--- the state with what the interval brings delivered too, nothing removed; whatever the ratio
+-- the state with what the interval brings delivered too, nothing removed; whatever the ratio. It is for crates/vbr, which caps it: what is left may be above its range
 unfoldable pub gained : VbvCbrModel → RemovalInterval → Answer VbvCbrModel
-gained m i = refuse 12 (not (modelInRange m)) (value (atDelivered m (nextDelivered m i)))
+gained m i =
+    refuse 12 (not (modelInRange m))
+    (refuse 13 (not (m .started))
+    (value (atDelivered m (nextDelivered m i))))
 
 unfoldable pub newModel : VbvParams → Answer VbvCbrModel
 newModel p =

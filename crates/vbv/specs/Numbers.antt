@@ -7,13 +7,13 @@ use mathlib.Core.List.{List, [], _∷_}
 use Rattle.bits.specs.Refusals.{value}
 use Rattle.bits.specs.Numbers.{Numbered}
 use Rattle.vbv.specs.Answers.{frameRate}
-use Rattle.vbv.specs.Model.{modelFits, newModel, startModel, delayForPicture, removePicture, maxEndBits, minEndBits, occupancyBeforeRemoval}
+use Rattle.vbv.specs.Model.{modelFits, gained, newModel, startModel, delayForPicture, removePicture, maxEndBits, minEndBits, occupancyBeforeRemoval}
 use Rattle.vbv.specs.Patch.{patchPicture}
 use Rattle.vbv.specs.declared.RemovalInterval.{RemovalInterval}
 use Rattle.vbv.specs.declared.VbvParams.{VbvParams}
 use Rattle.vbv.specs.declared.VbvCbrModel.{VbvCbrModel}
 
--- a model that `new` and calls left is in its ranges: of these 12 is never said but by `new`; a delay has 16 bits
+-- a model that `new`, starts and removals left is in its ranges: of these 12 is never said but by `new`; a delay has 16 bits
 pub record ModelStays : Type 0 where
   pub made : (p : VbvParams) (m : VbvCbrModel) → newModel p ≡ value m → modelFits m ≡ true
   pub begun : (m next : VbvCbrModel) (delay position : ℕ) → delay < 65536 → startModel m delay position ≡ value next → modelFits next ≡ true
@@ -26,6 +26,7 @@ pub record ModelNumbers : Type 0 where
   pub start : (m : VbvCbrModel) (delay position : ℕ) → Numbered (12 ∷ 13 ∷ 14 ∷ []) [] [] (startModel m delay position)
   pub delay : (m : VbvCbrModel) (position : ℕ) → Numbered (12 ∷ 13 ∷ 14 ∷ 7 ∷ 8 ∷ []) [] [] (delayForPicture m position)
   pub remove : (m : VbvCbrModel) (end : ℕ) (i : RemovalInterval) → Numbered (12 ∷ 13 ∷ 14 ∷ []) (9 ∷ 10 ∷ []) [] (removePicture m end i)
+  pub gain : (m : VbvCbrModel) (i : RemovalInterval) → Numbered (12 ∷ 13 ∷ []) [] [] (gained m i)
   pub max-end : (m : VbvCbrModel) → Numbered (12 ∷ 13 ∷ []) [] [] (maxEndBits m)
   pub min-end : (m : VbvCbrModel) (i : RemovalInterval) → Numbered (12 ∷ 13 ∷ []) [] [] (minEndBits m i)
   pub occupancy : (m : VbvCbrModel) → Numbered (12 ∷ 13 ∷ []) [] [] (occupancyBeforeRemoval m)

@@ -4,7 +4,7 @@ use Prim.Native.Nat.{ℕ, _+_, _*_, _≤_, _<_}
 use mathlib.Core.Path.{_≡_}
 use mathlib.Core.Bool.{Bool, true}
 use Rattle.bits.specs.Refusals.{value, refused}
-use Rattle.vbv.specs.Annex.{firstDelivered, gain, overflows, beyond, expectedDelay, occupancy, greatestEnd, leastEnd, firstArrived, arrived, expected as expectedAt}
+use Rattle.vbv.specs.Annex.{firstDelivered, gain, overflows, beyond, expectedDelay, occupancy, greatestEnd, leastEnd, firstArrived, arrived, expected as expectedBy}
 use Rattle.vbv.specs.Answers.{frameRate}
 use Rattle.vbv.specs.Model.{paramsFit, paramsFitAt}
 use Rattle.vbv.specs.Params.{sameParams}
@@ -62,7 +62,7 @@ pub record SameTold (p q : VbvParams) : Type 0 where
   pub fits-at : (v : Bool) → paramsFitAt v p ≡ paramsFitAt v q
   pub first-arrived : (v : Bool) (position delay : ℕ) → SameBits p q (firstArrived v p position delay) (firstArrived v q position delay)
   pub next-arrived : (v : Bool) (end d e n : ℕ) → SameBits p q d e → SameBits p q (arrived v p end d n) (arrived v q end e n)
-  pub expected-at : (v : Bool) (position d e : ℕ) → SameBits p q d e → expectedAt v p position d ≡ expectedAt v q position e
+  pub expected-at : (v : Bool) (position d e : ℕ) → SameBits p q d e → expectedBy v p position d ≡ expectedBy v q position e
 
 -- what is owed
 pub record RatesOwed : Type 0 where

@@ -490,12 +490,16 @@ impl VbvCbrModel {
         }
     }
 
-    // What the interval brings is delivered too, whatever the ratio; nothing is removed.
+    // What the interval brings is delivered too, whatever the ratio; nothing is removed. (For crates/vbr, which caps it.)
     pub fn gained(self, interval: RemovalInterval) -> VbvModel
         ensures { λ r. ⌜ modelAnswer r ≡ gained self interval ⌝ }
     {
         if self.in_range() {
-            VbvModel::Model(self.advanced(interval))
+            if self.started {
+                VbvModel::Model(self.advanced(interval))
+            } else {
+                VbvModel::Refused(VbvError::Order)
+            }
         } else {
             VbvModel::Refused(VbvError::Params)
         }

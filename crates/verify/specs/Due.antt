@@ -20,6 +20,7 @@ use Rattle.verify.specs.declared.VbvPictureRecord.{VbvPictureRecord}
 
 -- ---- a removal: picture n, with d arrived and all before `previous` removed
 
+-- at a constant rate
 abbrev pub expectedAt : VbvParams → ℕ → CodedPicture → ℕ
 expectedAt p d c = expectedDelay p (c .«pos_bits») d
 
@@ -51,10 +52,10 @@ pub data RunDue (v : Bool) (p : VbvParams) : ℕ → ℕ → ℕ → List CodedP
 
 -- ---- the stream
 
--- read, and its delays are not of such a rate: 5 at a constant one, 25 at a variable one
-abbrev pub delaysNumber : Bool → ℕ
-delaysNumber false = 5
-delaysNumber true = 25
+-- one of the delays is not 0xFFFF
+pub data OtherDelay : List SeenPicture → Type 0 where
+  here : {x : SeenPicture} {xs : List SeenPicture} → (x .«vbv_delay» ≡ 0xFFFF → ⊥) → OtherDelay (x ∷ xs)
+  later : {x : SeenPicture} {xs : List SeenPicture} → OtherDelay xs → OtherDelay (x ∷ xs)
 
 -- passed: 5 or 25, 12, 15 too
 pub record Modelled (m : VbvMode) (s : List ℕ) (places : ℕ) (p : VbvParams) (x : SeenPicture) (xs : List SeenPicture) : Type 0 where
@@ -67,8 +68,10 @@ pub data VerdictDue (m : VbvMode) (s : List ℕ) (places : ℕ) : Answer Accepte
   no-film : m .standard ≡ Mpeg1 → m .film ≡ true → VerdictDue m s places (refused 12 0 0 0)
   no-variable : m .standard ≡ Mpeg1 → m .variable ≡ true → VerdictDue m s places (refused 12 0 0 0)
   by-front : {n k i j : ℕ} → (m .standard ≡ Mpeg1 → (m .film ≡ false) × (m .variable ≡ false)) → FrontDue (m .standard) s (refused n k i j) → VerdictDue m s places (refused n k i j)
-  other-rate : {p : VbvParams} {x : SeenPicture} {xs : List SeenPicture} → ReadIn m s p x xs → (DelaysFit (m .variable) (x ∷ xs) → ⊥)
-      → VerdictDue m s places (refused (delaysNumber (m .variable)) 0 0 0)
+  variable-rate : {p : VbvParams} {x : SeenPicture} {xs : List SeenPicture} → m .variable ≡ false → ReadIn m s p x xs → x .«vbv_delay» ≡ 0xFFFF
+      → VerdictDue m s places (refused 5 0 0 0)
+  constant-rate : {p : VbvParams} {x : SeenPicture} {xs : List SeenPicture} → m .variable ≡ true → ReadIn m s p x xs → OtherDelay (x ∷ xs)
+      → VerdictDue m s places (refused 25 0 0 0)
   unfit : {p : VbvParams} {x : SeenPicture} {xs : List SeenPicture} → ReadIn m s p x xs → DelaysFit (m .variable) (x ∷ xs) → paramsFitAt (m .variable) p ≡ false
       → VerdictDue m s places (refused 12 0 0 0)
   few-places : {p : VbvParams} {x : SeenPicture} {xs : List SeenPicture} → ReadIn m s p x xs → DelaysFit (m .variable) (x ∷ xs) → paramsFitAt (m .variable) p ≡ true

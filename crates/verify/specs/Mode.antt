@@ -6,7 +6,7 @@ use Rattle.pictures.specs.declared.VbvStandard.{VbvStandard}
 use Rattle.pictures.specs.declared.VbvStandard.the-variants.{Mpeg1, Mpeg2}
 use Rattle.verify.specs.declared.VbvMode.{VbvMode}
 
--- at a constant rate
+-- outside film, at a constant rate
 abbrev pub plain : VbvStandard → VbvMode
 plain standard = record { standard = standard; film = false; variable = false }
 
@@ -14,6 +14,7 @@ plain standard = record { standard = standard; film = false; variable = false }
 abbrev pub mpeg2 : Bool → Bool → VbvMode
 mpeg2 film variable = record { standard = Mpeg2; film = film; variable = variable }
 
+-- film, at a constant rate
 abbrev pub film : VbvMode
 film = mpeg2 true false
 

@@ -60,7 +60,7 @@ pub enum VbvVerifyError {
     Model(VbvError),
     NoSequenceHeader,
     NoPictures,
-    // The first delay is 0xFFFF.
+    // At a constant rate: the first delay is 0xFFFF.
     VariableRate,
     // At a variable rate: a delay is not 0xFFFF.
     ConstantRate,
@@ -94,7 +94,7 @@ enum Removed {
 enum Progress {
     // No picture yet.
     Fresh,
-    // No model is started, and why.
+    // Refused ahead of the removals and of 15 (5, 25, 12), and why.
     Unmodelled(VbvVerifyError),
     // The model after the last removal and that removal's record; the least occupancy after one so far, the greatest before.
     Running {
