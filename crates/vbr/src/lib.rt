@@ -9,7 +9,6 @@ ghost use Rattle.vbv.specs.Model.{delivered, modelInRange, afterRemoval};
 ghost use Rattle.vbv.specs.Steps.{EndFits};
 ghost use Rattle.vbr.specs.Variable.{variableFits, newVariable, startVariable, removeVariable, occupancyVariable};
 ghost use Rattle.vbr.specs.Steps.{Cappable};
-
 use vbv::FARTHEST;
 use vbv::RemovalInterval;
 use vbv::VbvBits;
