@@ -1,13 +1,16 @@
--- The figures hold: what has arrived is followed in units, by the laws of the steps.
+-- The figures hold: what has arrived is followed by the laws of the steps, and counted in whole bits by those of the fractions.
 -- Assumes nothing.
 use mathlib.Core.Path.{_≡_, refl, sym, ap, subst, _∙_}
 use mathlib.Core.Bool.{true, false}
-use Prim.Native.Nat.{ℕ, _+_, _-_, _*_, _/_, _≤_, _<_, min}
+use mathlib.Core.Logic.{⊎-elim}
+use Prim.Native.Nat.{ℕ, _+_, _-_, _*_, _≤_, _<_, min}
 use native.Mathlib.Omega.{arith}
+use native.Mathlib.Nat.{mul-le-mul, le-of-mul-le-mul-right, lt-of-mul-lt-mul-right}
 use lib.Dec.{lit<, lit≤}
 use Rattle.bits.specs.Refusals.{Answer, value, refused, number}
 use Rattle.bits.proofs.Flags.{yes, is-true}
-use Rattle.vbv.specs.Annex.{unit, beyond, occupancy, full, arrived}
+use Rattle.bits.proofs.Appending.{lt-or-le}
+use Rattle.vbv.specs.Annex.{unit, gain, beyond, occupancy, full, arrived}
 use Rattle.vbv.specs.Figures.{at25}
 use Rattle.vbv.specs.Model.{farthest, paramsInRange, delivered, atDelivered, afterRemoval, periods}
 use Rattle.vbv.specs.Steps.{EndFits}
@@ -16,8 +19,10 @@ use Rattle.vbv.specs.declared.RemovalInterval.the-variants.{Frame, Field}
 use Rattle.vbv.specs.declared.VbvParams.{VbvParams}
 use Rattle.vbv.specs.declared.VbvCbrModel.{VbvCbrModel}
 use Rattle.vbv.proofs.Figures.{model-figures}
-use Rattle.vbv.proofs.Fitting.{in-range-is, fitting-end}
-use Rattle.vbv.proofs.Laws.{unit-is, gain-is, occupancy-is, beyond-units, units-beyond}
+use Rattle.vbv.proofs.Fitting.{in-range-is, unit-pos-in, fitting-end}
+use Rattle.vbv.proofs.Laws.{beyond-units, units-beyond}
+use Rattle.vbv.specs.Fractions.{Fractions}
+use Rattle.vbv.proofs.Fractions.{fractions}
 use Rattle.vbv.proofs.Arrival.{full-is}
 use Rattle.vbr.specs.Variable.{variableFits, newVariable}
 use Rattle.vbr.specs.Figures.{filled, andTake, andHeld, VariableFigures}
@@ -88,38 +93,69 @@ module _ {e d n : ℕ} {a : Answer VbvCbrModel} (s : Stands e d n a) where
   holds : andHeld a ≡ value (occupancy P e d)
   holds = rw (s .is, variable-occupancy-told (s .model) (s .fits) (s .begun), s .arrived-is, s .params-are, s .end-is)
 
--- in units of P: a bit; what a frame and a field bring, and a full buffer
-bit : unit P ≡ 4500000
-bit = unit-is P
-
--- a full buffer, and what is held in bits
-first : Stands 0 1474560000000 0 filled
-first = subst (λ (x : ℕ). Stands 0 x 0 filled) (rw (full-is P 0, bit)) at-first
-
-module _ {e d n : ℕ} {a : Answer VbvCbrModel} (s : Stands e d n a) where
-  frame : (end : ℕ) → e ≤ end → end ≤ farthest → n < farthest → end * 4500000 ≤ d
-      → Stands end (min (d + 180000000000) ((end + 327680) * 4500000)) (n + 1) (andTake end Frame a)
-  frame end l h k u =
-      subst (λ (x : ℕ). Stands end x (n + 1) (andTake end Frame a)) (rw (gain-is P 2, full-is P end, bit)) (taken s end Frame l h k (rw bit u))
-
-  field : (end : ℕ) → e ≤ end → end ≤ farthest → n < farthest → end * 4500000 ≤ d
-      → Stands end (min (d + 90000000000) ((end + 327680) * 4500000)) (n + 1) (andTake end Field a)
-  field end l h k u =
-      subst (λ (x : ℕ). Stands end x (n + 1) (andTake end Field a)) (rw (gain-is P 1, full-is P end, bit)) (taken s end Field l h k (rw bit u))
-
-  bits : andHeld a ≡ value ((d - e * 4500000) / 4500000)
-  bits = holds s ∙ rw (occupancy-is P e d, bit)
-
   passes : number a ≡ 0
   passes = rw (s .is)
 
-second : Stands 80344 1654560000000 1 (andTake 80344 Frame filled)
+-- in whole bits of P: what a frame and a field bring, and a full buffer
+in-fractions : Fractions P
+in-fractions = fractions P (lit≤ tt) (lit≤ tt)
+
+unit-pos : 0 < unit P
+unit-pos = unit-pos-in P in-range
+
+frame-brings : gain P 2 ≡ 40000 * unit P
+frame-brings = omega (arith, in-fractions .gain-is 2)
+
+field-brings : gain P 1 ≡ 20000 * unit P
+field-brings = omega (arith, in-fractions .gain-is 1)
+
+lesser : (a b u : ℕ) → min (a * u) (b * u) ≡ min a b * u
+lesser a b u =
+    ⊎-elim
+    (λ (l : a < b).
+    let k = mul-le-mul {n₁ = a} {m₁ = u} {n₂ = b} {m₂ = u} (omega arith) (omega arith) in
+    let e : min a b ≡ a = omega arith in
+    rw e (omega arith))
+    (λ (l : b ≤ a).
+    let k = mul-le-mul {n₁ = b} {m₁ = u} {n₂ = a} {m₂ = u} l (omega arith) in
+    let e : min a b ≡ b = omega arith in
+    rw e (omega arith))
+    (lt-or-le a b)
+
+-- k bits arrived
+abbrev Bits : ℕ → ℕ → ℕ → Answer VbvCbrModel → Type 0
+Bits e k n a = Stands e (k * unit P) n a
+
+first : Bits 0 327680 0 filled
+first = subst (λ (x : ℕ). Stands 0 x 0 filled) (full-is P 0) at-first
+
+module _ {e k n : ℕ} {a : Answer VbvCbrModel} (s : Bits e k n a) where
+  frame : (end : ℕ) → e ≤ end → end ≤ farthest → n < farthest → end ≤ k → Bits end (min (k + 40000) (end + 327680)) (n + 1) (andTake end Frame a)
+  frame end l h c u =
+      let z : k * unit P + gain P 2 ≡ (k + 40000) * unit P = omega (arith, frame-brings) in
+      subst (λ (x : ℕ). Stands end x (n + 1) (andTake end Frame a)) (rw (z, full-is P end) (lesser (k + 40000) (end + 327680) (unit P)))
+      (taken s end Frame l h c (mul-le-mul u (omega arith)))
+
+  field : (end : ℕ) → e ≤ end → end ≤ farthest → n < farthest → end ≤ k → Bits end (min (k + 20000) (end + 327680)) (n + 1) (andTake end Field a)
+  field end l h c u =
+      let z : k * unit P + gain P 1 ≡ (k + 20000) * unit P = omega (arith, field-brings) in
+      subst (λ (x : ℕ). Stands end x (n + 1) (andTake end Field a)) (rw (z, full-is P end) (lesser (k + 20000) (end + 327680) (unit P)))
+      (taken s end Field l h c (mul-le-mul u (omega arith)))
+
+  held : e ≤ k → andHeld a ≡ value (k - e)
+  held l =
+      let o = occupancy P e (k * unit P) in
+      let low : e + o ≤ k = le-of-mul-le-mul-right {k = unit P} (in-fractions .occupancy-low e (k * unit P) (mul-le-mul l (omega arith))) unit-pos in
+      let high : k < e + o + 1 = lt-of-mul-lt-mul-right (unit P) (in-fractions .occupancy-high e (k * unit P)) in
+      holds s ∙ ap (λ (x : ℕ). value x) (omega arith)
+
+second : Bits 80344 367680 1 (andTake 80344 Frame filled)
 second = frame first 80344 (lit≤ tt) (lit≤ tt) (lit< tt) (lit≤ tt)
 
-third : Stands 81320 1834560000000 2 (andTake 81320 Frame (andTake 80344 Frame filled))
+third : Bits 81320 407680 2 (andTake 81320 Frame (andTake 80344 Frame filled))
 third = frame second 81320 (lit≤ tt) (lit≤ tt) (lit< tt) (lit≤ tt)
 
-fourth : Stands 82296 1844892000000 3 (andTake 82296 Field (andTake 81320 Frame (andTake 80344 Frame filled)))
+fourth : Bits 82296 409976 3 (andTake 82296 Field (andTake 81320 Frame (andTake 80344 Frame filled)))
 fourth = field third 82296 (lit≤ tt) (lit≤ tt) (lit< tt) (lit≤ tt)
 
 made : (r b : ℕ) → paramsInRange (at25 r b) ≡ true → number (newVariable (at25 r b)) ≡ 0
@@ -127,13 +163,13 @@ made r b h = rw (variable-makes (at25 r b) h)
 
 pub variable-figures : VariableFigures
 variable-figures = record {
-  full-at-first = bits first;
-  gains-a-frame = bits second;
-  gains-another = bits third;
-  stays-at-B = bits fourth;
+  full-at-first = held first (lit≤ tt);
+  gains-a-frame = held second (lit≤ tt);
+  gains-another = held third (lit≤ tt);
+  stays-at-B = held fourth (lit≤ tt);
   fourth = passes (field fourth 83272 (lit≤ tt) (lit≤ tt) (lit< tt) (lit≤ tt));
-  all-of-B = bits (frame first 327680 (lit≤ tt) (lit≤ tt) (lit< tt) (lit≤ tt));
-  a-byte-more = starved first 327688 Frame (lit≤ tt) (lit≤ tt) (lit< tt) (rw bit (lit< tt));
+  all-of-B = held (frame first 327680 (lit≤ tt) (lit≤ tt) (lit< tt) (lit≤ tt)) (lit≤ tt);
+  a-byte-more = starved first 327688 Frame (lit≤ tt) (lit≤ tt) (lit< tt) (omega (arith, unit-pos));
   any-ratio = made 22400 16384 (in-range-is (at25 22400 16384));
   constant-ratio = model-figures .rate-22400;
   no-buffer = rw (variable-unmade (at25 22400 0) (in-range-is (at25 22400 0)));

@@ -53,19 +53,6 @@ module _ (p : VbvParams) where
   unfolding firstDelivered
   first-in-time position delay = units-beyond position (firstDelivered p position delay) (omega arith)
 
-  -- the quantities in full, for figures
-  pub unit-is : unit p ≡ 180000 * p .frn
-  unfolding unit
-  unit-is = refl
-
-  pub gain-is : (n : ℕ) → gain p n ≡ p .«bit_rate» * 90000 * p .frd * n
-  unfolding gain
-  gain-is n = refl
-
-  pub occupancy-is : (previous d : ℕ) → occupancy p previous d ≡ (d - previous * unit p) / unit p
-  unfolding occupancy
-  occupancy-is previous d = refl
-
 -- whatever the ratio: the greatest end; the buffer, at most full before a removal, and all of the picture in it
 module _ (p : VbvParams) (f : paramsInRange p ≡ true) where
   pub beyond-greatest-in : (end d : ℕ) → beyond p end d ≡ ltb (greatestEnd p d) end
