@@ -2,3 +2,5 @@ pub mod Fitting
 pub mod Laws
 pub mod Ways
 pub mod Named
+pub mod Numbers
+pub mod Figures

@@ -16,6 +16,20 @@ use Rattle.vbv.specs.Annex.{unit}
 use Rattle.vbv.specs.Steps.{ParamsFit, ModelFits, ModelInRange, EndFits}
 use Rattle.vbv.specs.Model.{farthest, mostDelivered, paramsInRange, ratioFits, paramsFit, paramsFitAt, delivered, countsFit, modelFits, modelInRange, intervalOf, periods, endFits}
 
+-- in full, for figures
+pub in-range-is : (p : VbvParams)
+    → paramsInRange p
+    ≡ (leb 1 (p .«bit_rate»)
+    && leb (p .«bit_rate») 429496729200
+    && leb 1 (p .«buffer_size_bits»)
+    && leb (p .«buffer_size_bits») 4294950912
+    && leb 1 (p .frn)
+    && leb (p .frn) 240000
+    && leb 1 (p .frd)
+    && leb (p .frd) 32032)
+unfolding paramsInRange
+in-range-is p = refl
+
 -- the ranges keep the test of the ratio, and the products of two frame rates, in 64 bits
 pub in-range : (p : VbvParams) → paramsInRange p ≡ true → (p .«bit_rate» ≤ 429496729200) × (p .«buffer_size_bits» ≤ 4294950912)
 unfolding paramsInRange
@@ -99,6 +113,11 @@ model-in-range {m} h =
       whole-high = r .whole-high;
       rest-low = r .rest-low;
     }
+
+-- the tests of an end
+pub end-tests : (m : VbvCbrModel) (end : ℕ) → endFits m end ≡ (leb end farthest && leb (m .«prev_end_bits») end && ltb (m .removed) farthest)
+unfolding endFits
+end-tests m end = refl
 
 pub end-fits : {m : VbvCbrModel} {end : ℕ} → endFits m end ≡ true → EndFits m end
 unfolding endFits

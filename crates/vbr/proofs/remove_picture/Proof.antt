@@ -1,7 +1,6 @@
-use mathlib.Core.Path.{refl}
+use mathlib.Core.Path.{refl, _∙_}
 use Rattle.bits.proofs.Flags.{failed, told-by}
-use Rattle.vbv.specs.Model.{endFits}
-use Rattle.vbv.proofs.Fitting.{end-fits}
+use Rattle.vbv.proofs.Fitting.{end-tests, end-fits}
 use Rattle.vbr.specs.Variable.{variableFits, removeVariable}
 use Rattle.vbr.proofs.Ways.{remove-order, remove-range}
 use borrow.Author.Needs.{needs}
@@ -12,15 +11,13 @@ fits-requires : tie.Need-fits-requires
 fits-requires c κs = search needs
 
 remove-requires : tie.Need-remove-requires
-unfolding endFits
-remove-requires c κs = (search told-by, (search, end-fits (search)))
+remove-requires c κs = (search told-by, (search, end-fits (end-tests _ _ ∙ c .if3 .taken)))
 
 returns : tie.Need-returns
 returns c = search needs
 
 returns-2 : tie.Need-returns-2
-unfolding endFits
-returns-2 c = remove-range _ (search told-by) _ _ (search) (search)
+returns-2 c = remove-range _ (search told-by) _ _ (search) (end-tests _ _ ∙ c .if3 .left)
 
 returns-3 : tie.Need-returns-3
 returns-3 c = remove-order _ (search told-by) _ _ (search)
