@@ -88,7 +88,7 @@ module _ (m : VbvCbrModel) (f : variableFits m ≡ true) (s : m .started ≡ tru
   -- taken out, with what the interval brings and no more than fills the buffer
   module _ (next : VbvCbrModel) (e : modelOf (gained m i) ≡ Model next) where
     next-is : next ≡ atDelivered m (nextDelivered m i)
-    next-is = let z : Model (atDelivered m (nextDelivered m i)) ≡ Model next = sym (gained-named m i (fits-range m f)) ∙ e in cc z
+    next-is = let z : Model (atDelivered m (nextDelivered m i)) ≡ Model next = sym (gained-named m i (fits-range m f) s) ∙ e in cc z
 
     pub cappable : Cappable next end
     cappable =
@@ -116,7 +116,7 @@ module _ (m : VbvCbrModel) (f : variableFits m ≡ true) (s : m .started ≡ tru
 
   -- a model that fits gains
   pub no-refusal : (x : VbvError) (a : Answer VbvCbrModel) → modelOf (gained m i) ≡ Refused x → a ≡ removeVariable m end i
-  no-refusal x a e = let z : Model (atDelivered m (nextDelivered m i)) ≡ Refused x = sym (gained-named m i (fits-range m f)) ∙ e in absurd (clash cc)
+  no-refusal x a e = let z : Model (atDelivered m (nextDelivered m i)) ≡ Refused x = sym (gained-named m i (fits-range m f) s) ∙ e in absurd (clash cc)
 
 -- no more than fills the buffer
 module _ (m : VbvCbrModel) (end : ℕ) (v : Cappable m end) where

@@ -36,9 +36,9 @@ pub starts-named : (m : VbvCbrModel) (delay position : ℕ) → modelFits m ≡ 
 unfolding modelOf
 starts-named m delay position f s h = rw (model-starts m delay position f s h)
 
-pub gained-named : (m : VbvCbrModel) (i : RemovalInterval) → modelInRange m ≡ true → modelOf (gained m i) ≡ Model (atDelivered m (nextDelivered m i))
+pub gained-named : (m : VbvCbrModel) (i : RemovalInterval) → modelInRange m ≡ true → m .started ≡ true → modelOf (gained m i) ≡ Model (atDelivered m (nextDelivered m i))
 unfolding modelOf
-gained-named m i h = rw (gains m i h)
+gained-named m i h s = rw (gains m i h s)
 
 -- each answer by its name
 pub model-12 : modelOf (refused 12 0 0 0) ≡ Refused Params

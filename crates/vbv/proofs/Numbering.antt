@@ -10,7 +10,7 @@ use Rattle.vbv.specs.declared.RemovalInterval.{RemovalInterval}
 use Rattle.vbv.specs.declared.VbvParams.{VbvParams}
 use Rattle.vbv.specs.declared.VbvCbrModel.{VbvCbrModel}
 use Rattle.vbv.specs.Answers.{codeRate, frameRate}
-use Rattle.vbv.specs.Model.{newModel, startModel, delayForPicture, removePicture, ofStarted, maxEndBits, minEndBits, occupancyBeforeRemoval}
+use Rattle.vbv.specs.Model.{gained, newModel, startModel, delayForPicture, removePicture, ofStarted, maxEndBits, minEndBits, occupancyBeforeRemoval}
 use Rattle.bits.specs.Numbers.{Numbered, a-value, by-number, by-picture}
 use Rattle.vbv.specs.Patch.{patchPicture}
 use Rattle.vbv.specs.Numbers.{ModelNumbers, ModelStays}
@@ -81,6 +81,13 @@ bits-numbered m b =
     pick-elim (Numbered (12 ∷ 13 ∷ []) [] []) _ (λ e. by-number refl) λ e.
     a-value
 
+gain-numbered : (m : VbvCbrModel) (i : RemovalInterval) → Numbered (12 ∷ 13 ∷ []) [] [] (gained m i)
+unfolding gained
+gain-numbered m i =
+    pick-elim (Numbered (12 ∷ 13 ∷ []) [] []) _ (λ e. by-number refl) λ e.
+    pick-elim (Numbered (12 ∷ 13 ∷ []) [] []) _ (λ e. by-number refl) λ e.
+    a-value
+
 patch-numbered : (s : List ℕ) → Numbered (20 ∷ []) [] [] (patchPicture s)
 unfolding patchPicture
 patch-numbered s = pick-elim (Numbered (20 ∷ []) [] []) _ (λ e. by-number refl) λ e. a-value
@@ -93,6 +100,7 @@ model-numbers = record {
   start = start-numbered;
   delay = delay-numbered;
   remove = remove-numbered;
+  gain = gain-numbered;
   max-end = λ m. bits-numbered m _;
   min-end = λ m i. bits-numbered m _;
   occupancy = λ m. bits-numbered m _;

@@ -30,9 +30,9 @@ unfolding nextDelivered
 next-delivered-is m i = refl
 
 -- what the interval brings is delivered too, nothing removed
-pub gains : (m : VbvCbrModel) (i : RemovalInterval) → modelInRange m ≡ true → gained m i ≡ value (atDelivered m (nextDelivered m i))
+pub gains : (m : VbvCbrModel) (i : RemovalInterval) → modelInRange m ≡ true → m .started ≡ true → gained m i ≡ value (atDelivered m (nextDelivered m i))
 unfolding gained
-gains m i h = sym (held _ _ _ h refl)
+gains m i h s = sym (held _ _ _ h (held _ _ _ s refl))
 
 module _ (m : VbvCbrModel) (f : modelFits m ≡ true) (s : m .started ≡ true) where
   pub delay-told : (position : ℕ) → position ≤ farthest

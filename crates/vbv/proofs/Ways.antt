@@ -12,7 +12,7 @@ use Rattle.vbv.specs.declared.RemovalInterval.{RemovalInterval}
 use Rattle.vbv.specs.declared.VbvCbrModel.{VbvCbrModel}
 use Rattle.vbv.specs.Annex.{unit, firstDelivered, gain, overflows, beyond, expectedDelay, occupancy, greatestEnd, leastEnd}
 use Rattle.vbv.specs.Steps.{ModelFits, EndFits}
-use Rattle.vbv.specs.Model.{farthest, delivered, modelFits, atDelivered, afterRemoval, periods, nextDelivered, delayForPicture, endFits, removePicture, ofStarted}
+use Rattle.vbv.specs.Model.{farthest, delivered, modelFits, atDelivered, afterRemoval, periods, nextDelivered, gained, modelInRange, delayForPicture, endFits, removePicture, ofStarted}
 use Rattle.vbv.proofs.Arith.{ceiling-whole, ceiling-more, above, floor-beyond, start-div, start-mod, next-div, next-mod, delay-split, delay-large}
 use Rattle.bits.proofs.Flags.{yes, no, held, failed}
 use Rattle.vbv.proofs.Fitting.{model-fits, fitting-params, fitting-model, fitting-end, unit-pos, delivered-div}
@@ -194,6 +194,21 @@ module _ (m : VbvCbrModel) (b : ℕ) where
     pub bits-are : m .started ≡ true → (r : ℕ) → r ≡ b → value r ≡ ofStarted m b
     unfolding ofStarted
     bits-are s r e = held _ _ _ f (held _ _ _ s (rw e))
+
+-- an advance
+module _ (m : VbvCbrModel) (i : RemovalInterval) where
+  pub gain-params : modelInRange m ≡ false → refused 12 0 0 0 ≡ gained m i
+  unfolding gained
+  gain-params f = failed _ _ _ f refl
+
+  module _ (f : modelInRange m ≡ true) where
+    pub gain-order : m .started ≡ false → refused 13 0 0 0 ≡ gained m i
+    unfolding gained
+    gain-order s = held _ _ _ f (failed _ _ _ s refl)
+
+    pub gain-is : m .started ≡ true → (next : VbvCbrModel) → next ≡ atDelivered m (nextDelivered m i) → value next ≡ gained m i
+    unfolding gained
+    gain-is s next e = held _ _ _ f (held _ _ _ s (rw e))
 
 module _ (m : VbvCbrModel) (f : modelFits m ≡ true) where
   pub greatest-is : m .whole ≡ greatestEnd (m .params) (delivered m)
