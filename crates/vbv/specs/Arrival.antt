@@ -3,7 +3,7 @@
 use Prim.Native.Nat.{ℕ, _+_, _-_, _*_, _≤_, min}
 use mathlib.Core.Path.{_≡_}
 use mathlib.Core.Bool.{true, false}
-use Rattle.vbv.specs.Annex.{unit, firstDelivered, gain, overflows, expectedDelay, occupancy, firstArrived, arrived, expected}
+use Rattle.vbv.specs.Annex.{unit, firstDelivered, gain, overflows, expectedDelay, firstArrived, arrived, expected}
 use Rattle.vbv.specs.declared.VbvParams.{VbvParams}
 
 pub record Arrival (p : VbvParams) : Type 0 where
