@@ -1,8 +1,8 @@
 -- What the test of a state at a variable rate says: bounds, and back.
 -- Assumes nothing.
 use mathlib.Core.Path.{_≡_, refl}
-use mathlib.Core.Bool.{Bool, true, false, not, _&&_}
-use Prim.Native.Nat.{ℕ, _≤_, _<_}
+use mathlib.Core.Bool.{Bool, true, false, not}
+use Prim.Native.Nat.{_≤_, _<_}
 use borrow.Author.Tests.{not-true}
 use Rattle.bits.specs.Bits.{pick}
 use Rattle.bits.proofs.Flags.{and-left, and-right}

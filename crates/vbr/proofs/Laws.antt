@@ -4,7 +4,6 @@ use mathlib.Core.Path.{_≡_, refl, sym}
 use mathlib.Core.Bool.{true, false}
 use Prim.Native.Nat.{ℕ, _+_, _*_, _≤_}
 use native.Mathlib.Omega.{arith}
-use native.Mathlib.Nat.{mul-le-mul}
 use Rattle.bits.specs.Refusals.{value, refused, violate}
 use Rattle.bits.proofs.Flags.{no, held, failed, was-no, was-held}
 use Rattle.bits.proofs.Following.{refused-value}

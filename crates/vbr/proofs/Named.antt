@@ -1,6 +1,6 @@
 -- What a model at a variable rate answers, by the names of the cases: for callers that match on them.
 -- Assumes nothing.
-use mathlib.Core.Path.{_≡_, refl}
+use mathlib.Core.Path.{_≡_}
 use mathlib.Core.Bool.{true, false}
 use Prim.Native.Nat.{ℕ}
 use Rattle.bits.specs.Bits.{pick}

@@ -11,11 +11,10 @@ use borrow.Author.Tests.{ltb-true, ltb-false, eqb-true, eqb-false, lt-ltb, le-lt
 use Rattle.bits.specs.Bits.{pick}
 use Rattle.bits.specs.Refusals.{Answer, value, refused}
 use Rattle.bits.proofs.Flags.{yes, no, held, failed, is-true, clash}
-use Rattle.vbv.specs.Annex.{unit, gain, overflows, beyond, occupancy, full, arrived}
+use Rattle.vbv.specs.Annex.{unit, overflows, full, arrived}
 use Rattle.vbv.specs.Model.{delivered, modelInRange, atDelivered, afterRemoval, periods, nextDelivered, endFits, gained}
 use Rattle.vbv.specs.Steps.{EndFits, modelOf}
 use Rattle.vbv.specs.declared.RemovalInterval.{RemovalInterval}
-use Rattle.vbv.specs.declared.VbvParams.{VbvParams}
 use Rattle.vbv.specs.declared.VbvCbrModel.{VbvCbrModel}
 use Rattle.vbv.specs.declared.VbvError.{VbvError}
 use Rattle.vbv.specs.declared.VbvModel.the-variants.{Model, Refused}
@@ -24,10 +23,10 @@ use Rattle.vbv.proofs.Laws.{over-units, units-over, beyond-whole, occupancy-who
 use Rattle.vbv.proofs.Arrival.{full-is}
 use Rattle.vbv.proofs.Told.{next-delivered-is}
 use Rattle.vbv.proofs.Named.{gained-named}
-use Rattle.vbv.proofs.After.{ModelWith, model-with, at-rest, after-same}
+use Rattle.vbv.proofs.After.{model-with, at-rest, after-same}
 use Rattle.vbv.proofs.Cases.{after-is, at-is}
 use Rattle.vbr.specs.Steps.{Cappable}
-use Rattle.vbr.specs.Variable.{variableFits, newVariable, startVariable, removeVariable, occupancyVariable}
+use Rattle.vbr.specs.Variable.{variableFits, startVariable, removeVariable, occupancyVariable}
 use Rattle.vbr.proofs.Fitting.{fits-range, variable-fits}
 use Rattle.vbr.proofs.Laws.{variable-starts, variable-occupancy-told}
 

@@ -2,7 +2,6 @@
 -- previous picture ended, how many were removed. A state whose fields are out of their ranges is refused first. Assumes nothing.
 use Prim.Native.Nat.{ℕ}
 use mathlib.Core.Bool.{Bool, true, false, not, _&&_}
-use lib.Dec.{ltb}
 use Rattle.bits.specs.Bits.{pick}
 use Rattle.bits.specs.Refusals.{Answer, value, refuse, violate}
 use Rattle.vbv.specs.Annex.{firstArrived, arrived, overflows, beyond, occupancy}

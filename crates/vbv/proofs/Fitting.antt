@@ -199,6 +199,12 @@ fitting-range m f =
       le-leb _ _ (f .removed-high),
     )
 
+-- a state that fits is in its ranges
+pub fits-model-range : (m : VbvCbrModel) → modelFits m ≡ true → modelInRange m ≡ true
+unfolding modelFits modelInRange paramsFit
+fits-model-range m h =
+    simp (and-left (paramsInRange (m .params)) (ratioFits (m .params)) (and-left (paramsFit (m .params)) (countsFit m) h), and-right (paramsFit (m .params)) (countsFit m) h)
+
 pub fitting-end : (m : VbvCbrModel) (end : ℕ) → EndFits m end → endFits m end ≡ true
 unfolding endFits
 fitting-end m end f = simp (le-leb _ _ (f .end-far), le-leb _ _ (f .end-low), lt-ltb _ _ (f .count))

@@ -1,5 +1,5 @@
 use mathlib.Core.Path.{refl}
-use Rattle.bits.proofs.Flags.{yes, no, held, failed, told-by}
+use Rattle.bits.proofs.Flags.{yes, held, failed, told-by}
 use Rattle.vbr.specs.Variable.{variableFits, startVariable}
 use Rattle.vbr.proofs.Ways.{start-is}
 use borrow.Author.Needs.{needs}

@@ -2,7 +2,6 @@ use mathlib.Core.Path.{sym, _∙_}
 use Rattle.bits.proofs.Flags.{told-by}
 use Rattle.vbv.proofs.Fitting.{params-fit, by-params, no-params}
 use borrow.Author.Needs.{needs}
-use native.Mathlib.Omega.{arith}
 use Rattle.vbv.proofs.VbvCbrModel.fits.Statement.{statement}
 use Rattle.vbv.proofs.VbvCbrModel.fits.Tie as tie
 
