@@ -157,16 +157,16 @@ const KNOWN: [(&str, u8, &str); 44] = [
 
 /// Those of a kind: name and bytes. Of kinds 8 and 10 these are a writer's numbers and output part.
 pub fn known(kind: u8) -> Vec<(String, Vec<u8>)> {
-    let worked = if kind == 20 { worked() } else { vec![] };
+    let worked = if [20, 24].contains(&kind) { worked(kind) } else { vec![] };
     named(kind).into_iter().map(|(name, bytes)| (name.to_string(), bytes)).chain(worked).collect()
 }
 
-/// The lists of worked.rs as streams, in each sequence.
-fn worked() -> Vec<(String, Vec<u8>)> {
+/// The lists of worked.rs as streams, in each sequence; of kind 24 of a variable rate.
+fn worked(kind: u8) -> Vec<(String, Vec<u8>)> {
     let mut all = vec![];
     for (letters, _) in LISTS {
         for (column, name) in SEQUENCES.iter().enumerate() {
-            let stream = streams::of(&pictures(letters), sequence(column), &mut Draw(column as u64));
+            let stream = streams::of(&pictures(letters), sequence(column), kind == 24, &mut Draw(column as u64));
             all.push((format!("{letters}, {name}"), stream));
         }
     }
