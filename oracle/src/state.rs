@@ -68,13 +68,23 @@ fn least(s: &[u64; WORDS]) -> [u64; WORDS] {
 
 /// The writer that bytes hold: none, where they are too few or a value is out of its range.
 pub fn held(bytes: &[u8]) -> Option<Writer> {
+    read(bytes).filter(Writer::in_range)
+}
+
+/// Whether all that is out of range is what a writer of a variable rate has in its buffer.
+pub fn beyond(bytes: &[u8]) -> bool {
+    read(bytes).is_some_and(|w| !w.in_range())
+}
+
+/// The same, with each word in its own range.
+fn read(bytes: &[u8]) -> Option<Writer> {
     let s = words_of(bytes)?;
     let (least, limits) = (least(&s), limits(&s));
     let Mode { film, variable, .. } = mode(s[19])?;
     if (0..WORDS).any(|k| s[k] < least[k] || limits[k] < s[k]) || s[6] % 8 != 0 {
         return None;
     }
-    let writer = Writer {
+    Some(Writer {
         rate: s[0].into(),
         buffer: s[1].into(),
         frn: s[2].into(),
@@ -92,6 +102,5 @@ pub fn held(bytes: &[u8]) -> Option<Writer> {
         variable,
         sequence: Sequence { progressive: s[20] == 1, low_delay: s[21] == 1 },
         pictures: if film { leaving([s[22], s[23], s[24]]) } else { vec![] },
-    };
-    Some(writer).filter(Writer::in_range)
+    })
 }

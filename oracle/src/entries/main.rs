@@ -1,6 +1,6 @@
 //! Runs drawn cases through the entries that C calls, and holds every value returned and every byte of every lent place to
-//! what is expected: of the check and of the delay patch what the original answers, in film mode what film.rs does (vbv.rs); of the
-//! writer what the model of the papers comes to (create.rs, cbr.rs).
+//! what is expected: of the check and of the delay patch what the original answers, in film mode what film.rs does, of a variable rate
+//! what variable.rs does (vbv.rs); of the writer what the model of the papers comes to (create.rs, cbr.rs).
 //!
 //!     entries COUNT SEED
 //!
@@ -28,7 +28,7 @@ fn main() {
     for _ in 0..count {
         run.case += 1;
         run.list(&sends::drawn(&mut d));
-        let (mode, kind) = [(1, 17), (2, 18), (6, 20)][d.below(3)];
+        let (mode, kind) = [(1, 17), (2, 18), (6, 20), (10, 24), (14, 24)][d.below(5)];
         run.stream(mode, &checks::drawn(kind, &mut d));
         run.header(&calls::drawn(16, &mut d));
     }
