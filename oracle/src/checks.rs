@@ -30,6 +30,16 @@ pub fn drawn(kind: u8, d: &mut Draw) -> Vec<u8> {
     input(VBV_RECORD_BYTES * places + more, &stream)
 }
 
+/// One of few bytes, most of them no longer than the smallest buffer.
+pub fn small(kind: u8, d: &mut Draw) -> Vec<u8> {
+    loop {
+        let input = drawn(kind, d);
+        if input.len() <= if d.one_in(2) { 2_400 } else { 1_000 } {
+            return input;
+        }
+    }
+}
+
 /// A stream with room for its records, and for three at least.
 pub fn with_room(stream: &[u8]) -> Vec<u8> {
     input(VBV_RECORD_BYTES * picture_codes(stream).max(3), stream)

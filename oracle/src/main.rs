@@ -1,13 +1,13 @@
 //! Writes cases with the original's answers to standard output, and counts them on standard error.
 //!
-//!     cases [known] [short] [edges] [every] SEED COUNT KIND..|19|small
+//!     cases [known] [short] [edges] [every] [small] SEED COUNT KIND..|19
 //!
 //! known: first the headers and streams that have a name; short: then all inputs of at most two bytes; edges: then those around
 //! each boundary; every: then all 2^24 of kind 14; then COUNT drawn ones. Kind 19, lists of calls of the writer, goes to
-//! another program and stands alone; small: the same, but only lists of few bytes.
+//! another program and stands alone; small: of kinds 19 and 24 only lists and streams of few bytes.
 //!
 //! Kind 20, streams in film mode, brings 21 to 23: the same streams in the other modes of a constant rate. Kind 24, streams of a
-//! variable rate, brings 25 to 27, the same in the other modes of one, and 21.
+//! variable rate, brings 25 and 21 and, where the stream is short, 26 and 27.
 //!
 //!     cases stream 1|2|6|10|14 FILE
 //!
@@ -26,11 +26,14 @@ use std::process::exit;
 /// How often each kind is drawn.
 const WEIGHTS: [usize; 24] = [12, 8, 16, 12, 8, 16, 6, 10, 2, 6, 3, 1, 1, 2, 24, 4, 40, 60, 1, 20, 0, 0, 0, 25];
 
+/// Of what bytes a stream of kind 24 is a case of MPEG-1 too, in which all are 12.
+const SHORT: usize = 500;
+
 /// The kinds that a stream of a kind is a case of.
 fn brought(kind: u8) -> &'static [u8] {
     match kind {
         20 => &[20, 21, 22, 23],
-        24 => &[24, 25, 26, 27, 21],
+        24 => &[24, 25, 21, 26, 27],
         _ => &[],
     }
 }
@@ -61,6 +64,7 @@ impl Cases {
     fn put_all(&mut self, kind: u8, input: &[u8]) {
         match brought(kind) {
             [] => self.put(kind, input),
+            kinds if kind == 24 && SHORT < input.len() => kinds[..3].iter().for_each(|&kind| self.put(kind, input)),
             kinds => kinds.iter().for_each(|&kind| self.put(kind, input)),
         }
     }
@@ -167,10 +171,7 @@ fn asked(mut words: Vec<String>) -> Option<Asked> {
     let every = flag("every");
     let numbers = words.iter().map(|w| w.parse().ok()).collect::<Option<Vec<u64>>>()?;
     let [seed, count, kinds @ ..] = &numbers[..] else { return None };
-    let mut kinds: Vec<u8> = kinds.iter().map(|&k| k as u8).collect();
-    if small {
-        kinds.push(19);
-    }
+    let kinds: Vec<u8> = kinds.iter().map(|&k| k as u8).collect();
     let some = !kinds.is_empty() && kinds.iter().all(|k| (1..=20).contains(k) || *k == 24);
     let alone = !kinds.contains(&19) || kinds.len() == 1;
     (some && alone).then_some(Asked { known, short, edges, every, small, seed: *seed, count: *count, kinds })
@@ -198,7 +199,11 @@ fn write(asked: &Asked) -> Cases {
     let lots: Vec<u8> = asked.kinds.iter().flat_map(|&k| vec![k; WEIGHTS[k as usize - 1]]).collect();
     for _ in 0..asked.count {
         let kind = lots[d.below(lots.len())];
-        let input = if asked.small { sends::small(&mut d) } else { drawn(kind, &mut d) };
+        let input = match kind {
+            19 if asked.small => sends::small(&mut d),
+            24 if asked.small => checks::small(kind, &mut d),
+            _ => drawn(kind, &mut d),
+        };
         cases.put_all(kind, &input);
     }
     cases.out.flush().unwrap_or_else(|_| exit(1));
@@ -213,7 +218,7 @@ fn main() {
         return stream(mode, file);
     }
     let Some(asked) = asked(words) else {
-        eprintln!("usage: cases [known] [short] [edges] [every] SEED COUNT KIND..|19|small");
+        eprintln!("usage: cases [known] [short] [edges] [every] [small] SEED COUNT KIND..|19");
         eprintln!("       cases stream 1|2|6|10|14 FILE");
         exit(2);
     };

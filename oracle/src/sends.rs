@@ -297,7 +297,7 @@ fn a_part(w: &Writer, o: &Offer, d: &mut Draw) -> usize {
 fn a_far_state(w: &Writer, c: &Config, d: &mut Draw) -> (u64, u64) {
     let end = FAR - 8 * [d.below(40), d.below(400), d.below(4000)][d.below(3)] as u64;
     let most = BUFFER_UNIT * c.buffer;
-    if w.variable && d.one_in(4) {
+    if w.variable && d.one_in(3) {
         return (end, end + most + [1, 1 + d.next() % 64, d.next() % (1 << 33)][d.below(3)]);
     }
     (end, end + [most, d.next() % (most + 1), most - d.next() % (most.min(64) + 1)][d.below(3)])
@@ -315,7 +315,7 @@ pub fn drawn(d: &mut Draw) -> Vec<u8> {
     let mut input = config(&c);
     let Ok(mut w) = Writer::create(c) else { return input };
     let calls = if d.one_in(8) { d.below(30) } else { d.below(10) };
-    let far = d.one_in(40);
+    let far = d.one_in(if w.variable { 20 } else { 40 });
     let mut before = None;
     let mut size = 0;
     let (mut handed_out, mut pictures, mut whole) = (vec![], 0, true);
@@ -359,12 +359,14 @@ pub fn drawn(d: &mut Draw) -> Vec<u8> {
     input
 }
 
-/// One list that has at most 6,000 bytes with its answer, more often than not of at least four calls.
+/// One list that has at most 6,000 bytes with its answer, now and then twice as many, for a picture to come to the end of the smallest
+/// buffer; more often than not of at least four calls.
 pub fn small(d: &mut Draw) -> Vec<u8> {
     loop {
         let input = drawn(d);
         let few = input[COUNT] < 4 && !d.one_in(4);
-        if !few && input.len() + answer(&input).bytes.len() <= 6_000 {
+        let most = if d.one_in(4) { 14_000 } else { 6_000 };
+        if !few && input.len() + answer(&input).bytes.len() <= most {
             return input;
         }
     }

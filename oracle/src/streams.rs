@@ -229,9 +229,9 @@ pub fn drawn(form: Form, fault: Fault, d: &mut Draw) -> Vec<u8> {
     made(plan, d)
 }
 
-/// A valid stream of pictures of these kinds and facts, in film mode, at a constant or a variable rate.
-pub fn of(pictures: &[(usize, Facts)], sequence: Sequence, variable: bool, d: &mut Draw) -> Vec<u8> {
-    let form = Form { mpeg2: true, extensions: true, film: true, variable };
+/// A valid stream of pictures of these kinds and facts, in film mode.
+pub fn of(pictures: &[(usize, Facts)], sequence: Sequence, d: &mut Draw) -> Vec<u8> {
+    let form = Form { mpeg2: true, extensions: true, film: true, variable: false };
     let plan = Plan {
         pictures: pictures.len(),
         rate: least_rate(1) + 20,

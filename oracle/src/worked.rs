@@ -180,11 +180,12 @@ fn declared(code: u64, rate: u64, buffer: u64) -> Vec<u8> {
     [&pack(&header)[..], &HEADERS[12..22]].concat()
 }
 
-/// A stream at 25/1 of pictures in letters with so many bits each, the first with the headers; and one delay in all of them.
-fn stream(rate: u64, buffer: u64, letters: &str, bits: &[usize], delay: u64) -> Vec<u8> {
+/// A stream at 25/1 with a rate field and a buffer field, of pictures in letters with so many bits each, the first with the headers, and
+/// with these delays.
+pub fn stream([rate, buffer]: [u64; 2], letters: &str, bits: &[usize], delays: &[u64]) -> Vec<u8> {
     let mut stream = declared(3, rate, buffer);
     let mut end = 0;
-    for ((kind, facts), bits) in pictures(letters).into_iter().zip(bits) {
+    for (((kind, facts), bits), &delay) in pictures(letters).into_iter().zip(bits).zip(delays) {
         end += bits / 8;
         let left = end - stream.len();
         stream.extend(layer(kind, facts, delay, left));
@@ -204,7 +205,7 @@ fn answered(mode: Mode, stream: &[u8]) -> (u8, [u64; 5], Vec<Vec<u64>>) {
 /// Holds variable.rs to occupancies, to a first picture of B bits and to one of a byte more, and to ranges without a ratio.
 fn hold_removals() {
     let bits = [80_344, 976, 976, 976];
-    let four = stream(2500, 20, "I P bb", &bits, 0xFFFF);
+    let four = stream([2500, 20], "I P bb", &bits, &[0xFFFF; 4]);
     let before = [327_680, 287_336, 326_360, 327_680];
     let records: Vec<_> = (0..4).map(|n| vec![65_535, 65_535, bits[n] as u64, before[n], [2, 2, 1, 1][n]]).collect();
     for mode in [VARIABLE, FILM_VARIABLE] {
@@ -212,21 +213,22 @@ fn hold_removals() {
             answered(mode, &four),
             (0, [1_000_000, before[0], 4, before[0] - bits[0] as u64, before[0]], records.clone())
         );
-        let full = stream(2500, 20, "I", &[8 * 40_960], 0xFFFF);
+        let full = stream([2500, 20], "I", &[8 * 40_960], &[0xFFFF]);
         assert_eq!(
             answered(mode, &full),
             (0, [1_000_000, 327_680, 1, 0, 327_680], vec![vec![65_535, 65_535, 327_680, 327_680, 2]])
         );
-        let more = stream(2500, 20, "I", &[8 * 40_961], 0xFFFF);
+        let more = stream([2500, 20], "I", &[8 * 40_961], &[0xFFFF]);
         assert_eq!(answered(mode, &more), (10, [0, 65_535, 65_535, 0, 0], vec![]));
-        let low = stream(56, 1, "I P", &[8_000, 800], 0xFFFF);
-        let (number, five, _) = answered(mode, &low);
+        let two = |buffer, second| stream([56, buffer], "I P", &[8_000, 800], &[0xFFFF, second]);
+        let (number, five, _) = answered(mode, &two(1, 0xFFFF));
         assert_eq!((number, &five[..3]), (0, &[22_400, 16_384, 2][..]));
-        assert_eq!(answered(mode, &stream(56, 0, "I P", &[8_000, 800], 0xFFFF)).0, 12);
-        assert_eq!(answered(mode, &stream(56, 0, "I P", &[8_000, 800], 0)), (25, [0; 5], vec![]));
+        assert_eq!(answered(mode, &two(0, 0xFFFF)), (12, [0; 5], vec![]));
+        assert_eq!(answered(mode, &two(0, 0xFFFE)), (25, [0; 5], vec![]));
     }
     // At a constant rate the first delay is 5, and then the ratio 12.
-    assert_eq!([0xFFFF, 0].map(|delay| answered(PLAIN, &stream(56, 1, "I P", &[8_000, 800], delay)).0), [5, 12]);
+    let one = |delay| stream([56, 1], "I", &[8_000], &[delay]);
+    assert_eq!([0xFFFF, 0].map(|delay| answered(PLAIN, &one(delay)).0), [5, 12]);
     assert_eq!(answered(PLAIN, &four).0, 5);
 }
 
