@@ -24,7 +24,7 @@ use std::io::{BufWriter, Stdout, Write, stdout};
 use std::process::exit;
 
 /// How often each kind is drawn.
-const WEIGHTS: [usize; 24] = [12, 8, 16, 12, 8, 16, 6, 10, 2, 6, 3, 1, 1, 2, 24, 4, 40, 60, 1, 20, 0, 0, 0, 25];
+const WEIGHTS: [usize; 24] = [12, 8, 16, 12, 8, 16, 6, 10, 2, 6, 3, 1, 1, 2, 24, 4, 40, 60, 1, 20, 0, 0, 0, 40];
 
 /// Of what bytes a stream of kind 24 is a case of MPEG-1 too, in which all are 12.
 const SHORT: usize = 500;

@@ -318,6 +318,15 @@ impl Run {
         self.check(&c);
     }
 
+    /// An encoder's stream in every mode, with a place for each record.
+    pub fn encoded(&mut self, stream: &[u8]) {
+        for mode in MODES {
+            let lengths = [VBV_REPORT_BYTES, VBV_RECORD_BYTES * picture_codes(stream), VBV_REFUSAL_BYTES];
+            let [report, records, refusal] = lengths.map(|n| self.d.bytes(n));
+            self.check(&Check { stream, mode: mode.number() as u8, report, records, refusal });
+        }
+    }
+
     /// One header to patch: the input has the delay in front.
     pub fn header(&mut self, input: &[u8]) {
         let (delay, picture) = input.split_at(2);
