@@ -153,7 +153,9 @@ fn variable_rate(d: &mut Draw) -> (u64, u64) {
     let buffer = if d.one_in(8) { d.nonzero(18) } else { 1 + d.below(3) as u64 };
     let least = least_rate(buffer);
     let below = (1 + d.next() % least.min(1 << 18)).min(least - 1).max(1);
-    let rate = [1 + d.below(40) as u64, below, least + d.below(60) as u64, least + d.below(3000) as u64][d.below(4)];
+    let above = least + d.below(3000) as u64;
+    let any = if d.one_in(4) { d.nonzero(30) } else { least + d.below(60) as u64 };
+    let rate = [1 + d.below(40) as u64, below, above, any][d.below(4)];
     (buffer, if rate % (1 << 18) == 0 { rate + 1 } else { rate })
 }
 

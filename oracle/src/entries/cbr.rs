@@ -284,7 +284,7 @@ impl Run {
         let number = if writer.is_some() { 0 } else { 12 };
         let why = if writer.is_some() { why } else { "refused 12" };
         if let Some(w) = writer {
-            w.withdraw();
+            assert!(w.withdraw(), "a writer that is not in range");
             lay(state, &words(w));
         }
         self.met(WITHDRAWALS, why, &found, &alone(number, state));
@@ -329,7 +329,7 @@ impl Run {
         if self.d.one_in(2) {
             self.odd_offer(state, &c);
         }
-        self.offer(OFFERS, Some(w), state, &c)
+        self.offer(OFFERS, Some(w).filter(|w| w.in_range()), state, &c)
     }
 
     /// One list: creation, each call on what the one before left, and the check of what was handed out.
@@ -350,7 +350,7 @@ impl Run {
                 Call::Withdrawal => {
                     self.odd_withdrawal(&state);
                     let why = if w.pending.is_some() { "accepted" } else { "nothing pending" };
-                    self.withdraw(why, Some(&mut w), &mut state);
+                    self.withdraw(why, Some(&mut w).filter(|w| w.in_range()), &mut state);
                 }
                 Call::Offer(o) => {
                     let (mut left, periods) = self.listed(&mut w, &mut state, &o, part);
