@@ -4,8 +4,8 @@ use crate::check::{
     ACROSS, AS_PLAIN, FILM_ALONE, NOT_READ, OF_FIELDS, OF_FOUR, OF_FRAMES, OF_SIX, OF_THREE, OTHERWISE, WITH_RATE,
 };
 use crate::format::{ACCEPTED, Answer, number, words};
-use crate::mode::{FILM, MPEG1, MPEG1_FILM, Mode, PLAIN};
-use crate::{check, lists, model};
+use crate::mode::{FILM, FILM_VARIABLE, MPEG1, MPEG1_FILM, MPEG1_FILM_VARIABLE, MPEG1_VARIABLE, Mode, PLAIN, VARIABLE};
+use crate::{check, lists, model, variable};
 use original::gop_header::{Mpeg2Gop, TimeCode, nominal_pictures_per_second, write_gop_header};
 use original::picture_header::{
     Mpeg2PictureHeader, PictureCodingExtension, PictureCodingType, PictureStructure, oracle_picture_header_byte_length,
@@ -21,7 +21,7 @@ use original::{Error, Result};
 use oxideav_core::bits::BitWriter;
 
 /// The kinds of cases by their number, with the refusals that each can give and what else has to be met.
-pub const KINDS: [(&str, &[u8]); 23] = [
+pub const KINDS: [(&str, &[u8]); 27] = [
     ("Mpeg2SequenceHeader::parse", &[1, 2]),
     ("Mpeg2SequenceExtension::parse", &[1, 2]),
     ("Mpeg2Sequence::from_buf", &[1, 2]),
@@ -44,43 +44,38 @@ pub const KINDS: [(&str, &[u8]); 23] = [
         &[1, 2, 3, 4, 5, 6, 7, 8, 9, 10, 11, 12, 15, OF_FIELDS, OF_FRAMES, WITH_RATE, OTHERWISE],
     ),
     ("CbrWriter", &lists::OWED),
-    (
-        "verify_in_mode, MPEG-2 film",
-        &[
-            1,
-            2,
-            3,
-            4,
-            5,
-            6,
-            7,
-            8,
-            9,
-            10,
-            11,
-            12,
-            15,
-            OF_FIELDS,
-            OF_FRAMES,
-            OF_THREE,
-            OF_FOUR,
-            OF_SIX,
-            FILM_ALONE,
-            AS_PLAIN,
-            ACROSS,
-            ACROSS + 1,
-            ACROSS + 2,
-            ACROSS + 3,
-            ACROSS + 4,
-        ],
-    ),
+    ("verify_in_mode, MPEG-2 film", &joined::<{ FILM_CHECK.len() + FILM_OWED.len() }>(&FILM_CHECK, &FILM_OWED)),
     (
         "verify_in_mode, MPEG-2",
         &[1, 2, 3, 4, 5, 6, 7, 8, 9, 10, 11, 12, 15, OF_FIELDS, OF_FRAMES, WITH_RATE, OTHERWISE],
     ),
     ("verify_in_mode, MPEG-1", &[1, 2, 3, 4, 5, 6, 8, 9, 10, 11, 12, 15, OF_FRAMES]),
     ("verify_in_mode, MPEG-1 film", &[12]),
+    ("verify_in_mode, MPEG-2 variable", &VARIABLE_OWED),
+    ("verify_in_mode, MPEG-2 film variable", &FILM_VARIABLE_OWED),
+    ("verify_in_mode, MPEG-1 variable", &[12]),
+    ("verify_in_mode, MPEG-1 film variable", &[12]),
 ];
+const FILM_CHECK: [u8; 15] = [1, 2, 3, 4, 5, 6, 7, 8, 9, 10, 11, 12, 15, OF_FIELDS, OF_FRAMES];
+/// Of film mode, beside what a plain check has to meet.
+const FILM_OWED: [u8; 10] =
+    [OF_THREE, OF_FOUR, OF_SIX, FILM_ALONE, AS_PLAIN, ACROSS, ACROSS + 1, ACROSS + 2, ACROSS + 3, ACROSS + 4];
+/// Kinds of which every case is refused.
+pub const NO_MODES: [u8; 3] = [23, 26, 27];
+
+const VARIABLE_CHECK: [u8; 11] = [1, 2, 3, 4, 6, 10, 12, 15, 25, OF_FIELDS, OF_FRAMES];
+const VARIABLE_OWED: [u8; VARIABLE_CHECK.len() + variable::OWED.len()] = joined(&VARIABLE_CHECK, &variable::OWED);
+const FILM_VARIABLE_OWED: [u8; VARIABLE_OWED.len() + FILM_OWED.len()] = joined(&VARIABLE_OWED, &FILM_OWED);
+
+const fn joined<const N: usize>(a: &[u8], b: &[u8]) -> [u8; N] {
+    let mut all = [0; N];
+    let mut i = 0;
+    while i < N {
+        all[i] = if i < a.len() { a[i] } else { b[i - a.len()] };
+        i += 1;
+    }
+    all
+}
 
 /// The mode of a kind that is a check.
 pub fn mode(kind: u8) -> Mode {
@@ -89,6 +84,10 @@ pub fn mode(kind: u8) -> Mode {
         18 | 21 => PLAIN,
         20 => FILM,
         23 => MPEG1_FILM,
+        24 => VARIABLE,
+        25 => FILM_VARIABLE,
+        26 => MPEG1_VARIABLE,
+        27 => MPEG1_FILM_VARIABLE,
         _ => unreachable!("no check is of kind {kind}"),
     }
 }
@@ -115,7 +114,7 @@ pub fn answer(kind: u8, input: &[u8]) -> Answer {
         15 => model::calls(input),
         16 => model::patched(input),
         19 => lists::answer(input),
-        17..=23 => check::checked(mode(kind), input),
+        17..=27 => check::checked(mode(kind), input),
         _ => unreachable!("no kind {kind}"),
     }
 }

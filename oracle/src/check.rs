@@ -1,17 +1,19 @@
-//! Kinds 17 and 18, and in any mode 20 to 23: the check of a stream. The original has no refusal 15, and its 9 and 10 name the
+//! Kinds 17 and 18, and in any mode 20 to 27: the check of a stream. The original has no refusal 15, and its 9 and 10 name the
 //! picture alone: these the oracle completes from pictures that it finds itself, run through the original's model. A record's
 //! first four words are the original's. It has no such field as the fifth, `periods` (request 04): that is by the oracle's own
 //! rule. Of an MPEG-2 stream with n or d not 0 the original is the patched copy (request 02). In film mode (request 05) the
-//! original decides what comes before the run, and the run is film.rs's.
+//! original decides what comes before the run, and the run is film.rs's. At a variable rate (request 06) it decides what comes before
+//! its 5, and all from 25 on is variable.rs's.
 
 use crate::cadence::{self, Facts, Sequence};
 use crate::film;
 use crate::format::{ACCEPTED, Answer, Met, number, pattern, words};
 use crate::layout::VBV_RECORD_BYTES;
-use crate::mode::{FILM, MPEG1_FILM, Mode};
+use crate::mode::{FILM, Mode};
 use crate::model::{BUFFER_UNIT, RATE_UNIT, refusal};
 use crate::place::lay;
 use crate::spans::{picture_codes, spans};
+use crate::variable;
 use original::picture_header::{Mpeg2PictureHeader, PictureCodingType, PictureStructure};
 use original::sequence_extension::Mpeg2Sequence;
 use original::sequence_header::Mpeg2SequenceHeader;
@@ -21,7 +23,7 @@ use original::vbv::{
 };
 
 const PLACES: Met = (15, "fewer record places than pictures");
-const NO_MODE: Met = (12, "film in MPEG-1");
+const NO_MODE: Met = (12, "film or a variable rate in MPEG-1");
 
 /// What else is counted, records by their fifth word: numbers above those of lists.rs.
 pub const OF_FIELDS: u8 = 136;
@@ -179,7 +181,7 @@ fn accepted(mode: Mode, stream: &[u8], five: [u64; 5], part: &[u8]) -> Vec<Met> 
         });
         return met;
     }
-    accepted_plain(mode.standard, stream)
+    if mode.variable { vec![] } else { accepted_plain(mode.standard, stream) }
 }
 
 /// Pairs of fields with something between the two.
@@ -273,8 +275,14 @@ fn report(report: &VbvStreamReport, all: &[Picture], part: &mut [u8]) -> [u64; 5
 
 /// What a stream is answered in a mode: its number and five words, the records stored in the part.
 pub fn judged(mode: Mode, stream: &[u8], part: &mut [u8]) -> (Met, [u64; 5]) {
-    if mode == MPEG1_FILM {
+    if mode.none() {
         return (NO_MODE, [0; 5]);
+    }
+    if mode.variable {
+        return match paced(mode, stream) {
+            Err(refused) => (refused, [0; 5]),
+            Ok(Paced { params, all, periods }) => variable::judged(params, &all, &periods, part),
+        };
     }
     let standard = mode.standard;
     let result = verify(standard, stream);
@@ -298,6 +306,43 @@ pub fn judged(mode: Mode, stream: &[u8], part: &mut [u8]) -> (Met, [u64; 5]) {
             answer
         }
         _ => original(standard, stream, result, &all, part),
+    }
+}
+
+/// What a check at a variable rate needs of a stream: R, B, frn and frd, the pictures, and how long each lasts.
+struct Paced {
+    params: [u64; 4],
+    all: Vec<Picture>,
+    periods: Vec<u64>,
+}
+
+/// The same of a stream that the original does not refuse before its 5; what it refuses before is refused here too.
+fn paced(mode: Mode, stream: &[u8]) -> Result<Paced, Met> {
+    let refused = match verify(mode.standard, stream) {
+        Err(VbvVerifyError::Parse(e)) => refusal(e),
+        _ => ACCEPTED,
+    };
+    if [1, 2, 3, 4, 6].contains(&refused.0) {
+        return Err(refused);
+    }
+    let all = pictures(mode.standard, stream);
+    assert_eq!(
+        refused.0 == 5,
+        all[0].delay == variable::DELAY,
+        "the original's 5 is not where the first delay is 0xFFFF"
+    );
+    let (s, facts) = shown(stream);
+    let periods = if mode.film { cadence::periods(s, &facts) } else { all.iter().map(Picture::periods).collect() };
+    let VbvParams { bit_rate, buffer_size_bits, frame_rate, .. } = params(mode.standard, stream);
+    let params = [bit_rate, buffer_size_bits, frame_rate.0.into(), frame_rate.1.into()];
+    Ok(Paced { params, all, periods })
+}
+
+/// What else is counted of a check at a variable rate.
+fn met_variable(mode: Mode, stream: &[u8], part: usize, number: u8) -> Vec<Met> {
+    match paced(mode, stream) {
+        Ok(Paced { params, all, periods }) => variable::met(params, &all, &periods, part, number),
+        Err(_) => vec![],
     }
 }
 
@@ -334,9 +379,12 @@ pub fn checked(mode: Mode, input: &[u8]) -> Answer {
     if met == ACCEPTED {
         answer.met.extend(fifths(&part, five[2]).map(counted));
         answer.met.extend(accepted(mode, &input[2..], five, &part));
-        if mode == FILM {
+        if mode.film {
             answer.film = Some(shown(&input[2..]));
         }
+    }
+    if mode.variable && !mode.none() {
+        answer.met.extend(met_variable(mode, &input[2..], part.len(), met.0));
     }
     words(&mut answer.bytes, &five);
     answer.bytes.extend(part);

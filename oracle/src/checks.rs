@@ -1,12 +1,11 @@
-//! Inputs for kinds 17, 18 and 20: a record part's length and a stream, good, damaged, cut or at random. Those of kind 20 are those
-//! of 21 to 23 too.
+//! Inputs for kinds 17, 18, 20 and 24: a record part's length and a stream, good, damaged, cut or at random. Those of kind 20 are
+//! those of 21 to 23 too, those of kind 24 those of 25 to 27 and of 21.
 
 use crate::answers::mode;
 use crate::check::{lines, verify};
 use crate::draw::Draw;
 use crate::headers::damage;
 use crate::layout::VBV_RECORD_BYTES;
-use crate::mode::FILM;
 use crate::spans::picture_codes;
 use crate::streams::{self, Fault, Form};
 
@@ -31,19 +30,30 @@ pub fn drawn(kind: u8, d: &mut Draw) -> Vec<u8> {
     input(VBV_RECORD_BYTES * places + more, &stream)
 }
 
+/// One of few bytes, most of them no longer than the smallest buffer.
+pub fn small(kind: u8, d: &mut Draw) -> Vec<u8> {
+    loop {
+        let input = drawn(kind, d);
+        if input.len() <= if d.one_in(2) { 2_400 } else { 1_000 } {
+            return input;
+        }
+    }
+}
+
 /// A stream with room for its records, and for three at least.
 pub fn with_room(stream: &[u8]) -> Vec<u8> {
     input(VBV_RECORD_BYTES * picture_codes(stream).max(3), stream)
 }
 
-/// What the original answers, in words; in film mode the lines of the answer, one after the other.
+/// What the original answers, in words; in film mode and at a variable rate the lines of the answer, one after the other.
 pub fn told(kind: u8, input: &[u8]) -> String {
-    if mode(kind) == FILM {
-        let answer = lines(FILM, &input[2..]);
+    let mode = mode(kind);
+    if mode.film || mode.variable {
+        let answer = lines(mode, &input[2..]);
         let numbers = answer.lines().skip(1).filter(|line| !line.starts_with("delay"));
         return numbers.collect::<Vec<_>>().join("; ");
     }
-    match verify(mode(kind).standard, &input[2..]) {
+    match verify(mode.standard, &input[2..]) {
         Err(refusal) => refusal.to_string(),
         Ok(r) => {
             let records = r
@@ -59,17 +69,20 @@ pub fn told(kind: u8, input: &[u8]) -> String {
 
 /// Some of kind 17 have MPEG-2's extensions, which an MPEG-1 check does not read: its fields are frames, and its rate is that of
 /// the code alone. Most of these are made so that they pass it.
-/// Of kind 20 most are made for film mode, the others for a plain check.
+/// Of kind 20 most are made for film mode, the others for a plain check; of kind 24 most for a variable rate, half of them in film
+/// mode.
 fn form(kind: u8, d: &mut Draw) -> Form {
-    if kind == 20 {
-        return Form { mpeg2: true, extensions: true, film: !d.one_in(16) };
+    match kind {
+        20 => return Form { mpeg2: true, extensions: true, film: !d.one_in(16), variable: false },
+        24 => return Form { mpeg2: true, extensions: true, film: d.one_in(2), variable: !d.one_in(16) },
+        _ => {}
     }
     let extensions = kind == 18 || d.one_in(16);
-    Form { mpeg2: kind == 18 || extensions && d.one_in(4), extensions, film: false }
+    Form { mpeg2: kind == 18 || extensions && d.one_in(4), extensions, film: false, variable: false }
 }
 
 fn a_stream(form: Form, d: &mut Draw) -> Vec<u8> {
-    let fault = streams::fault(d);
+    let fault = streams::fault(form, d);
     streams::drawn(form, fault, d)
 }
 
@@ -94,8 +107,9 @@ fn noise(d: &mut Draw) -> Vec<u8> {
 /// Around each boundary: some streams, each cut at every byte, with every bit flipped and every byte removed, doubled or
 /// followed by a zero; and each with every number of record places.
 pub fn edges(kind: u8, d: &mut Draw, put: &mut impl FnMut(&[u8])) {
-    for _ in 0..8 {
-        let stream = short(Form { mpeg2: kind != 17, extensions: kind != 17, film: kind == 20 }, d);
+    for i in 0..8 {
+        let (variable, film) = (kind == 24, kind == 20 || kind == 24 && i % 2 == 1);
+        let stream = short(Form { mpeg2: kind != 17, extensions: kind != 17, film, variable }, d);
         let n = picture_codes(&stream);
         for part in 0..VBV_RECORD_BYTES * (n + 1) {
             put(&input(part, &stream));

@@ -2,6 +2,13 @@
 
 pub struct OracleWriter(CbrWriter);
 
+/// The targets alone, at a rate by code, n and d: patched as the check is (request 02) where n or d is not 0.
+pub fn oracle_targets(bit_rate: u64, [code, n, d]: [u8; 3], between: u8, anchors: u8) -> [u64; 3] {
+    let as_it_is = frame_rate_value(code).unwrap();
+    let frame_rate = if (n, d) == (0, 0) { as_it_is } else { oracle_extended(as_it_is, n, d) };
+    type_target_bits(bit_rate, frame_rate, between.into(), anchors.into())
+}
+
 impl OracleWriter {
     /// As `encode_cbr_gop_sequence` makes it, of parameters that creation accepts, with nothing put out yet.
     pub fn new(bit_rate: u64, buffer_bits: u64, rate_code: u8, q: u8, between: u8, anchors: u8) -> Self {

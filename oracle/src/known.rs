@@ -1,13 +1,13 @@
 //! Headers and streams with a name: one for each difference from the standards in which the original wins, and those of rates with
-//! extensions, in which it does not (docs/DIFFERENCES.md); and the worked lists of film mode as streams.
+//! extensions, in which it does not (docs/DIFFERENCES.md); the worked lists of film mode as streams; and streams of a variable rate.
 
 use crate::cadence::SEQUENCES;
 use crate::draw::Draw;
 use crate::streams;
-use crate::worked::{LISTS, pictures, sequence};
+use crate::worked::{LISTS, pictures, sequence, stream};
 
 /// Name, kind, and the bytes of the header or stream.
-const KNOWN: [(&str, u8, &str); 44] = [
+const KNOWN: [(&str, u8, &str); 46] = [
     ("low 18 rate bits of zero are refused", 1, "000001B301001013000020A0"),
     ("constrained_parameters_flag 1", 1, "000001B301001013027120A4"),
     ("reserved aspect and rate codes", 1, "000001B3010010F9027120A0"),
@@ -148,6 +148,18 @@ const KNOWN: [(&str, u8, &str); 44] = [
          00000100000B5B78 000001B58FFFF34180 00000101",
     ),
     (
+        "paper 01's own stream with 0xFFFF for its delay",
+        24,
+        "000001B301001013027120A0 000001B5148200010000 000001B800080040 \
+         00000100000FFFF8 000001B58FFFF34180 000001011234 000001B7",
+    ),
+    (
+        "paper 01's own stream as it is",
+        24,
+        "000001B301001013027120A0 000001B5148200010000 000001B800080040 \
+         00000100000AB330 000001B58FFFF34180 000001011234 000001B7",
+    ),
+    (
         "two pictures, the first with repeat_first_field, in either mode",
         20,
         "000001B301001013027120A0 000001B5148200010000 00000100000AB330 000001B58FFFF34380 00000101 00000100000B2338 \
@@ -185,9 +197,32 @@ fn named(kind: u8) -> Vec<(&'static str, Vec<u8>)> {
             inputs.push(("hours 31, drop_frame_flag and broken_link", bytes("01 1F 3F 3F 3F 00 01 0000000000000000")))
         }
         17 => inputs.push(("a Video CD: 1,151,929 bits a second, rounded up to 2880 x 400", video_cd())),
+        24 => inputs.extend(variable()),
         _ => {}
     }
     inputs
+}
+
+/// Streams of a variable rate, at 25/1.
+fn variable() -> [(&'static str, Vec<u8>); 10] {
+    const NO: u64 = 0xFFFF;
+    [
+        ("10,043 bytes, then 122 a picture: a frame, a frame, two fields", {
+            stream([2500, 20], "I P bb", &[80_344, 976, 976, 976], &[NO; 4])
+        }),
+        ("a first picture of B bits, headers in it", stream([2500, 1], "I P", &[16_384, 976], &[NO; 2])),
+        ("a byte more", stream([2500, 1], "I P", &[16_392, 976], &[NO; 2])),
+        ("the same with 0xFFFE in the second", stream([2500, 1], "I P", &[16_392, 976], &[NO, 0xFFFE])),
+        (
+            "0xFFFE before a picture that underflows",
+            stream([56, 1], "I P B", &[976, 16_384, 16_384], &[NO, 0xFFFE, NO]),
+        ),
+        ("a buffer too large for a constant rate", stream([56, 1], "I P", &[976, 16_304], &[NO; 2])),
+        ("the same with a byte more", stream([56, 1], "I P", &[976, 16_312], &[NO; 2])),
+        ("896 bits a picture, and no more", stream([56, 1], "I P B", &[16_384, 896, 896], &[NO; 3])),
+        ("a byte more in the last", stream([56, 1], "I P B", &[16_384, 896, 904], &[NO; 3])),
+        ("no buffer", stream([56, 0], "I P", &[976, 976], &[NO; 2])),
+    ]
 }
 
 /// Eight pictures of 5,760 bytes at a Video CD's rate, each with the delay that this rate gives, to the nearest tick.

@@ -4,6 +4,7 @@ pub const VBV_MPEG1: u8 = 1;
 pub const VBV_MPEG2: u8 = 2;
 /// Added to a standard.
 pub const VBV_FILM: u8 = 4;
+pub const VBV_VARIABLE: u8 = 8;
 pub const VBV_REPORT_BYTES: usize = 40;
 pub const VBV_RECORD_BYTES: usize = 40;
 pub const VBV_REFUSAL_BYTES: usize = 32;

@@ -20,6 +20,7 @@ pub mod sends;
 pub mod spans;
 pub mod state;
 pub mod streams;
+pub mod variable;
 pub mod worked;
 pub mod writer;
 pub mod writers;

@@ -1,16 +1,16 @@
-//! Kind 19: lists of calls of the constant-rate writer, plain or film. The answer is the model's (writer.rs); on the way the
-//! original's `emit` runs beside it, and then the check over what was handed out. Where n or d is not 0, a writer's or a
+//! Kind 19: lists of calls of the writer, plain or film, of a constant or a variable rate. The answer is the model's (writer.rs); on the
+//! way the original's `emit` runs beside it, and then the check over what was handed out. Where n or d is not 0, a writer's or a
 //! header's, the original is its patched copy (request 02). A film writer's pictures last as the model says, in `emit` too, and
-//! its check is film.rs's (request 05).
+//! its check is film.rs's (request 05). Of a variable rate (request 06) the original has the targets alone; the check is variable.rs's.
 
 use crate::check::{extended, judged, sequence};
 use crate::format::{ACCEPTED, Answer, Met, number, pattern, words};
 use crate::layout::VBV_RECORD_BYTES;
-use crate::mode::{FILM, Mode, PLAIN};
+use crate::mode::{Mode, PLAIN};
 use crate::model::{BUFFER_UNIT, RATE_UNIT};
 use crate::state::cadence;
 use crate::writer::{Config, Offer, Told, Writer};
-use original::rate_control::OracleWriter;
+use original::rate_control::{OracleWriter, oracle_targets};
 
 /// Answers that are no refusals, and what else is counted: above all numbers that a refusal may have.
 pub const PASSED: u8 = 128;
@@ -34,15 +34,32 @@ const FILM_OFFERED: u8 = 165;
 const NOT_PASSED: u8 = 166;
 /// Above model.rs's.
 const FILM_LISTS: u8 = 168;
-/// And the number of a film writer's refusal, or 30 for Again.
+/// And the number of a film writer's refusal at a constant rate, or 30 for Again.
 const TO_FILM: u8 = 200;
+/// Above those of variable.rs.
+const VARIABLE_LISTS: u8 = 184;
+const OF_VARIABLE: u8 = 185;
+const OF_VARIABLE_FILM: u8 = 186;
+const VARIABLE_FINISHED: u8 = 187;
+const VARIABLE_RATIO: u8 = 188;
+const VARIABLE_ALONE: u8 = 189;
+const EARLY: u8 = 190;
+const EMPTIED: u8 = 191;
+const FULL: u8 = 192;
+const NOT_FULL: u8 = 193;
+const NOT_WITHDRAWN: u8 = 194;
+const NO_DELAY: u8 = 195;
+const A_DELAY: u8 = 196;
+const VARIABLE_OFFERED: u8 = 197;
+/// And the number of a refusal by a writer of a variable rate, or 22, which there is none of, for Again.
+const TO_VARIABLE: u8 = 231;
 
 /// All codes, n and d whose rate is 25/1.
 pub const ALL_25: [[u64; 3]; 8] =
     [[3, 0, 0], [3, 1, 1], [3, 2, 2], [3, 3, 3], [6, 0, 1], [6, 1, 3], [6, 2, 5], [6, 3, 7]];
 
 /// What the answers are called.
-const REASONS: [Met; 48] = [
+const REASONS: [Met; 71] = [
     ACCEPTED,
     (6, "rate code not 1 to 8"),
     (7, "position beyond delivered bits"),
@@ -60,8 +77,13 @@ const REASONS: [Met; 48] = [
     (WITHDRAWN, "withdrawn"),
     (EMITTED, "placed by emit, with the same bytes, quantisers, stuffing and model"),
     (NOT_EMITTED, "of those refused 7, 9, 21 and 22 refused by emit"),
-    (PASSED, "checks of what was handed out, in either mode, that accept"),
-    (NOT_PASSED, "checks of what a film writer handed out, in plain mode, that refuse"),
+    (PASSED, "checks of what was handed out, of the writer's rate, plain or film, that accept"),
+    (NOT_PASSED, "checks of what a film writer handed out, of its rate, plain, that refuse"),
+    (
+        NO_DELAY,
+        "checks of a constant rate of what a writer of a variable one handed out, refused 5, as by the original",
+    ),
+    (A_DELAY, "checks of a variable rate of what a writer of a constant one handed out, refused 25"),
     (CHECKED, "lists with a picture, their bytes accepted by the check of the writer's mode with these records"),
     (FINISHED, "of these finished"),
     (PATCHED, "of these with n or d not 0 in their header, accepted by the patched copy"),
@@ -91,6 +113,27 @@ const REASONS: [Met; 48] = [
     (TO_FILM + 21, "offers to a film writer refused 21"),
     (TO_FILM + 22, "offers to a film writer refused 22"),
     (TO_FILM + 30, "offers to a film writer asked for again"),
+    (VARIABLE_LISTS, "lists of a variable writer"),
+    (OF_VARIABLE, "lists of a variable writer with a picture, accepted by the variable check with these records"),
+    (OF_VARIABLE_FILM, "of these of a film writer"),
+    (VARIABLE_ALONE, "of the latter refused, or reported otherwise, by the plain variable check"),
+    (VARIABLE_FINISHED, "of lists of a variable writer with a picture finished"),
+    (VARIABLE_RATIO, "of lists of a variable writer with a picture with a buffer too large for a constant rate"),
+    (EARLY, "offers to a variable writer sent back whose headers alone end beyond the bits delivered"),
+    (EMPTIED, "pictures placed by a variable writer that end where the bits delivered do, but for part of a byte"),
+    (FULL, "pictures placed by a variable writer after which the buffer is full at the next removal"),
+    (NOT_FULL, "pictures placed by a variable writer after which it is not"),
+    (VARIABLE_OFFERED, "pictures placed by a variable writer after a layer of theirs was sent back"),
+    (NOT_WITHDRAWN, "withdrawals on a state with more in the buffer than it holds: 12"),
+    (TO_VARIABLE, "offers to a variable writer placed"),
+    (TO_VARIABLE + 12, "offers to a variable writer refused 12: more in the buffer than it holds"),
+    (TO_VARIABLE + 14, "offers to a variable writer refused 14"),
+    (TO_VARIABLE + 17, "offers to a variable writer refused 17"),
+    (TO_VARIABLE + 18, "offers to a variable writer refused 18"),
+    (TO_VARIABLE + 19, "offers to a variable writer refused 19"),
+    (TO_VARIABLE + 20, "offers to a variable writer refused 20"),
+    (TO_VARIABLE + 21, "offers to a variable writer refused 21"),
+    (TO_VARIABLE + 22, "offers to a variable writer asked for again"),
 ];
 
 /// All of them have to be met.
@@ -182,7 +225,8 @@ pub fn call(s: &[u8]) -> (Call, usize, &[u8]) {
 /// The original beside the model, and all that was handed out.
 struct Beside {
     config: Config,
-    original: OracleWriter,
+    /// None of a variable rate.
+    original: Option<OracleWriter>,
     /// The offers of the pending picture.
     tries: Vec<Offer>,
     /// False after a picture that `emit` cannot have seen so: one whose offers are not alike but for their layers.
@@ -197,9 +241,14 @@ struct Beside {
 }
 
 impl Beside {
-    fn new(config: Config, original: OracleWriter) -> Self {
+    fn new(config: Config, original: Option<OracleWriter>) -> Self {
         let (tries, handed_out, pictures, quantisers, met) = (vec![], vec![], vec![], vec![], vec![]);
-        Self { config, original, tries, compared: true, whole: true, handed_out, pictures, quantisers, met }
+        let compared = original.is_some();
+        Self { config, original, tries, compared, whole: true, handed_out, pictures, quantisers, met }
+    }
+
+    fn copy(&self) -> OracleWriter {
+        self.original.as_ref().expect("a writer of a constant rate").copy()
     }
 
     /// Runs `emit` with the tries' layers, in turn, of a picture that lasts so many periods.
@@ -242,8 +291,12 @@ impl Beside {
                     self.placed(after, q, periods);
                 }
                 self.count_film(after);
+                if after.variable {
+                    self.count_variable(before, after, o);
+                }
                 self.tries.clear();
             }
+            Told::Refused(n @ (7 | 9 | 22)) if after.variable => panic!("a writer of a variable rate refuses with {n}"),
             Told::Refused(n @ (7 | 9 | 21 | 22)) => {
                 if self.compared && self.alike() {
                     self.refused(n, before.periods(o));
@@ -267,8 +320,20 @@ impl Beside {
         }
     }
 
+    /// Counts what a writer of a variable rate placed.
+    fn count_variable(&mut self, before: &Writer, after: &Writer, o: &Offer) {
+        let full = after.delivered == (after.end + after.buffer) * after.units();
+        self.met.push(met(if full { FULL } else { NOT_FULL }));
+        if before.delivered(o.headers.len()) < (after.end + 8) * after.units() {
+            self.met.push(met(EMPTIED));
+        }
+        if 1 < self.tries.len() {
+            self.met.push(met(VARIABLE_OFFERED));
+        }
+    }
+
     fn refused(&mut self, n: u8, periods: u64) {
-        let (mut copy, mut qs) = (self.original.copy(), vec![]);
+        let (mut copy, mut qs) = (self.copy(), vec![]);
         assert!(!self.emit(&mut copy, periods, &mut qs), "emit does not refuse where the answer is {n}");
         // It finds 7 before it asks for a layer, and 9 only where the size lets it.
         let asked = if n == 7 { 0 } else { self.tries.len() };
@@ -277,7 +342,7 @@ impl Beside {
     }
 
     fn placed(&mut self, after: &Writer, q: u8, periods: u64) {
-        let mut original = self.original.copy();
+        let mut original = self.copy();
         let mut qs = vec![];
         assert!(self.emit(&mut original, periods, &mut qs), "emit refuses a placed picture");
         assert_eq!(qs.len(), self.tries.len(), "emit asks for another number of layers");
@@ -287,7 +352,7 @@ impl Beside {
         assert_eq!(original.q(), after.q);
         assert_eq!(original.stuffing_bytes(), after.stuffing);
         assert_eq!(original.state(), after.model());
-        self.original = original;
+        self.original = Some(original);
         self.met.push(met(EMITTED));
     }
 
@@ -296,7 +361,8 @@ impl Beside {
         if self.pictures.is_empty() || !self.whole {
             return;
         }
-        let [own, other] = if w.film { [FILM, PLAIN] } else { [PLAIN, FILM] };
+        let own = Mode { film: w.film, variable: w.variable, ..PLAIN };
+        let other = Mode { film: !w.film, ..own };
         let (mut part, mut others) = (self.records(), self.records());
         let (told, report) = judged(own, &self.handed_out, &mut part);
         assert_eq!(told, ACCEPTED, "the check refuses what was handed out");
@@ -311,10 +377,28 @@ impl Beside {
         }
         let alike = judged(other, &self.handed_out, &mut others) == (ACCEPTED, report) && part == others;
         assert!(w.film || alike, "the film check reports a plain writer's stream otherwise");
-        let film = [met(OF_FILM), met(FILM_ALONE)];
-        let counted: &[Met] = if !w.film { &[met(SAME_REPORT)] } else { &film[..2 - usize::from(alike)] };
-        self.met.extend(counted);
+        if w.variable {
+            self.count_checked(w, alike);
+        } else {
+            let film = [met(OF_FILM), met(FILM_ALONE)];
+            let counted: &[Met] = if !w.film { &[met(SAME_REPORT)] } else { &film[..2 - usize::from(alike)] };
+            self.met.extend(counted);
+        }
         self.rate_shown();
+    }
+
+    /// Counts a list of a writer of a variable rate whose bytes were accepted, by the check of the other cadence alike or not.
+    fn count_checked(&mut self, w: &Writer, alike: bool) {
+        assert_eq!(w.stuffing, 0, "stuffing at a variable rate");
+        assert!(self.pictures.iter().all(|p| p[0] == 0xFFFF), "a delay at a variable rate");
+        let counted = [
+            (true, OF_VARIABLE),
+            (w.film, OF_VARIABLE_FILM),
+            (w.film && !alike, VARIABLE_ALONE),
+            (w.finished, VARIABLE_FINISHED),
+            (90_000 * w.buffer > 65_534 * w.rate, VARIABLE_RATIO),
+        ];
+        self.met.extend(counted.iter().filter(|c| c.0).map(|c| met(c.1)));
     }
 
     fn records(&self) -> Vec<u8> {
@@ -370,21 +454,30 @@ pub fn configured(input: &[u8]) -> Config {
     }
 }
 
-/// The original's writer of a configuration that creation accepts: as it is where n and d are 0, else patched.
-fn original(c: &Config) -> OracleWriter {
+/// The original's writer of a configuration that creation accepts: as it is where n and d are 0, else patched; it has none of a
+/// variable rate, but the targets.
+fn original(c: &Config, w: &Writer) -> Option<OracleWriter> {
     let (rate, buffer) = (RATE_UNIT * c.rate, BUFFER_UNIT * c.buffer);
     let [code, n, d, q, between, anchors] = [c.rate_code, c.n, c.d, c.q, c.between, c.anchors].map(|b| b as u8);
-    match (n, d) {
+    assert_eq!(oracle_targets(rate, [code, n, d], between, anchors), w.targets);
+    if w.variable {
+        return None;
+    }
+    let original = match (n, d) {
         (0, 0) => OracleWriter::new(rate, buffer, code, q, between, anchors),
         _ => OracleWriter::extended(rate, buffer, [code, n, d], q, between, anchors),
-    }
+    };
+    assert_eq!(original.targets(), w.targets);
+    Some(original)
 }
 
 /// Makes a call on the model, with the original beside it: the answer's number and words.
 fn called(call: &Call, w: &mut Writer, beside: &mut Beside, part: &mut [u8]) -> (u8, [u64; 4]) {
     match call {
         Call::Withdrawal => {
-            w.withdraw();
+            if !w.withdraw() {
+                return (12, [0; 4]);
+            }
             beside.withdrawn();
             (WITHDRAWN, [0; 4])
         }
@@ -407,18 +500,47 @@ fn called(call: &Call, w: &mut Writer, beside: &mut Beside, part: &mut [u8]) -> 
     }
 }
 
+/// What a call's answer is counted as.
+fn counted(w: &Writer, call: &Call, number: u8) -> Met {
+    met(match call {
+        Call::Withdrawal if number == 12 => NOT_WITHDRAWN,
+        Call::Check(mode, _) if mode.variable != w.variable => {
+            assert_eq!(number, if w.variable { 5 } else { 25 }, "a check of the other rate");
+            if w.variable { NO_DELAY } else { A_DELAY }
+        }
+        Call::Check(..) if number != PASSED => NOT_PASSED,
+        _ => number,
+    })
+}
+
+/// What an offer's answer is counted as beside that, by the writer; early where the headers alone end beyond the bits delivered.
+fn to_kind(w: &Writer, number: u8, early: bool) -> Vec<Met> {
+    let mut all = vec![];
+    if w.film && !w.variable {
+        all.push(met(TO_FILM + if number == AGAIN { 30 } else { number }));
+    }
+    if w.variable {
+        all.push(met(TO_VARIABLE + if number == AGAIN { 22 } else { number }));
+    }
+    if w.variable && early && [AGAIN, 21].contains(&number) {
+        all.push(met(EARLY));
+    }
+    all
+}
+
 pub fn answer(input: &[u8]) -> Answer {
     let c = configured(input);
     let mut w = match Writer::create(c) {
         Ok(w) => w,
         Err(n) => return Answer::of(met(n)),
     };
-    let original = original(&c);
-    assert_eq!(original.targets(), w.targets);
-    let mut beside = Beside::new(c, original);
+    let mut beside = Beside::new(c, original(&c, &w));
     let mut answer = Answer { bytes: vec![0], met: vec![], film: None };
     if w.film {
         answer.met.push(met(FILM_LISTS));
+    }
+    if w.variable {
+        answer.met.push(met(VARIABLE_LISTS));
     }
     words(&mut answer.bytes, &w.targets);
     let mut rest = &input[CALLS..];
@@ -426,11 +548,12 @@ pub fn answer(input: &[u8]) -> Answer {
         let (call, part, after) = call(rest);
         rest = after;
         let mut part = pattern(part);
+        let early =
+            matches!(&call, Call::Offer(o) if w.position(o.headers.len()) * w.units() > w.delivered(o.headers.len()));
         let (number, told) = called(&call, &mut w, &mut beside, &mut part);
-        let refused = matches!(call, Call::Check(..)) && number != PASSED;
-        answer.met.push(met(if refused { NOT_PASSED } else { number }));
-        if w.film && matches!(call, Call::Offer(..)) {
-            answer.met.push(met(TO_FILM + if number == AGAIN { 30 } else { number }));
+        answer.met.push(counted(&w, &call, number));
+        if matches!(call, Call::Offer(..)) {
+            answer.met.extend(to_kind(&w, number, early));
         }
         answer.bytes.push(number);
         words(&mut answer.bytes, &told);

@@ -1,18 +1,20 @@
 //! Writes cases with the original's answers to standard output, and counts them on standard error.
 //!
-//!     cases [known] [short] [edges] [every] SEED COUNT KIND..|19|small
+//!     cases [known] [short] [edges] [every] [small] SEED COUNT KIND..|19
 //!
 //! known: first the headers and streams that have a name; short: then all inputs of at most two bytes; edges: then those around
 //! each boundary; every: then all 2^24 of kind 14; then COUNT drawn ones. Kind 19, lists of calls of the writer, goes to
-//! another program and stands alone; small: the same, but only lists of few bytes.
+//! another program and stands alone; small: of kinds 19 and 24 only lists and streams of few bytes.
 //!
-//! Kind 20, streams in film mode, brings 21 to 23: the same streams in the other modes.
+//! Kind 20, streams in film mode, brings 21 to 23: the same streams in the other modes of a constant rate. Kind 24, streams of a
+//! variable rate, brings 25 and 21 and, where the stream is short, 26 and 27.
 //!
-//!     cases stream 1|2|6 FILE
+//!     cases stream 1|2|6|10|14 FILE
 //!
-//! The original's answer for an MPEG-1 or MPEG-2 stream, as `vbvcheck` would print it; 6: in film mode.
+//! The original's answer for an MPEG-1 or MPEG-2 stream, as `vbvcheck` would print it; 6: in film mode; 10 and 14: of a variable rate,
+//! plain and film.
 
-use oracle::answers::{KINDS, answer};
+use oracle::answers::{KINDS, NO_MODES, answer};
 use oracle::draw::Draw;
 use oracle::mode::Mode;
 use oracle::rows::Rows;
@@ -22,7 +24,19 @@ use std::io::{BufWriter, Stdout, Write, stdout};
 use std::process::exit;
 
 /// How often each kind is drawn.
-const WEIGHTS: [usize; 20] = [12, 8, 16, 12, 8, 16, 6, 10, 2, 6, 3, 1, 1, 2, 24, 4, 40, 60, 1, 20];
+const WEIGHTS: [usize; 24] = [12, 8, 16, 12, 8, 16, 6, 10, 2, 6, 3, 1, 1, 2, 24, 4, 40, 60, 1, 20, 0, 0, 0, 40];
+
+/// Of what bytes a stream of kind 24 is a case of MPEG-1 too, in which all are 12.
+const SHORT: usize = 500;
+
+/// The kinds that a stream of a kind is a case of.
+fn brought(kind: u8) -> &'static [u8] {
+    match kind {
+        20 => &[20, 21, 22, 23],
+        24 => &[24, 25, 21, 26, 27],
+        _ => &[],
+    }
+}
 
 struct Cases {
     out: BufWriter<Stdout>,
@@ -46,10 +60,13 @@ impl Cases {
         self.out.write_all(&case).unwrap_or_else(|_| exit(1));
     }
 
-    /// A stream of kind 20 is a case of each mode.
+    /// A stream of kind 20 or 24 is a case of other modes too.
     fn put_all(&mut self, kind: u8, input: &[u8]) {
-        let kinds = if kind == 20 { 20..=23 } else { kind..=kind };
-        kinds.for_each(|kind| self.put(kind, input));
+        match brought(kind) {
+            [] => self.put(kind, input),
+            kinds if kind == 24 && SHORT < input.len() => kinds[..3].iter().for_each(|&kind| self.put(kind, input)),
+            kinds => kinds.iter().for_each(|&kind| self.put(kind, input)),
+        }
     }
 
     fn known(&mut self, kind: u8) {
@@ -57,7 +74,7 @@ impl Cases {
             let input = if kind < 17 { bytes } else { checks::with_room(&bytes) };
             self.put_all(kind, &input);
             match kind {
-                17 | 18 | 20 => eprintln!("known: {name}: {}", checks::told(kind, &input)),
+                17 | 18 | 20 | 24 => eprintln!("known: {name}: {}", checks::told(kind, &input)),
                 _ => eprintln!("known: {name}: {}", answer(kind, &input).bytes[0]),
             }
         }
@@ -75,7 +92,7 @@ impl Cases {
             1..=7 => headers::edges(kind, d, put),
             8..=13 => writers::edges(kind, d, put),
             14..=16 => calls::edges(kind, d, put),
-            17 | 18 | 20 => checks::edges(kind, d, put),
+            17 | 18 | 20 | 24 => checks::edges(kind, d, put),
             _ => {}
         }
     }
@@ -83,9 +100,15 @@ impl Cases {
     /// Says what was made; false where a refusal that a kind can give is missing, or what else it has to meet.
     fn report(&self, kinds: &[u8]) -> bool {
         let mut complete = true;
-        let others = if kinds.contains(&20) { 21..24 } else { 0..0 };
-        for kind in kinds.iter().copied().chain(others) {
+        let others = kinds.iter().flat_map(|&kind| brought(kind).iter().copied().filter(move |&k| k != kind));
+        let mut all: Vec<u8> = kinds.iter().copied().chain(others).collect();
+        all.sort_unstable();
+        all.dedup();
+        for kind in all {
             let (name, refusals) = KINDS[kind as usize - 1];
+            // Streams of a variable rate are mostly 5 in kind 21; its other answers take those of kind 20.
+            let few = kind == 21 && !kinds.contains(&20);
+            let refusals = if few { &[1, 2, 3, 4, 5, 6] } else { refusals };
             let of = |number: u8| self.seen.iter().filter(move |((k, n, _), _)| (*k, *n) == (kind, number));
             eprintln!("{name}: {} accepted", of(0).map(|(_, n)| n).sum::<u64>());
             for &number in refusals {
@@ -97,7 +120,7 @@ impl Cases {
                 }
                 complete &= of(number).next().is_some();
             }
-            complete &= kind == 23 || of(0).next().is_some();
+            complete &= few || NO_MODES.contains(&kind) || of(0).next().is_some();
         }
         if kinds.iter().any(|&kind| 19 <= kind) {
             complete &= self.rows.report();
@@ -113,7 +136,7 @@ fn drawn(kind: u8, d: &mut Draw) -> Vec<u8> {
         1..=7 => headers::drawn(kind, d),
         8..=13 => writers::drawn(kind, d),
         14..=16 => calls::drawn(kind, d),
-        17 | 18 | 20 => checks::drawn(kind, d),
+        17 | 18 | 20 | 24 => checks::drawn(kind, d),
         _ => sends::drawn(d),
     }
 }
@@ -148,11 +171,8 @@ fn asked(mut words: Vec<String>) -> Option<Asked> {
     let every = flag("every");
     let numbers = words.iter().map(|w| w.parse().ok()).collect::<Option<Vec<u64>>>()?;
     let [seed, count, kinds @ ..] = &numbers[..] else { return None };
-    let mut kinds: Vec<u8> = kinds.iter().map(|&k| k as u8).collect();
-    if small {
-        kinds.push(19);
-    }
-    let some = !kinds.is_empty() && kinds.iter().all(|k| (1..=20).contains(k));
+    let kinds: Vec<u8> = kinds.iter().map(|&k| k as u8).collect();
+    let some = !kinds.is_empty() && kinds.iter().all(|k| (1..=20).contains(k) || *k == 24);
     let alone = !kinds.contains(&19) || kinds.len() == 1;
     (some && alone).then_some(Asked { known, short, edges, every, small, seed: *seed, count: *count, kinds })
 }
@@ -179,7 +199,11 @@ fn write(asked: &Asked) -> Cases {
     let lots: Vec<u8> = asked.kinds.iter().flat_map(|&k| vec![k; WEIGHTS[k as usize - 1]]).collect();
     for _ in 0..asked.count {
         let kind = lots[d.below(lots.len())];
-        let input = if asked.small { sends::small(&mut d) } else { drawn(kind, &mut d) };
+        let input = match kind {
+            19 if asked.small => sends::small(&mut d),
+            24 if asked.small => checks::small(kind, &mut d),
+            _ => drawn(kind, &mut d),
+        };
         cases.put_all(kind, &input);
     }
     cases.out.flush().unwrap_or_else(|_| exit(1));
@@ -194,8 +218,8 @@ fn main() {
         return stream(mode, file);
     }
     let Some(asked) = asked(words) else {
-        eprintln!("usage: cases [known] [short] [edges] [every] SEED COUNT KIND..|19|small");
-        eprintln!("       cases stream 1|2|6 FILE");
+        eprintln!("usage: cases [known] [short] [edges] [every] [small] SEED COUNT KIND..|19");
+        eprintln!("       cases stream 1|2|6|10|14 FILE");
         exit(2);
     };
     worked::hold();

@@ -3,12 +3,13 @@
 use crate::draw::Draw;
 use crate::headers::{self, Field, damage, filler, pack, user_data};
 use crate::lists::{ALL_25, COUNT, add_check, add_offer, add_state, add_withdrawal, answer, config};
-use crate::mode::{FILM, MPEG1, MPEG1_FILM, PLAIN};
+use crate::mode::{FILM, FILM_VARIABLE, MPEG1, MPEG1_FILM, MPEG1_FILM_VARIABLE, MPEG1_VARIABLE, Mode, PLAIN, VARIABLE};
 use crate::model::{BUFFER_UNIT, FAR, RATE_UNIT};
 use crate::streams::{frame_rate, least_rate};
 use crate::writer::{Config, FIELD, FRAME, Offer, Told, Writer};
 
-/// Bytes that a layer, a part, and a list with its answer have at most; what it hands out is checked twice, and so is in it twice.
+/// Bytes that a layer, a part, and a list with its answer have at most; what it hands out is checked three times, and so is in it so
+/// often.
 const MOST_LAYER: u64 = 6_000;
 const MOST_PART: u64 = 9_000;
 const MOST_LIST: usize = 60_000;
@@ -28,9 +29,14 @@ fn a_config(d: &mut Draw) -> Config {
     let buffer = [1, 1, 1, 2, 3, d.nonzero(10)][d.below(6)];
     let more = [0, d.below(8), d.below(100), d.below(100), d.below(600), d.below(600), d.below(3000), d.below(1 << 18)];
     let [rate_code, n, of_d] = a_rate(d);
+    let mode = [FILM, PLAIN, FILM, PLAIN, FILM_VARIABLE, VARIABLE][d.below(6)];
+    let mut least = least_rate(buffer);
+    if mode.variable && !d.one_in(3) {
+        least = [1, 1 + d.next() % least, least / 2][d.below(3)].max(1);
+    }
     let mut c = Config {
-        mode: if d.one_in(2) { FILM } else { PLAIN }.number(),
-        rate: (least_rate(buffer) + more[d.below(8)] as u64).min(262_143),
+        mode: mode.number(),
+        rate: (least + more[d.below(8)] as u64).min(262_143),
         buffer,
         rate_code,
         n,
@@ -43,13 +49,14 @@ fn a_config(d: &mut Draw) -> Config {
         // Interval and buffer alike, or nearly so.
         let (frn, frd) = frame_rate(rate_code, n, of_d);
         c.buffer = 1;
-        c.rate = (BUFFER_UNIT * frn / (RATE_UNIT * frd) + d.below(2) as u64).max(least_rate(1));
+        let least = if mode.variable { 1 } else { least_rate(1) };
+        c.rate = (BUFFER_UNIT * frn / (RATE_UNIT * frd) + d.below(2) as u64).max(least);
     }
     let faults = if d.one_in(12) { 1 + d.below(2) } else { 0 };
     for _ in 0..faults {
         let byte = u64::from(d.byte());
         match d.below(11) {
-            10 => c.mode = if d.one_in(2) { MPEG1 } else { MPEG1_FILM }.number(),
+            10 => c.mode = [MPEG1, MPEG1_FILM, MPEG1_VARIABLE, MPEG1_FILM_VARIABLE][d.below(4)].number(),
             0 => c.rate = [0, 262_144, d.next() % (1 << 32)][d.below(3)],
             1 => c.buffer = [0, 1024, d.next() % (1 << 16)][d.below(3)],
             2 | 3 => c.rate_code = [0, 9, byte][d.below(3)],
@@ -286,11 +293,20 @@ fn a_part(w: &Writer, o: &Offer, d: &mut Draw) -> usize {
     }
 }
 
-/// An end, and bits delivered in the buffer's range after it, near 2^48.
-fn a_far_state(c: &Config, d: &mut Draw) -> (u64, u64) {
+/// An end, and bits delivered in the buffer's range after it, near 2^48; of a variable rate now and then more than that.
+fn a_far_state(w: &Writer, c: &Config, d: &mut Draw) -> (u64, u64) {
     let end = FAR - 8 * [d.below(40), d.below(400), d.below(4000)][d.below(3)] as u64;
     let most = BUFFER_UNIT * c.buffer;
+    if w.variable && d.one_in(3) {
+        return (end, end + most + [1, 1 + d.next() % 64, d.next() % (1 << 33)][d.below(3)]);
+    }
     (end, end + [most, d.next() % (most + 1), most - d.next() % (most.min(64) + 1)][d.below(3)])
+}
+
+/// The modes in which what a writer handed out is checked: of its rate, film and plain, and of the other.
+fn modes(w: &Writer, d: &mut Draw) -> [Mode; 3] {
+    let own = Mode { variable: w.variable, ..PLAIN };
+    [Mode { film: true, ..own }, own, Mode { film: d.one_in(2), variable: !w.variable, ..own }]
 }
 
 /// One list.
@@ -299,7 +315,7 @@ pub fn drawn(d: &mut Draw) -> Vec<u8> {
     let mut input = config(&c);
     let Ok(mut w) = Writer::create(c) else { return input };
     let calls = if d.one_in(8) { d.below(30) } else { d.below(10) };
-    let far = d.one_in(40);
+    let far = d.one_in(if w.variable { 20 } else { 40 });
     let mut before = None;
     let mut size = 0;
     let (mut handed_out, mut pictures, mut whole) = (vec![], 0, true);
@@ -308,14 +324,14 @@ pub fn drawn(d: &mut Draw) -> Vec<u8> {
             break;
         }
         if far && d.one_in(3) {
-            let (end, delivered) = a_far_state(&c, d);
+            let (end, delivered) = a_far_state(&w, &c, d);
             w.set(end, delivered);
             add_state(&mut input, end, delivered);
             whole = false;
             size += 120;
             continue;
         }
-        if d.one_in(24) || w.pending.is_some() && d.one_in(16) {
+        if d.one_in(24) || w.pending.is_some() && d.one_in(16) || !w.in_range() && d.one_in(4) {
             w.withdraw();
             add_withdrawal(&mut input);
             size += 100;
@@ -324,7 +340,7 @@ pub fn drawn(d: &mut Draw) -> Vec<u8> {
         let o = an_offer(&w, &c, before.as_ref(), n + 2 >= calls, d);
         let part = a_part(&w, &o, d);
         size += o.headers.len() + o.layer.len() + part + 200;
-        if MOST_LIST < size + 2 * (handed_out.len() + part) {
+        if MOST_LIST < size + 3 * (handed_out.len() + part) {
             break;
         }
         let mut out = vec![0; part];
@@ -336,18 +352,21 @@ pub fn drawn(d: &mut Draw) -> Vec<u8> {
         before = Some(o);
     }
     if whole && 0 < pictures {
-        add_check(&mut input, FILM, &handed_out, pictures);
-        add_check(&mut input, PLAIN, &handed_out, pictures);
+        for mode in modes(&w, d) {
+            add_check(&mut input, mode, &handed_out, pictures);
+        }
     }
     input
 }
 
-/// One list that has at most 6,000 bytes with its answer, more often than not of at least four calls.
+/// One list that has at most 6,000 bytes with its answer, now and then twice as many, for a picture to come to the end of the smallest
+/// buffer; more often than not of at least four calls.
 pub fn small(d: &mut Draw) -> Vec<u8> {
     loop {
         let input = drawn(d);
         let few = input[COUNT] < 4 && !d.one_in(4);
-        if !few && input.len() + answer(&input).bytes.len() <= 6_000 {
+        let most = if d.one_in(4) { 14_000 } else { 6_000 };
+        if !few && input.len() + answer(&input).bytes.len() <= most {
             return input;
         }
     }

@@ -2,8 +2,8 @@
 
 use crate::cadence::{LED_BY_OTHER, Sequence, leaving, left};
 use crate::layout::CBR_STATE_BYTES;
-use crate::mode::{FILM, Mode, PLAIN};
-use crate::model::{FAR, MOST_FRD, MOST_FRN, MOST_RATE, widest};
+use crate::mode::{Mode, PLAIN, WRITERS};
+use crate::model::{FAR, MOST_BUFFER, MOST_FRD, MOST_FRN, MOST_RATE, widest};
 use crate::writer::Writer;
 
 pub const WORDS: usize = CBR_STATE_BYTES / 8;
@@ -28,11 +28,17 @@ fn all(model: [u64; 9], writer: [u64; 10], cadence: [u64; 6]) -> [u64; WORDS] {
 
 /// The mode and what a film writer's placed pictures leave, zeros of a plain one.
 pub fn cadence(w: &Writer) -> [u64; 6] {
+    let mode = Mode { film: w.film, variable: w.variable, ..PLAIN }.number();
     if !w.film {
-        return [PLAIN.number(), 0, 0, 0, 0, 0];
+        return [mode, 0, 0, 0, 0, 0];
     }
     let [repeat, top, open] = left(&w.pictures);
-    [FILM.number(), w.sequence.progressive.into(), w.sequence.low_delay.into(), repeat, top, open]
+    [mode, w.sequence.progressive.into(), w.sequence.low_delay.into(), repeat, top, open]
+}
+
+/// The writer's mode that a word is.
+fn mode(word: u64) -> Option<Mode> {
+    WRITERS.into_iter().find(|mode| mode.number() == word)
 }
 
 /// The words that bytes begin with.
@@ -43,13 +49,15 @@ pub fn words_of(bytes: &[u8]) -> Option<[u64; WORDS]> {
 
 /// The greatest value of each word, beside the others.
 pub fn limits(s: &[u64; WORDS]) -> [u64; WORDS] {
-    let buffer = widest(s[0]);
+    let (film, variable) = mode(s[19]).map_or((false, false), |mode| (mode.film, mode.variable));
+    let buffer = if variable { MOST_BUFFER } else { widest(s[0]) };
     let rest = (180_000 * u128::from(s[2])).saturating_sub(1) as u64;
     let bytes = s[6] / 8;
     let q = if s[15] == 0 { 0 } else { 31 };
-    let (flag, open) = if s[19] == FILM.number() { (1, LED_BY_OTHER) } else { (0, 0) };
+    let (flag, open) = if film { (1, LED_BY_OTHER) } else { (0, 0) };
+    let most = WRITERS[WRITERS.len() - 1].number();
     let model = [MOST_RATE, buffer, MOST_FRN, MOST_FRD, 1 << 57, rest, FAR, bytes, 1];
-    all(model, [FAR, FAR, FAR, 31, 31, 31, 3, q, bytes, 1], [FILM.number(), flag, flag, flag, flag, open])
+    all(model, [FAR, FAR, FAR, 31, 31, 31, 3, q, bytes, 1], [most, flag, flag, flag, flag, open])
 }
 
 /// The least value of each word.
@@ -60,13 +68,22 @@ fn least(s: &[u64; WORDS]) -> [u64; WORDS] {
 
 /// The writer that bytes hold: none, where they are too few or a value is out of its range.
 pub fn held(bytes: &[u8]) -> Option<Writer> {
+    read(bytes).filter(Writer::in_range)
+}
+
+/// Whether all that is out of range is what a writer of a variable rate has in its buffer.
+pub fn beyond(bytes: &[u8]) -> bool {
+    read(bytes).is_some_and(|w| !w.in_range())
+}
+
+/// The same, with each word in its own range.
+fn read(bytes: &[u8]) -> Option<Writer> {
     let s = words_of(bytes)?;
     let (least, limits) = (least(&s), limits(&s));
-    let modes = [PLAIN, FILM].map(Mode::number);
-    if (0..WORDS).any(|k| s[k] < least[k] || limits[k] < s[k]) || s[6] % 8 != 0 || !modes.contains(&s[19]) {
+    let Mode { film, variable, .. } = mode(s[19])?;
+    if (0..WORDS).any(|k| s[k] < least[k] || limits[k] < s[k]) || s[6] % 8 != 0 {
         return None;
     }
-    let film = s[19] == FILM.number();
     Some(Writer {
         rate: s[0].into(),
         buffer: s[1].into(),
@@ -82,6 +99,7 @@ pub fn held(bytes: &[u8]) -> Option<Writer> {
         stuffing: s[17],
         finished: s[18] == 1,
         film,
+        variable,
         sequence: Sequence { progressive: s[20] == 1, low_delay: s[21] == 1 },
         pictures: if film { leaving([s[22], s[23], s[24]]) } else { vec![] },
     })

@@ -1,10 +1,11 @@
-//! Streams for kinds 17, 18 and 20, made picture by picture with the original's model: valid ones, and ones with a fault. Those for
-//! film mode last as cadence.rs says.
+//! Streams for kinds 17, 18, 20 and 24, made picture by picture with the original's model: valid ones, and ones with a fault. Those for
+//! film mode last as cadence.rs says; those of a variable rate are made with the buffer of variable.rs.
 
 use crate::cadence::{Facts, Sequence, last_periods};
 use crate::draw::Draw;
 use crate::headers::{self, filler, pack};
-use crate::model::{BUFFER_UNIT, Call, Model, RATE_UNIT, interval_of};
+use crate::model::{BUFFER_UNIT, Call, Model, PERIODS, RATE_UNIT, interval_of};
+use crate::variable::{Buffer, DELAY};
 
 const FRAME_RATES: [(u64, u64); 8] =
     [(24_000, 1001), (24, 1), (25, 1), (30_000, 1001), (30, 1), (50, 1), (60_000, 1001), (60, 1)];
@@ -19,33 +20,39 @@ pub fn frame_rate(code: u64, n: u64, d: u64) -> (u64, u64) {
 const FILL: u64 = 240;
 const LONG_FILL: u64 = 3_000;
 const FILM_FILL: u64 = 800;
+/// At a variable rate a picture may be as long as the buffer is; and a stream of so many bytes goes on with short ones.
+const VARIABLE_FILL: u64 = 12_000;
+const ENOUGH: usize = 30_000;
 
-/// Which check a stream is made for: fields, n and d count in MPEG-2's alone, flags in film mode's. And whether it has MPEG-2's
-/// extensions.
+/// Which check a stream is made for: fields, n and d count in MPEG-2's alone, flags in film mode's; a variable rate has no delays.
+/// And whether it has MPEG-2's extensions.
 #[derive(Clone, Copy)]
 pub struct Form {
     pub mpeg2: bool,
     pub extensions: bool,
     pub film: bool,
+    pub variable: bool,
 }
 
 #[derive(Clone, Copy, PartialEq)]
 pub enum Fault {
     None,
-    /// A delay off by some ticks, 0xFFFE or 0xFFFF.
+    /// A delay off by some ticks, 0xFFFE or 0xFFFF; at a variable rate one that is not 0xFFFF.
     Delay,
+    /// At a variable rate such a delay, and another picture that underflows, or the same.
+    DelayAndSize,
     /// A picture a byte beyond a limit.
     Size,
-    /// User data longer than a picture's delay lets through.
+    /// User data longer than a picture's delay lets through, or than what is in the buffer.
     Early,
     /// A picture without slices.
     NoSlice,
-    /// The first delay is 0xFFFF.
+    /// The first delay is 0xFFFF; at a variable rate it is not.
     VariableRate,
     /// A delay off, and the last picture's header bad.
     LastHeader,
     RateCode,
-    /// The buffer is too large for the rate, or 0.
+    /// The buffer is too large for the rate, or 0; at a variable rate 0.
     Ratio,
     /// The low 18 bits of the rate are zero.
     LowRate,
@@ -72,14 +79,35 @@ const FAULTS: [Fault; 15] = [
     Fault::NoSequence,
     Fault::NoPicture,
 ];
+const VARIABLE_FAULTS: [Fault; 18] = [
+    Fault::Delay,
+    Fault::Delay,
+    Fault::DelayAndSize,
+    Fault::DelayAndSize,
+    Fault::Size,
+    Fault::Size,
+    Fault::Size,
+    Fault::Early,
+    Fault::Early,
+    Fault::NoSlice,
+    Fault::VariableRate,
+    Fault::LastHeader,
+    Fault::RateCode,
+    Fault::Ratio,
+    Fault::LowRate,
+    Fault::Late,
+    Fault::NoSequence,
+    Fault::NoPicture,
+];
 
 /// What a stream is made of.
 struct Plan {
     form: Form,
     fault: Fault,
     pictures: usize,
-    /// The picture at which the fault is.
+    /// The picture at which the fault is, and at a variable rate the one with another delay.
     faulty: usize,
+    odd: usize,
     rate: u64,
     buffer: u64,
     rate_code: u64,
@@ -97,10 +125,13 @@ struct Plan {
     end_code: bool,
 }
 
-/// A stream on the way, with the original's model as long as it refuses nothing.
+/// A stream on the way, with the original's model as long as it refuses nothing, or at a variable rate with what is in the buffer,
+/// and where the last picture ended.
 struct Stream {
     plan: Plan,
     model: Option<Model>,
+    buffer: Option<Buffer>,
+    previous: usize,
     bytes: Vec<u8>,
     pictures: Vec<Facts>,
 }
@@ -111,8 +142,21 @@ pub fn least_rate(buffer: u64) -> u64 {
 }
 
 /// None in half of the cases.
-pub fn fault(d: &mut Draw) -> Fault {
-    if d.one_in(2) { Fault::None } else { FAULTS[d.below(FAULTS.len())] }
+pub fn fault(form: Form, d: &mut Draw) -> Fault {
+    let faults: &[Fault] = if form.variable { &VARIABLE_FAULTS } else { &FAULTS };
+    if d.one_in(2) { Fault::None } else { faults[d.below(faults.len())] }
+}
+
+/// A buffer field and a rate field at a variable rate: small ones, for a picture to come to the buffer's end, and in half of the cases
+/// a rate that is too low for the buffer at a constant one.
+fn variable_rate(d: &mut Draw) -> (u64, u64) {
+    let buffer = if d.one_in(8) { d.nonzero(18) } else { 1 + d.below(3) as u64 };
+    let least = least_rate(buffer);
+    let below = (1 + d.next() % least.min(1 << 18)).min(least - 1).max(1);
+    let above = least + d.below(3000) as u64;
+    let any = if d.one_in(4) { d.nonzero(30) } else { least + d.below(60) as u64 };
+    let rate = [1 + d.below(40) as u64, below, above, any][d.below(4)];
+    (buffer, if rate % (1 << 18) == 0 { rate + 1 } else { rate })
 }
 
 fn plan(form: Form, fault: Fault, d: &mut Draw) -> Plan {
@@ -124,6 +168,9 @@ fn plan(form: Form, fault: Fault, d: &mut Draw) -> Plan {
     let mut rate = (least_rate(buffer) + more).min((1 << rate_bits) - 1);
     if rate % (1 << 18) == 0 {
         rate += 1;
+    }
+    if form.variable {
+        (buffer, rate) = variable_rate(d);
     }
     let mut rate_code = 1 + d.below(8) as u64;
     let mut more_rate = if form.extensions && d.one_in(2) { (d.value(2), d.value(5)) } else { (0, 0) };
@@ -139,10 +186,10 @@ fn plan(form: Form, fault: Fault, d: &mut Draw) -> Plan {
     let mut faulty = d.below(pictures);
     match fault {
         Fault::RateCode => rate_code = if d.one_in(4) { 0 } else { 9 + d.below(7) as u64 },
-        Fault::Ratio if d.one_in(2) => buffer = 0,
+        Fault::Ratio if form.variable || d.one_in(2) => buffer = 0,
         Fault::Ratio => rate = (least_rate(buffer) - 1).max(1),
         Fault::LowRate => rate &= !0x3FFFF,
-        Fault::Early => {
+        Fault::Early if !form.variable => {
             (buffer, rate, rate_code) = (1, 57 + d.below(9) as u64, 6 + d.below(3) as u64);
             more_rate.1 = 0;
             (pictures, faulty) = (pictures + 1, faulty + 1);
@@ -155,6 +202,12 @@ fn plan(form: Form, fault: Fault, d: &mut Draw) -> Plan {
         fault,
         pictures,
         faulty,
+        odd: match fault {
+            Fault::VariableRate => 0,
+            Fault::DelayAndSize => d.below(pictures),
+            Fault::Ratio if form.variable && !d.one_in(3) => usize::MAX,
+            _ => faulty,
+        },
         rate,
         buffer,
         rate_code,
@@ -180,7 +233,7 @@ pub fn drawn(form: Form, fault: Fault, d: &mut Draw) -> Vec<u8> {
 
 /// A valid stream of pictures of these kinds and facts, in film mode.
 pub fn of(pictures: &[(usize, Facts)], sequence: Sequence, d: &mut Draw) -> Vec<u8> {
-    let form = Form { mpeg2: true, extensions: true, film: true };
+    let form = Form { mpeg2: true, extensions: true, film: true, variable: false };
     let plan = Plan {
         pictures: pictures.len(),
         rate: least_rate(1) + 20,
@@ -201,8 +254,10 @@ fn made(plan: Plan, d: &mut Draw) -> Vec<u8> {
     let form = plan.form;
     let (n, of_d) = if form.mpeg2 { plan.more_rate } else { (0, 0) };
     let (frn, frd) = frame_rate(plan.rate_code.clamp(1, 8), n, of_d);
-    let model = Model::new([RATE_UNIT * plan.rate, BUFFER_UNIT * plan.buffer, frn, frd]).ok();
-    let mut stream = Stream { plan, model, bytes: vec![], pictures: vec![] };
+    let params = [RATE_UNIT * plan.rate, BUFFER_UNIT * plan.buffer, frn, frd];
+    let model = if form.variable { None } else { Model::new(params).ok() };
+    let buffer = form.variable.then(|| Buffer::full(params));
+    let mut stream = Stream { plan, model, buffer, previous: 0, bytes: vec![], pictures: vec![] };
     let late = stream.plan.fault == Fault::Late;
     if !late && stream.plan.fault != Fault::NoSequence {
         stream.sequence(d);
@@ -275,9 +330,16 @@ impl Stream {
         }
         if d.one_in(8) || self.faulty(n, Fault::Early) {
             let most = if self.faulty(n, Fault::Early) { 150 } else { 12 };
-            let length = d.below(most);
+            let length = d.below(most) + if self.faulty(n, Fault::Early) { self.more_than_held() } else { 0 };
             self.put(&headers::user_data(length, d));
         }
+    }
+
+    /// At a variable rate, bytes up to the end of what is in the buffer, or nearly so.
+    fn more_than_held(&self) -> usize {
+        let held = self.buffer.as_ref().map_or(0, |b| b.bits() / 8).min(VARIABLE_FILL) as usize;
+        let held = if ENOUGH < self.bytes.len() { 0 } else { held };
+        held.saturating_sub(self.bytes.len() - self.previous + 60)
     }
 
     fn picture(&mut self, n: usize, d: &mut Draw) {
@@ -298,6 +360,12 @@ impl Stream {
         self.slices(end - tail, d);
         if tail != 0 {
             self.bytes.extend([0, 0, 1, 0xB7]);
+        }
+        let bits = 8 * (self.bytes.len() - self.previous) as u64;
+        self.previous = self.bytes.len();
+        let periods = PERIODS[usize::from(interval)].into();
+        if self.buffer.as_mut().is_some_and(|b| !b.remove(bits, periods)) {
+            self.buffer = None;
         }
         let end = Call { which: 3, place: 8 * self.bytes.len() as u64, small: interval };
         if self.model.as_mut().is_some_and(|m| m.call(end).is_err()) {
@@ -339,6 +407,12 @@ impl Stream {
 
     /// The delay to code for a picture whose start code ends at a position.
     fn delay(&mut self, n: usize, position: u64, d: &mut Draw) -> u64 {
+        if self.plan.form.variable {
+            const ODD: [Fault; 4] = [Fault::Delay, Fault::DelayAndSize, Fault::VariableRate, Fault::Ratio];
+            let odd = ODD.contains(&self.plan.fault) && n == self.plan.odd;
+            let other = [0xFFFE, 0, 0x7FFF, d.value(16)][d.below(4)].min(0xFFFE);
+            return if odd || self.plan.fault == Fault::LastHeader && d.one_in(4) { other } else { DELAY.into() };
+        }
         let expected = match &mut self.model {
             None => d.value(16),
             Some(model) if n == 0 => {
@@ -367,6 +441,9 @@ impl Stream {
     /// Where the picture ends: between the limits, or a byte beyond one.
     fn end(&mut self, n: usize, interval: u16, tail: u64, last: bool, d: &mut Draw) -> u64 {
         let shortest = self.bytes.len() as u64 + 5 + tail;
+        if self.plan.form.variable {
+            return self.variable_end(n, shortest, d);
+        }
         let Some(model) = &mut self.model else { return shortest + d.below(8) as u64 };
         let most = asked(model, 4, 0) / 8;
         let least = if last { 0 } else { asked(model, 5, interval).div_ceil(8) };
@@ -380,6 +457,22 @@ impl Stream {
             return most;
         }
         [least, most, least + d.below((most - least + 1).min(24) as usize) as u64][[0, 1, 2, 2][d.below(4)]]
+    }
+
+    /// The same at a variable rate: the shortest, one that empties the buffer, one in between, or a byte more.
+    fn variable_end(&mut self, n: usize, shortest: u64, d: &mut Draw) -> u64 {
+        let Some(buffer) = &self.buffer else { return shortest + d.below(8) as u64 };
+        let most = self.previous as u64 + buffer.bits() / 8;
+        if self.faulty(n, Fault::Size) || self.faulty(n, Fault::DelayAndSize) {
+            return (most + 1).clamp(shortest, shortest + VARIABLE_FILL);
+        }
+        if ENOUGH < self.bytes.len() {
+            return shortest;
+        }
+        let most = most.clamp(shortest, shortest + VARIABLE_FILL);
+        let near = most.saturating_sub(d.below(24) as u64).max(shortest);
+        let between = shortest + d.next() % (most - shortest + 1);
+        [shortest, shortest + (between - shortest) / 8, most, near, between, shortest][d.below(6)]
     }
 
     /// Slices and stuffing up to an end.

@@ -1,13 +1,14 @@
-//! Figures of request 05 that were settled apart from this model: lists of pictures with their periods in film mode, a channel with
-//! its delays and its report, and the table that the request comes to, as rules of a state that moves from picture to picture.
-//! cadence.rs, which has no such state, and the models of writer and check are held to them before they are used.
+//! Figures of requests 05 and 06 that were settled apart from this model: lists of pictures with their periods in film mode, a channel
+//! with its delays and its report, and the table that the request comes to, as rules of a state that moves from picture to picture; and
+//! of a variable rate streams with their occupancies, a creation and a channel. cadence.rs, which has no such state, and the models of
+//! writer and check are held to them before they are used.
 
 use crate::cadence::{self, Facts, SEQUENCES, Sequence, periods};
 use crate::check::judged;
 use crate::format::number;
 use crate::headers::pack;
 use crate::layout::VBV_RECORD_BYTES;
-use crate::mode::{FILM, Mode, PLAIN};
+use crate::mode::{FILM, FILM_VARIABLE, Mode, PLAIN, VARIABLE};
 use crate::writer::{Config, FRAME, Offer, Told, Writer};
 
 /// I P B are frames, i p b fields; ' is repeat_first_field, ^ top_field_first, " both. Periods in each of the four sequences.
@@ -118,14 +119,17 @@ const HEADERS: [u8; 30] = [
     0, 0, 1, 0xB8, 0x00, 0x08, 0x00, 0x40,
 ];
 
-fn layer(kind: usize, facts: Facts) -> Vec<u8> {
+/// A layer of so many bytes.
+fn layer(kind: usize, facts: Facts, delay: u64, bytes: usize) -> Vec<u8> {
     let hints = vec![(4, 7); kind];
     let padding = if kind == 0 { 2 } else { 8 - (61 + 4 * kind as u32 + 1) % 8 };
-    let header = [&[(32, 0x100), (10, 0), (3, kind as u64 + 1), (16, 0)][..], &hints, &[(1, 0), (padding, 0)]].concat();
+    let start = [(32, 0x100), (10, 0), (3, kind as u64 + 1), (16, delay)];
+    let header = [&start[..], &hints, &[(1, 0), (padding, 0)]].concat();
     let flags = [(1, facts.top.into()), (5, 0x10), (1, facts.repeat.into()), (3, 6)];
-    let extension = [&[(32, 0x1B5), (4, 8), (16, 0xFFFF), (2, 0), (2, 3)][..], &flags].concat();
+    let structure = if facts.field { 1 } else { 3 };
+    let extension = [&[(32, 0x1B5), (4, 8), (16, 0xFFFF), (2, 0), (2, structure)][..], &flags].concat();
     let mut layer = [pack(&header), pack(&extension), vec![0, 0, 1, 1]].concat();
-    layer.resize(if kind == 0 { 4021 } else { 4022 }, 0x55);
+    layer.resize(bytes, 0x55);
     layer
 }
 
@@ -138,9 +142,8 @@ fn sent(mode: Mode) -> (Vec<Told>, Vec<u8>) {
     for (i, (kind, facts)) in pictures(CHANNEL).into_iter().enumerate() {
         let headers = if i == 0 { HEADERS.to_vec() } else { vec![] };
         let mut part = vec![0; 8000];
-        told.push(
-            w.offer(&Offer { headers, kind, interval: FRAME, last: false, layer: layer(kind, facts) }, &mut part),
-        );
+        let layer = layer(kind, facts, 0, if kind == 0 { 4021 } else { 4022 });
+        told.push(w.offer(&Offer { headers, kind, interval: FRAME, last: false, layer }, &mut part));
         match told[i] {
             Told::Placed { bytes, .. } => stream.extend(&part[..bytes as usize]),
             _ => break,
@@ -170,10 +173,108 @@ fn hold_channel() {
     assert_eq!(sent(PLAIN).0, [Told::Refused(20)]);
 }
 
+/// The channel's sequence header and extension with another rate code, rate field and buffer field.
+fn declared(code: u64, rate: u64, buffer: u64) -> Vec<u8> {
+    let sizes = [(32, 0x1B3), (12, 16), (12, 16), (4, 1), (4, code)];
+    let header = [&sizes[..], &[(18, rate), (1, 1), (10, buffer), (1, 0), (2, 0)]].concat();
+    [&pack(&header)[..], &HEADERS[12..22]].concat()
+}
+
+/// A stream at 25/1 with a rate field and a buffer field, of pictures in letters with so many bits each, the first with the headers, and
+/// with these delays.
+pub fn stream([rate, buffer]: [u64; 2], letters: &str, bits: &[usize], delays: &[u64]) -> Vec<u8> {
+    let mut stream = declared(3, rate, buffer);
+    let mut end = 0;
+    for (((kind, facts), bits), &delay) in pictures(letters).into_iter().zip(bits).zip(delays) {
+        end += bits / 8;
+        let left = end - stream.len();
+        stream.extend(layer(kind, facts, delay, left));
+    }
+    stream
+}
+
+/// What a stream with room for four records is answered: its number, its words, and of each record the words.
+fn answered(mode: Mode, stream: &[u8]) -> (u8, [u64; 5], Vec<Vec<u64>>) {
+    let mut part = vec![0; 4 * VBV_RECORD_BYTES];
+    let ((refused, _), five) = judged(mode, stream, &mut part);
+    let words: Vec<u64> = part.chunks(8).map(number).collect();
+    let pictures = if refused == 0 { five[2] as usize } else { 0 };
+    (refused, five, words.chunks(5).take(pictures).map(<[u64]>::to_vec).collect())
+}
+
+/// Holds variable.rs to occupancies, to a first picture of B bits and to one of a byte more, and to ranges without a ratio.
+fn hold_removals() {
+    let bits = [80_344, 976, 976, 976];
+    let four = stream([2500, 20], "I P bb", &bits, &[0xFFFF; 4]);
+    let before = [327_680, 287_336, 326_360, 327_680];
+    let records: Vec<_> = (0..4).map(|n| vec![65_535, 65_535, bits[n] as u64, before[n], [2, 2, 1, 1][n]]).collect();
+    for mode in [VARIABLE, FILM_VARIABLE] {
+        assert_eq!(
+            answered(mode, &four),
+            (0, [1_000_000, before[0], 4, before[0] - bits[0] as u64, before[0]], records.clone())
+        );
+        let full = stream([2500, 20], "I", &[8 * 40_960], &[0xFFFF]);
+        assert_eq!(
+            answered(mode, &full),
+            (0, [1_000_000, 327_680, 1, 0, 327_680], vec![vec![65_535, 65_535, 327_680, 327_680, 2]])
+        );
+        let more = stream([2500, 20], "I", &[8 * 40_961], &[0xFFFF]);
+        assert_eq!(answered(mode, &more), (10, [0, 65_535, 65_535, 0, 0], vec![]));
+        let two = |buffer, second| stream([56, buffer], "I P", &[8_000, 800], &[0xFFFF, second]);
+        let (number, five, _) = answered(mode, &two(1, 0xFFFF));
+        assert_eq!((number, &five[..3]), (0, &[22_400, 16_384, 2][..]));
+        assert_eq!(answered(mode, &two(0, 0xFFFF)), (12, [0; 5], vec![]));
+        assert_eq!(answered(mode, &two(0, 0xFFFE)), (25, [0; 5], vec![]));
+    }
+    // At a constant rate the first delay is 5, and then the ratio 12.
+    let one = |delay| stream([56, 1], "I", &[8_000], &[delay]);
+    assert_eq!([0xFFFF, 0].map(|delay| answered(PLAIN, &one(delay)).0), [5, 12]);
+    assert_eq!(answered(PLAIN, &four).0, 5);
+}
+
+/// Offers to a writer of fields 2500 and 1, code 3 and quantiser 29: kind and layer bytes, what is answered, and the bits delivered at
+/// the next removal.
+const RETRIES: [(usize, usize, Told, Option<u64>); 6] = [
+    (0, 2121, Told::Again(31), None),
+    (0, 1821, Told::Placed { q: 31, delay: 0xFFFF, bytes: 1843, stuffing: 0, periods: 2 }, Some(31_128)),
+    (1, 1922, Told::Placed { q: 29, delay: 0xFFFF, bytes: 1922, stuffing: 0, periods: 2 }, Some(46_504)),
+    (1, 2522, Told::Again(31), Some(46_504)),
+    (1, 922, Told::Placed { q: 31, delay: 0xFFFF, bytes: 922, stuffing: 0, periods: 2 }, Some(53_880)),
+    // With the end code.
+    (2, 32, Told::Placed { q: 29, delay: 0xFFFF, bytes: 36, stuffing: 0, periods: 2 }, None),
+];
+
+/// Holds writer.rs to a creation without a ratio and to a channel, and variable.rs to what the channel hands out.
+fn hold_sent(mode: Mode) {
+    let low =
+        Config { mode: mode.number(), rate: 56, buffer: 1, rate_code: 3, n: 0, d: 0, q: 8, between: 2, anchors: 4 };
+    assert_eq!(Writer::create(low).map(|w| w.targets), Ok([2_647, 1_058, 595]));
+    assert_eq!(Writer::create(Config { mode: PLAIN.number(), ..low }).err(), Some(12));
+    let mut w = Writer::create(Config { rate: 2500, q: 29, ..low }).unwrap();
+    let mut stream = vec![];
+    for (kind, bytes, due, delivered) in RETRIES {
+        let headers = if w.started { vec![] } else { declared(3, 2500, 1) };
+        let facts = Facts { anchor: kind != 2, field: false, repeat: false, top: false };
+        let layer = layer(kind, facts, 0, bytes);
+        let mut part = vec![0; 2100];
+        let told = w.offer(&Offer { headers, kind, interval: FRAME, last: kind == 2, layer }, &mut part);
+        assert_eq!(told, due);
+        assert!(delivered.is_none_or(|whole| w.model()[..2] == [whole, 0]), "{delivered:?}");
+        if let Told::Placed { bytes, .. } = told {
+            stream.extend(&part[..bytes as usize]);
+        }
+    }
+    let (number, five, records) = answered(mode, &stream);
+    assert_eq!((number, five[2], w.finished, w.stuffing), (0, 4, true, 0));
+    assert!(records.iter().all(|r| r[..2] == [65_535, 65_535] && r[3] == 16_384));
+}
+
 /// Holds cadence.rs to the lists, and to the table over all lists of up to four pictures; and the writer and its check to a
-/// channel.
+/// channel, at a constant and at a variable rate.
 pub fn hold() {
     hold_channel();
+    hold_removals();
+    [VARIABLE, FILM_VARIABLE].into_iter().for_each(hold_sent);
     for (letters, due) in LISTS {
         let facts: Vec<Facts> = pictures(letters).iter().map(|p| p.1).collect();
         for (column, due) in due.iter().enumerate() {

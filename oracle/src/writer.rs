@@ -1,7 +1,7 @@
-//! The constant-rate writer as paper 01 tells it ('A placed picture'), at the rates of request 02, plain or film (request 05):
-//! a model of the papers' rules in plain numbers of 128 bits. It parses with the original's functions; everything else is its
-//! own, its numbers (400, 16,384, 2^48) too: so it is independent of what it is compared with. A film writer keeps the list of
-//! the pictures that it has placed, and asks cadence.rs how long the next one lasts.
+//! The writer as paper 01 tells it ('A placed picture'), at the rates of request 02, plain or film (request 05), of a constant or a
+//! variable rate (request 06): a model of the papers' rules in plain numbers of 128 bits. It parses with the original's functions;
+//! everything else is its own, its numbers (400, 16,384, 2^48) too: so it is independent of what it is compared with. A film writer
+//! keeps the list of the pictures that it has placed, and asks cadence.rs how long the next one lasts.
 
 use crate::cadence::{Facts, Sequence, last_periods};
 use original::picture_header::{Mpeg2PictureHeader, PictureCodingType, PictureStructure};
@@ -11,7 +11,7 @@ const FRAME_RATES: [(u128, u128); 8] =
     [(24_000, 1001), (24, 1), (25, 1), (30_000, 1001), (30, 1), (50, 1), (60_000, 1001), (60, 1)];
 
 /// What a writer is created with, as wide as an entry can say it; n and d are those of the frame rate's extension. The mode is
-/// MPEG-2's 2, or 6 for film; any other is out of range.
+/// MPEG-2's 2, or 6 for film, each with 8 more for a variable rate; any other is out of range.
 #[derive(Clone, Copy)]
 pub struct Config {
     pub mode: u64,
@@ -69,6 +69,7 @@ pub struct Writer {
     pub stuffing: u64,
     pub finished: bool,
     pub film: bool,
+    pub variable: bool,
     /// Of a film writer: what the headers of its first picture said, and the pictures placed.
     pub sequence: Sequence,
     pub pictures: Vec<Facts>,
@@ -160,7 +161,7 @@ fn layer_fits(film: bool, o: &Offer) -> bool {
 
 impl Writer {
     pub fn create(c: Config) -> Result<Self, u8> {
-        let fits = [2, 6].contains(&c.mode)
+        let fits = [2, 6, 10, 14].contains(&c.mode)
             && (1..=262_143).contains(&c.rate)
             && (1..=1023).contains(&c.buffer)
             && c.n <= 3
@@ -173,7 +174,8 @@ impl Writer {
         }
         let Some((frn, frd)) = frame_rate(c.rate_code, c.n, c.d) else { return Err(6) };
         let (rate, buffer) = (400 * u128::from(c.rate), 16_384 * u128::from(c.buffer));
-        if 90_000 * buffer > 65_534 * rate {
+        let variable = 8 <= c.mode;
+        if !variable && 90_000 * buffer > 65_534 * rate {
             return Err(12);
         }
         let (between, anchors) = (u128::from(c.between), u128::from(c.anchors));
@@ -195,7 +197,8 @@ impl Writer {
             placed: 0,
             stuffing: 0,
             finished: false,
-            film: c.mode == 6,
+            film: c.mode % 8 == 6,
+            variable,
             sequence: Sequence::default(),
             pictures: vec![],
         })
@@ -239,10 +242,13 @@ impl Writer {
         self.end + 8 * (headers as u128 + 4)
     }
 
-    /// Units delivered at the removal of an offered picture.
+    /// Units delivered at the removal of an offered picture. At a variable rate 'the buffer is full at the first removal'.
     pub fn delivered(&self, headers: usize) -> u128 {
         if self.started {
             return self.delivered;
+        }
+        if self.variable {
+            return self.buffer * self.units();
         }
         let delay = 90_000 * self.buffer * 3 / (4 * self.rate);
         self.position(headers) * self.units() + delay * self.rate * 2 * self.frn
@@ -281,12 +287,25 @@ impl Writer {
         (self.end, self.delivered) = (end.into(), u128::from(whole) * self.units());
     }
 
-    pub fn withdraw(&mut self) {
-        self.pending = None;
+    /// Whether the state is in range. At a variable rate the buffer 'stays at B once full': no more than B bits are delivered after
+    /// the end of a placed picture.
+    pub fn in_range(&self) -> bool {
+        !self.variable || !self.started || self.delivered <= (self.end + self.buffer) * self.units()
+    }
+
+    /// False where the state is not in range: 12.
+    pub fn withdraw(&mut self) -> bool {
+        if self.in_range() {
+            self.pending = None;
+        }
+        self.in_range()
     }
 
     /// What an offer is refused for before its place in the stream counts.
     fn unfit(&self, o: &Offer) -> Option<u8> {
+        if !self.in_range() {
+            return Some(12);
+        }
         if self.finished || self.pending.is_some_and(|p| p.0 != o.kind) {
             return Some(17);
         }
@@ -302,9 +321,14 @@ impl Writer {
         let content = self.end + 8 * (o.headers.len() + o.layer.len() + tail) as u128;
         let delivered = self.delivered(o.headers.len());
         let periods = self.periods(o);
-        let next = delivered + self.rate * self.frd * 90_000 * u128::from(periods);
+        let gain = self.rate * self.frd * 90_000 * u128::from(periods);
+        let mut next = delivered + gain;
         let mut end = content;
-        if !o.last {
+        if self.variable {
+            // 'Gains R times the period after each, and stays at B once full'; nothing of it is stuffed away.
+            let after = delivered.saturating_sub(content * units);
+            next = content * units + (after + gain).min(self.buffer * units);
+        } else if !o.last {
             let least = next.saturating_sub(self.buffer * units).div_ceil(units);
             end = end.max(8 * least.div_ceil(8));
         }
@@ -316,6 +340,9 @@ impl Writer {
         let (units, far) = (self.units(), 1 << 48);
         if at.position > far || at.end > far {
             return Some(14);
+        }
+        if self.variable {
+            return None;
         }
         if at.position * units > at.delivered {
             return Some(7);
@@ -345,8 +372,7 @@ impl Writer {
 
     /// Places an offered picture in a part of just its bytes.
     fn place(&mut self, o: &Offer, at: &Spot, part: &mut [u8]) -> Told {
-        let (over, whole) = ((at.delivered - at.position * self.units()) * 90_000, self.rate * self.units());
-        let delay = u16::try_from((2 * over + whole) / (2 * whole)).unwrap();
+        let delay = self.delay(at);
         let stuffing = ((at.end - at.content) / 8) as u64;
         let q = self.asked(o.kind);
         self.put(o, delay, stuffing as usize, part);
@@ -366,6 +392,15 @@ impl Writer {
         self.stuffing += stuffing;
         self.finished = o.last;
         Told::Placed { q, delay, bytes: part.len() as u64, stuffing, periods: at.periods }
+    }
+
+    /// What the header of a placed picture is to say; at a variable rate '0xFFFF in each header'.
+    fn delay(&self, at: &Spot) -> u16 {
+        if self.variable {
+            return 0xFFFF;
+        }
+        let (over, whole) = ((at.delivered - at.position * self.units()) * 90_000, self.rate * self.units());
+        u16::try_from((2 * over + whole) / (2 * whole)).unwrap()
     }
 
     fn too_large(&mut self, kind: usize) -> Told {

@@ -1,6 +1,6 @@
 //! The writer: lists of calls drawn like those of kind 19, its state kept as bytes, and what the model of the papers
-//! (writer.rs) comes to. It is created by arguments or, always where it is a film writer or n or d is not 0, by words
-//! (create.rs).
+//! (writer.rs) comes to. It is created by arguments or, always where it is a film writer or one of a variable rate or n or d is not 0,
+//! by words (create.rs).
 //!
 //! Before some of a list's calls stands another one, on a copy of the state: damaged or cut short, with a kind, an interval or a
 //! flag out of range, or with a place for the answer that is too short. What a damaged state holds is decoded here once more
@@ -13,8 +13,9 @@ use oracle::draw::Draw;
 use oracle::format::{number, pattern};
 use oracle::layout::{CBR_AGAIN, CBR_ANSWER_BYTES, CBR_FIELD, CBR_FRAME, CBR_PLACED, CBR_REFUSED, CBR_STATE_BYTES};
 use oracle::lists::{CALLS, Call, call, configured};
+use oracle::mode::{FILM, FILM_VARIABLE, Mode, PLAIN, VARIABLE};
 use oracle::place::{Left, Place, lay};
-use oracle::state::{WORDS, held, limits, words, words_of};
+use oracle::state::{WORDS, beyond, held, limits, words, words_of};
 use oracle::writer::{FIELD, FRAME, Offer, Told, Writer};
 
 const OFFERS: &str = "offers";
@@ -22,6 +23,8 @@ const STOPPED: &str = "offers stopped before the writer";
 const DAMAGED: &str = "offers on a damaged state that fits";
 const DAMAGED_FILM: &str = "offers on a damaged state of a film writer that fits";
 const FILM_OFFERS: &str = "offers to a film writer";
+const DAMAGED_VARIABLE: &str = "offers on a damaged state of a variable writer that fits";
+const VARIABLE_OFFERS: &str = "offers to a variable writer";
 const WITHDRAWALS: &str = "withdrawals";
 
 /// The writer's answers to offers.
@@ -38,10 +41,14 @@ const ANSWERS: [&str; 11] = [
     "refused 21",
     "refused 22",
 ];
+/// Those of a variable rate: 'never 7, 9 or 22'.
+const VARIABLE_ANSWERS: [&str; 8] =
+    ["placed", "again", "refused 14", "refused 17", "refused 18", "refused 19", "refused 20", "refused 21"];
 /// What stops an offer before the writer, in the order in which it is tested.
-const STOPS: [&str; 7] = [
+const STOPS: [&str; 8] = [
     "12: a state, with a short answer place",
     "12: a state too short",
+    "12: a state of a variable rate with more in the buffer than it holds",
     "12: a damaged state",
     "19: a short answer place",
     "12: a kind",
@@ -50,7 +57,7 @@ const STOPS: [&str; 7] = [
 ];
 
 /// What has to be met.
-pub const OWED: [Owed; 8] = [
+pub const OWED: [Owed; 10] = [
     CREATIONS,
     CREATIONS_BY_WORDS,
     (OFFERS, &ANSWERS),
@@ -58,6 +65,8 @@ pub const OWED: [Owed; 8] = [
     (DAMAGED, &ANSWERS),
     (FILM_OFFERS, &ANSWERS),
     (DAMAGED_FILM, &ANSWERS),
+    (VARIABLE_OFFERS, &VARIABLE_ANSWERS),
+    (DAMAGED_VARIABLE, &VARIABLE_ANSWERS),
     (WITHDRAWALS, &["accepted", "nothing pending", "on a damaged state that fits", "refused 12"]),
 ];
 
@@ -118,7 +127,7 @@ fn answer_words(told: Told, placed: u64) -> [u64; 9] {
 /// What stops an offer on a state that holds a writer, or none, before the writer looks at it.
 fn stop(holds: bool, state: &[u8], c: &Offering) -> Option<(u8, &'static str)> {
     let short = c.answer.len() < CBR_ANSWER_BYTES;
-    let no_state = [!holds && short, !holds && state.len() < CBR_STATE_BYTES, !holds];
+    let no_state = [!holds && short, !holds && state.len() < CBR_STATE_BYTES, beyond(state), !holds];
     let codes = [2 < c.kind, ![CBR_FIELD, CBR_FRAME].contains(&c.interval), 1 < c.last];
     let at = no_state.into_iter().chain([short]).chain(codes).position(|stops| stops)?;
     Some((if at == no_state.len() { 19 } else { 12 }, STOPS[at]))
@@ -188,13 +197,24 @@ fn withdrawn(state: &[u8], d: &mut Draw) -> Left {
 fn another(s: &[u64; WORDS], k: usize, d: &mut Draw) -> u64 {
     let (buffer, end) = (s[1] % (1 << 33), s[6] % (1 << 49));
     match d.below(6) {
-        _ if k == 19 && d.one_in(2) => d.below(9) as u64,
+        _ if k == 19 && d.one_in(2) => d.below(17) as u64,
         0 => d.value(64),
         1 => s[k] ^ 1 << d.below(64),
         2 if k == 4 => end + d.next() % (buffer + 1),
         3 if k == 4 => (end + buffer + d.below(3) as u64).saturating_sub(1),
         4 if k == 6 => (s[4] % (1 << 49)).saturating_sub(d.next() % (buffer + 1)) & !7,
         _ => (limits(s)[k].saturating_add(d.below(3) as u64)).saturating_sub(1),
+    }
+}
+
+/// A writer of a variable rate with the buffer full, or a bit or part of one below or above that; mostly one that has placed a picture.
+fn filled(s: &mut [u64; WORDS], d: &mut Draw) {
+    let units = 180_000 * (s[2] % (1 << 20)).max(1);
+    s[19] = if s[20..].iter().all(|&k| k == 0) && d.one_in(2) { VARIABLE } else { FILM_VARIABLE }.number();
+    s[4] = (s[6] % (1 << 49) + s[1] % (1 << 33) + [0, 0, 0, 1][d.below(4)]).saturating_sub(d.one_in(3).into());
+    s[5] = [0, 1, units - 1, d.next() % units][d.below(4)];
+    if !d.one_in(8) {
+        s[8] = 1;
     }
 }
 
@@ -214,9 +234,13 @@ fn damaged(state: &[u8], d: &mut Draw) -> Vec<u8> {
         } else if d.one_in(8) {
             // A film writer with any cadence, or a plain one with what is left of it.
             let (mut s, open) = (words_of(&bytes).unwrap(), d.below(3) as u64);
-            s[19] = if d.one_in(4) { 2 } else { 6 };
+            s[19] = [FILM, FILM_VARIABLE, FILM, FILM_VARIABLE, PLAIN, VARIABLE][d.below(6)].number();
             s[20..24].fill_with(|| d.value(1));
             s[24] = open;
+            lay(&mut bytes, &s);
+        } else if d.one_in(8) {
+            let mut s = words_of(&bytes).unwrap();
+            filled(&mut s, d);
             lay(&mut bytes, &s);
         } else if d.one_in(4) {
             bytes[d.below(CBR_STATE_BYTES)] = d.byte();
@@ -239,10 +263,13 @@ impl Run {
         c: &Offering,
     ) -> (Left, u64) {
         let film = writer.as_ref().is_some_and(|w| w.film);
+        let variable = writer.as_ref().is_some_and(|w| w.variable);
         let (mut expected, periods, why) = expected(writer, state, c);
         let found = offered(state, c, &mut self.d);
         let what = match plain {
             _ if STOPS.contains(&why.as_str()) => STOPPED,
+            DAMAGED if variable => DAMAGED_VARIABLE,
+            OFFERS if variable => VARIABLE_OFFERS,
             DAMAGED if film => DAMAGED_FILM,
             OFFERS if film => FILM_OFFERS,
             _ => plain,
@@ -257,7 +284,7 @@ impl Run {
         let number = if writer.is_some() { 0 } else { 12 };
         let why = if writer.is_some() { why } else { "refused 12" };
         if let Some(w) = writer {
-            w.withdraw();
+            assert!(w.withdraw(), "a writer that is not in range");
             lay(state, &words(w));
         }
         self.met(WITHDRAWALS, why, &found, &alone(number, state));
@@ -302,13 +329,13 @@ impl Run {
         if self.d.one_in(2) {
             self.odd_offer(state, &c);
         }
-        self.offer(OFFERS, Some(w), state, &c)
+        self.offer(OFFERS, Some(w).filter(|w| w.in_range()), state, &c)
     }
 
     /// One list: creation, each call on what the one before left, and the check of what was handed out.
     pub fn list(&mut self, input: &[u8]) {
         let Some((mut w, mut state)) = self.create(configured(input)) else { return };
-        let film = w.film;
+        let own = Mode { film: w.film, variable: w.variable, ..PLAIN };
         let mut sent = Sent { whole: true, stream: vec![], placed: vec![] };
         let mut rest = &input[CALLS..];
         while !rest.is_empty() {
@@ -323,7 +350,7 @@ impl Run {
                 Call::Withdrawal => {
                     self.odd_withdrawal(&state);
                     let why = if w.pending.is_some() { "accepted" } else { "nothing pending" };
-                    self.withdraw(why, Some(&mut w), &mut state);
+                    self.withdraw(why, Some(&mut w).filter(|w| w.in_range()), &mut state);
                 }
                 Call::Offer(o) => {
                     let (mut left, periods) = self.listed(&mut w, &mut state, &o, part);
@@ -331,7 +358,7 @@ impl Run {
                 }
                 Call::Check(mode, stream) => {
                     assert!(sent.whole && stream == sent.stream, "another stream than what was handed out");
-                    self.sent(film, mode, &sent.stream, &sent.placed);
+                    self.sent(own, mode, &sent.stream, &sent.placed);
                 }
             }
         }

@@ -7,15 +7,15 @@ use crate::entry;
 use crate::run::{Owed, Run};
 use oracle::draw::Draw;
 use oracle::layout::{CBR_CONFIG_BYTES, CBR_STATE_BYTES};
+use oracle::mode::{FILM_VARIABLE, MPEG1, MPEG1_FILM, MPEG1_FILM_VARIABLE, MPEG1_VARIABLE, Mode, PLAIN, WRITERS};
+use oracle::model::{BUFFER_UNIT, RATE_UNIT, widest};
 use oracle::place::{Left, Place, lay};
 use oracle::state::words;
 use oracle::writer::{Config, Writer};
 
 const WORDS: usize = CBR_CONFIG_BYTES / 8;
-/// The modes of a writer: MPEG-2, plain or film.
-const MODES: [u64; 2] = [2, 6];
 /// The greatest value of each word, and the bits of its argument; of mode and code those that one can be cut to.
-const MOST: [u64; WORDS] = [6, 262_143, 1023, 8, 3, 31, 31, 15, 255];
+const MOST: [u64; WORDS] = [14, 262_143, 1023, 8, 3, 31, 31, 15, 255];
 const BITS: [u32; WORDS] = [8, 32, 16, 8, 8, 8, 8, 8, 8];
 
 /// By arguments; what has to be met.
@@ -27,13 +27,18 @@ pub const CREATIONS_BY_WORDS: Owed = (
         ACCEPTED_RATE,
         ACCEPTED_MORE,
         ACCEPTED_FILM,
+        ACCEPTED_VARIABLE,
+        ACCEPTED_FILM_VARIABLE,
+        ACCEPTED_RATIO,
         "12: words and state place too short",
         "12: words too short",
         "19: a short state place, with another mode",
         "19: a short state place",
-        "12: a mode that is 2 or 6 when cut",
+        "12: a mode that a writer has when cut",
         "12: MPEG-1",
         "12: MPEG-1 with film",
+        "12: MPEG-1 of a variable rate",
+        "12: MPEG-1 with film of a variable rate",
         "12: a mode below 16",
         "12: another mode",
         "12: a word that fits when cut",
@@ -48,6 +53,9 @@ const ACCEPTED: &str = "accepted";
 const ACCEPTED_RATE: &str = "accepted, n or d not 0";
 const ACCEPTED_MORE: &str = "accepted, with bytes behind the words";
 const ACCEPTED_FILM: &str = "accepted, film";
+const ACCEPTED_VARIABLE: &str = "accepted, of a variable rate";
+const ACCEPTED_FILM_VARIABLE: &str = "accepted, film of a variable rate";
+const ACCEPTED_RATIO: &str = "accepted, of a variable rate, with a buffer too large for a constant one";
 
 fn config(w: &[u64; WORDS]) -> Config {
     let [mode, rate, buffer, rate_code, n, d, q, between, anchors] = *w;
@@ -61,15 +69,18 @@ fn words_of(c: &Config) -> [u64; WORDS] {
 /// What stops a creation by words, in order, before creation itself.
 fn stop(w: &[u64; WORDS], config_len: usize, state_len: usize) -> Option<(u8, &'static str)> {
     let (no_words, no_state) = (config_len < CBR_CONFIG_BYTES, state_len < CBR_STATE_BYTES);
-    let another = !MODES.contains(&w[0]);
+    let is = |mode: Mode| w[0] == mode.number();
+    let another = !WRITERS.into_iter().any(is);
     let stops = [
         (no_words && no_state, 12, "12: words and state place too short"),
         (no_words, 12, "12: words too short"),
         (no_state && another, 19, "19: a short state place, with another mode"),
         (no_state, 19, "19: a short state place"),
-        (another && MODES.contains(&(w[0] % 256)), 12, "12: a mode that is 2 or 6 when cut"),
-        (w[0] == 1, 12, "12: MPEG-1"),
-        (w[0] == 5, 12, "12: MPEG-1 with film"),
+        (another && WRITERS.iter().any(|m| m.number() == w[0] % 256), 12, "12: a mode that a writer has when cut"),
+        (is(MPEG1), 12, "12: MPEG-1"),
+        (is(MPEG1_FILM), 12, "12: MPEG-1 with film"),
+        (is(MPEG1_VARIABLE), 12, "12: MPEG-1 of a variable rate"),
+        (is(MPEG1_FILM_VARIABLE), 12, "12: MPEG-1 with film of a variable rate"),
         (another && w[0] < 16, 12, "12: a mode below 16"),
         (another, 12, "12: another mode"),
     ];
@@ -100,7 +111,10 @@ fn due(w: &[u64; WORDS], config_len: usize, state_len: usize) -> (Result<Writer,
     let made = Writer::create(config(w));
     let why = match made {
         Err(number) => refused(w, number),
-        Ok(_) if w[0] == MODES[1] => ACCEPTED_FILM,
+        Ok(_) if widest(RATE_UNIT * w[1]) < BUFFER_UNIT * w[2] => ACCEPTED_RATIO,
+        Ok(_) if w[0] == FILM_VARIABLE.number() => ACCEPTED_FILM_VARIABLE,
+        Ok(Writer { variable: true, .. }) => ACCEPTED_VARIABLE,
+        Ok(Writer { film: true, .. }) => ACCEPTED_FILM,
         Ok(_) if (w[4], w[5]) != (0, 0) => ACCEPTED_RATE,
         Ok(_) if CBR_CONFIG_BYTES < config_len => ACCEPTED_MORE,
         Ok(_) => ACCEPTED,
@@ -130,7 +144,7 @@ fn another(k: usize, value: u64, d: &mut Draw) -> u64 {
         2 => value.wrapping_add(d.nonzero(8) << BITS[k]),
         3 => value.wrapping_add(1 << [8, 16, 32, 63][d.below(4)]),
         4 => d.below(MOST[k] as usize + 8) as u64,
-        _ if k == 0 => [0, 1, 2, 5, 6, 10, 14, 3 + d.below(13) as u64][d.below(8)],
+        _ if k == 0 => [0, 1, 2, 5, 6, 9, 10, 13, 14, 3 + d.below(13) as u64][d.below(10)],
         _ => 0,
     }
 }
@@ -181,7 +195,7 @@ impl Run {
         if self.d.one_in(2) {
             self.odd_creation(&c);
         }
-        if c.mode != MODES[0] || (c.n, c.d) != (0, 0) || self.d.one_in(2) {
+        if c.mode != PLAIN.number() || (c.n, c.d) != (0, 0) || self.d.one_in(2) {
             let (length, state) = (CBR_CONFIG_BYTES + self.d.below(2) * self.d.below(16), self.state_place());
             return self.by_words(&words_of(&c), length, state);
         }

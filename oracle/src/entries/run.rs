@@ -40,6 +40,12 @@ impl Run {
         }
     }
 
+    /// Whether nothing differs; says how many calls were made.
+    pub fn same(&self) -> bool {
+        println!("entries: {} streams of encoders, {} calls, differ {}", self.case, self.calls, self.differ);
+        self.differ == 0
+    }
+
     /// Says what was met; false where something differs or was not met.
     pub fn report(&self, owed: &[Owed]) -> bool {
         let mut complete = true;
