@@ -384,12 +384,12 @@ static void check_bounds(void)
     placed("a first picture", c, frame(c, CBR_I, 20000), 10, 0);
     memcpy(kept, c->state, sizeof kept);
     uint64_t full = kept[END] + kept[BUFFER], parts = 180000 * kept[FRN];
-    const struct bound later[] = { { full, 0, 10, 1 }, { full, 1, 10, 0 }, { full - 1, parts - 1, 10, 1 }, { full + 1, 0, 10, 0 },
-                                   { most, 0, 10, 0 }, { full, 0, 14, 1 }, { full, 1, 14, 0 }, { full + 1, 0, 2, 1 },
-                                   { full, 1, 6, 1 }, { 0, 0, 10, 1 } };
+    const struct bound started[] = { { full, 0, 10, 1 }, { full, 1, 10, 0 }, { full - 1, parts - 1, 10, 1 }, { full + 1, 0, 10, 0 },
+                                     { most, 0, 10, 0 }, { full, 0, 14, 1 }, { full, 1, 14, 0 }, { full + 1, 0, 2, 1 },
+                                     { full, 1, 6, 1 }, { 0, 0, 10, 1 } };
     const struct bound first[] = { { most, parts - 1, 10, 1 }, { full + 1, 0, 14, 1 }, { most + 1, 0, 10, 0 }, { 0, parts, 10, 0 } };
-    for (size_t i = 0; i < COUNT(later); i++)
-        check_bound(c, kept, later + i);
+    for (size_t i = 0; i < COUNT(started); i++)
+        check_bound(c, kept, started + i);
     for (size_t i = 0; i < COUNT(first); i++)
         check_bound(c, fresh, first + i);
     free(c);
