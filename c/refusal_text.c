@@ -13,8 +13,8 @@ static const struct {
         "A set cannot learn size, rate or buffer from this stream and shows nothing. Give MPEG video from a sequence header on." },
     [VBV_NO_PICTURE] = { "no picture", "There is nothing that a set could show. Capture more of the stream." },
     [VBV_VARIABLE_RATE] = { "first delay 0xFFFF",
-        "The stream does not claim a constant rate, so no set can tell when to start, and no buffer is promised. "
-        "Encode it at a constant rate, or send its pictures by cbr_offer." },
+        "The stream does not claim a constant rate, so no set can tell when to start. Check MPEG-2 at a variable rate "
+        "(vbvreport --variable), encode it at a constant one, or send its pictures by cbr_offer." },
     [VBV_FRAME_RATE] = { "frame rate code",
         "The frame rate is none that the standard knows (codes 1 to 8), so no set can tell when a picture is due. "
         "Set the right code." },
@@ -34,7 +34,7 @@ static const struct {
         "The picture's delay is not the time at which it is due: a set that tunes in there overflows or runs dry later. "
         "Write the right delays: cbrsend does, for film cbrsend --film, or vbv_patch_delay." },
     [VBV_PARAMETER] = { "parameter out of range",
-        "The rate or the buffer is zero or too large, or the buffer takes more than 65,534 ticks to fill. Choose others. "
+        "The rate or the buffer is zero or too large, or a constant rate takes over 65,534 ticks to fill it. Choose others. "
         "From C also: a bad configuration, mode, kind, interval, flag or state." },
     [VBV_TOO_FAR] = { "stream too long",
         "The stream has more than 2^48 bits. Check it in parts; send the rest by a new writer." },
@@ -57,6 +57,9 @@ static const struct {
     [CBR_STUFFING] = { "stuffed end beyond delivered bits",
         "From one picture to the next this rate brings more bits than the buffer holds, and no stuffing helps. "
         "Take a larger buffer or a lower rate." },
+    [VBV_CONSTANT_RATE] = { "delay not 0xFFFF",
+        "A delay claims a constant rate, where a variable one has 0xFFFF in every picture. Check it at a constant rate "
+        "(vbvreport --constant), or write 0xFFFF into all: cbrsend --variable does." },
 };
 
 /* Does not compile where a struct is not of its layout's bytes. */

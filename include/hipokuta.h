@@ -1,5 +1,5 @@
-/* Hipokuta: the buffer model of ISO/IEC 13818-2, Annex C, at a constant rate, proved: the check of an MPEG stream, and the
- * writer of an MPEG-2 one.
+/* Hipokuta: the buffer model of ISO/IEC 13818-2, Annex C, at a constant rate and at a variable one, proved: the check of an MPEG
+ * stream, and the writer of an MPEG-2 one.
  *
  * A program links the archive, libhipokuta.a, and lends each call its bytes. The structs below lie over what a call reads or
  * writes: numbers are 64-bit words, low byte first (LAYOUT.md). Pointers need no alignment. A null pointer may stand with the
@@ -18,13 +18,15 @@
 extern "C" {
 #endif
 
-#define HIPOKUTA_VERSION "3.0"
+#define HIPOKUTA_VERSION "3.1"
 
-/* Modes: MPEG-1; MPEG-2, a picture lasting a frame's time or a field's; and VBV_MPEG2 + VBV_FILM, where repeat_first_field
- * counts too (13818-2, C.9 to C.12; see vbv_check). There is no other. */
+/* Modes: MPEG-1; MPEG-2, a picture lasting a frame's time or a field's; VBV_MPEG2 + VBV_FILM, where repeat_first_field counts too
+ * (13818-2, C.9 to C.12); VBV_MPEG2 + VBV_VARIABLE, of a variable rate (C.3.2), where the first two are of a constant one; and
+ * VBV_MPEG2 + VBV_FILM + VBV_VARIABLE. So 1, 2, 6, 10 and 14; there is no other. See vbv_check. */
 #define VBV_MPEG1 1
 #define VBV_MPEG2 2
 #define VBV_FILM 4
+#define VBV_VARIABLE 8
 
 /* Refusals: the value that an entry returns, where it is not 0 (REFUSALS.md). No entry returns any other number. */
 enum {
@@ -32,14 +34,14 @@ enum {
     VBV_BAD_HEADER = 2,      /* a header with a value, code or prefix that it must not have */
     VBV_NO_SEQUENCE = 3,     /* no sequence header */
     VBV_NO_PICTURE = 4,      /* no picture */
-    VBV_VARIABLE_RATE = 5,   /* the first delay is 0xFFFF */
+    VBV_VARIABLE_RATE = 5,   /* at a constant rate: the first delay is 0xFFFF */
     VBV_FRAME_RATE = 6,      /* a frame rate code that is not 1 to 8 */
     VBV_EARLY = 7,           /* a picture's start code lies beyond the bits delivered at its removal */
     VBV_DELAY_TOO_LONG = 8,  /* an expected delay above 0xFFFE */
     VBV_OVERFLOW = 9,        /* the buffer overflows */
     VBV_UNDERFLOW = 10,      /* a picture is not yet all delivered at its removal */
     VBV_DELAY_MISMATCH = 11, /* coded and expected delay are more than a tick apart */
-    VBV_PARAMETER = 12,      /* a value out of range, a buffer of above 65,534 ticks, bytes that hold no state or no config */
+    VBV_PARAMETER = 12,      /* a value out of range, a constant rate's buffer of above 65,534 ticks, bytes of no state or config */
     VBV_TOO_FAR = 14,        /* the stream passes 2^48 bits */
     VBV_RECORD_PLACES = 15,  /* fewer record places than pictures */
     CBR_OTHER_KIND = 17,     /* another kind is pending, or the last picture was placed */
@@ -47,7 +49,8 @@ enum {
     CBR_ROOM = 19,           /* the output part, or a place for a report, refusal, answer or new state, is too short */
     CBR_LAYER = 20,          /* the layer does not fit: see cbr_offer; or no picture header to patch */
     CBR_TOO_LARGE = 21,      /* too large at quantiser 31 */
-    CBR_STUFFING = 22        /* the stuffed end lies beyond the bits delivered */
+    CBR_STUFFING = 22,       /* the stuffed end lies beyond the bits delivered */
+    VBV_CONSTANT_RATE = 25   /* at a variable rate: a delay is not 0xFFFF */
 };
 
 /* A refusal's name, such as "overflow"; and in one line what it means and what to do. Both NULL for a number that is none.
@@ -71,8 +74,8 @@ struct vbv_report {
 };
 
 struct vbv_record {
-    uint64_t delay;            /* as coded, in ticks of 1/90,000 s */
-    uint64_t expected;         /* the delay that the model expects */
+    uint64_t delay;            /* as coded, in ticks of 1/90,000 s; at a variable rate 65,535, which says none */
+    uint64_t expected;         /* the delay that the model expects; at a variable rate 65,535 */
     uint64_t data_bits;        /* from the last picture's end to this one's */
     uint64_t occupancy_before; /* bits held just before the removal */
     uint64_t periods;          /* field periods up to the next removal, each half a frame's time: 1 for a field picture, 2 for a
@@ -82,7 +85,7 @@ struct vbv_record {
 struct vbv_refusal {
     uint64_t number;
     uint64_t picture;         /* the first is 0 */
-    uint64_t coded, expected; /* its delay, and the model's. All three are of 9, 10 and 11, else 0 */
+    uint64_t coded, expected; /* its delay, and the model's, as in a record. All three are of 9, 10 and 11, else 0 */
 };
 
 /* Checks a stream. Returns 0 where it is accepted, else the number of the refusal.
@@ -94,9 +97,16 @@ struct vbv_refusal {
  * Pictures are removed at the frame rate of the first sequence header: its code's, in MPEG-2 times (n + 1) / (d + 1), n and d
  * being frame_rate_extension_n and _d of its sequence extension.
  *
- * mode is VBV_MPEG1, VBV_MPEG2 or VBV_MPEG2 + VBV_FILM, else 12; it is a uint8_t, so that C itself cuts a larger number (262 is
- * 6). In film mode the next removal waits for repeated fields, by progressive_sequence and low_delay of the first sequence
- * header's extension:
+ * mode is VBV_MPEG1, or VBV_MPEG2 alone or with VBV_FILM, VBV_VARIABLE or both, else 12; it is a uint8_t, so that C itself cuts a
+ * larger number (262 is 6).
+ *
+ * With VBV_VARIABLE (13818-2, C.3.2) every picture's delay is 0xFFFF, else 25, tested of all pictures after 4, where 5 stands in
+ * the other modes, and so before 12, 15 and any 10. The buffer is full at the first removal, gains what the rate brings from each
+ * removal to the next, and stays full once it is. So of 7 to 11 only 10 can be, and of 12 only the ranges: how long the buffer
+ * takes to fill does not matter. In an accepted stream max_before is buffer_bits.
+ *
+ * With VBV_FILM the next removal waits for repeated fields, by progressive_sequence and low_delay of the first sequence header's
+ * extension:
  * - a B frame lasts 2 field periods, with repeat_first_field 3; an I or P frame lasts 2 or 3 by that flag of the I or P picture
  *   before it, 2 where there is none;
  * - a field lasts 1; but the second of a pair that I or P leads lasts 2 where the I or P picture before the pair has the flag.
@@ -138,7 +148,7 @@ uint64_t vbv_patch_delay(uint8_t *picture, size_t picture_len, uint16_t vbv_dela
 #define CBR_ANSWER_BYTES 72
 
 struct cbr_config {
-    uint64_t mode;                   /* VBV_MPEG2, or VBV_MPEG2 + VBV_FILM for a film writer */
+    uint64_t mode;                   /* VBV_MPEG2; + VBV_FILM for a film writer, + VBV_VARIABLE for a variable one, or + both */
     uint64_t bit_rate_value;         /* the rate in units of CBR_RATE_UNIT: 1 to CBR_MOST_RATE */
     uint64_t vbv_buffer_size_value;  /* the buffer in units of CBR_BUFFER_UNIT: 1 to CBR_MOST_BUFFER */
     uint64_t frame_rate_code;        /* 1 to 8: 24000/1001, 24, 25, 30000/1001, 30, 50, 60000/1001, 60 frames a second, */
@@ -151,7 +161,8 @@ struct cbr_config {
 
 struct cbr_state {
     uint64_t bit_rate, buffer_size_bits, frn, frd; /* frn / frd frames a second, not reduced */
-    uint64_t whole, rest;    /* bits delivered at the next removal, and the part of a bit above them */
+    uint64_t whole, rest;    /* bits delivered at the next removal, and the part of a bit above them; at a variable rate no more
+                              * than prev_end_bits + buffer_size_bits */
     uint64_t prev_end_bits;  /* handed out so far, stuffing too */
     uint64_t removed;        /* pictures placed so far */
     uint64_t started;        /* 1 once a picture was placed: from then on no sequence header */
@@ -161,7 +172,7 @@ struct cbr_state {
     uint64_t pending_q;      /* the quantiser to encode that one with; 0 where none is pending */
     uint64_t stuffing_bytes; /* zeros handed out as stuffing so far */
     uint64_t finished;       /* 1 once the last picture was placed */
-    uint64_t mode;           /* as created: VBV_MPEG2, in which the words below are 0, or VBV_MPEG2 + VBV_FILM */
+    uint64_t mode;           /* as created; without VBV_FILM the words below are 0 */
     uint64_t progressive_sequence, low_delay; /* by the first placed picture's headers */
     uint64_t anchor_repeat_first_field;       /* of the last I or P frame placed; 0 before there is one, and after a pair of
                                                * fields, or a field left over, that I or P leads */
@@ -175,9 +186,9 @@ struct cbr_answer {
     uint64_t picture;         /* of a 9, the first is 0 */
     uint64_t coded, expected; /* 0 */
     uint64_t quantiser;       /* placed with; or to encode this picture again with */
-    uint64_t delay;           /* placed: as written into the picture's header */
+    uint64_t delay;           /* placed: as written into the picture's header; of a variable writer 65,535 */
     uint64_t bytes;           /* placed: handed out, the first ones of out */
-    uint64_t stuffing;        /* zeros among these */
+    uint64_t stuffing;        /* zeros among these; of a variable writer 0 */
 };
 
 /* Kinds of picture; the interval from a picture's removal to the next one's, by its structure: repeated fields come on top; how
@@ -215,12 +226,15 @@ uint64_t cbr_create(uint32_t bit_rate_value, uint16_t vbv_buffer_size_value, uin
                     void *state, size_t state_len);
 
 /* The same by the words of a struct cbr_config, with frame_rate_extension_n and _d: code 1 with n 1 and d 4 is 24000/1001 x 2/5
- * frames a second. With mode VBV_MPEG2 + VBV_FILM it is a film writer, whose stream the check of that mode accepts. cbr_create
- * is this with VBV_MPEG2 and both 0. Set every word, by = { .. } say; bytes of config after the struct's are not read.
+ * frames a second. The mode says what the writer is, and the check of that mode accepts its stream: with VBV_FILM a film
+ * writer, which takes repeated fields; with VBV_VARIABLE a variable one, which writes the delay 0xFFFF into each header and no
+ * stuffing, for a line that waits while the buffer is full. cbr_create is this with VBV_MPEG2 and both 0. Set every word, by
+ * = { .. } say; bytes of config after the struct's are not read.
  *
  * In this order: 12 where config_len is under CBR_CONFIG_BYTES, 19 where state_len is under CBR_STATE_BYTES, 12 where mode is
- * none, 12 where a word is out of the range that stands beside it, the code's apart, then 6 where that is, then 12 where the
- * buffer lasts too long. No word is cut: all its 64 bits are tested. A refusal leaves state untouched.
+ * none, 12 where a word is out of the range that stands beside it, the code's apart, then 6 where that is, then, but of a
+ * variable writer, 12 where the buffer lasts too long. No word is cut: all its 64 bits are tested. A refusal leaves state
+ * untouched.
  */
 uint64_t cbr_create_config(const void *config, size_t config_len, void *state, size_t state_len);
 
@@ -228,10 +242,11 @@ uint64_t cbr_create_config(const void *config, size_t config_len, void *state, s
  *
  * Pictures are offered in coding order: an anchor comes before the B pictures that are shown before it. Of a frame coded as two
  * fields each field is a picture of its own, offered with CBR_FIELD. The first picture placed is due three quarters of the
- * buffer's time after its start code, in whole ticks: from there on it may take three quarters of the buffer, and no more.
+ * buffer's time after its start code, in whole ticks: from there on it may take three quarters of the buffer, and no more. At a
+ * variable rate it is due once the buffer is full, and may take all of it, its headers too.
  *
- * CBR_PLACED: the first bytes of out are the stream's next ones, for the line to take at the rate, without a gap. state has
- * gone on.
+ * CBR_PLACED: the first bytes of out are the stream's next ones, for the line to take at the rate, without a gap; at a variable
+ * rate as fast as that while the buffer is not full. state has gone on.
  * CBR_AGAIN (also 0): too large; encode this picture again with answer's quantiser and offer that, or withdraw it. out is
  * untouched.
  * CBR_REFUSED: state and out are untouched, but that 21 closes the pending picture.
@@ -259,11 +274,12 @@ uint64_t cbr_create_config(const void *config, size_t config_len, void *state, s
  * A set cannot start without a sequence header, and a writer's stream has one only at its front: a set that is switched on
  * later waits for the next writer's. So end the channel with last 1 wherever sets are to come in, at each programme say, and
  * begin anew. The two are streams of their own: let the line rest until the last picture is due, its delay after its start
- * code, so that the new stream finds an empty buffer.
+ * code (at a variable rate until the buffer has run empty), so that the new stream finds an empty buffer.
  *
  * Order of the tests: state bytes that hold no writer are 12, before anything else; an answer_len under CBR_ANSWER_BYTES is 19;
  * any other kind, interval or last is 12; then 17, 18, 20, 14, 7 and 9 (headers too long), too large (21 at quantiser 31), 22,
- * 19. An answer place that is too short is never touched.
+ * 19. Of a variable writer 7, 9 and 22 are never: headers that are too long make the picture too large. An answer place that is
+ * too short is never touched.
  */
 uint64_t cbr_offer(void *state, size_t state_len,
                    const uint8_t *headers, size_t headers_len,

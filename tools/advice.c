@@ -1,6 +1,7 @@
 #include "advice.h"
 
 #include "hipokuta.h"
+#include "look.h"
 #include "why.h"
 
 #include <inttypes.h>

@@ -1,5 +1,6 @@
 #include "caution.h"
 
+#include <inttypes.h>
 #include <stdarg.h>
 #include <stdio.h>
 #include <string.h>
@@ -65,7 +66,17 @@ static void of_pictures(const struct answer *a, struct cautions *c)
     const struct look *l = &a->look;
     if (spoils_model(a))
         add(c, "repeated fields", "Pictures that repeat a field: %zu of %zu. This check does not read that: a set may remove what "
-            "follows later than here, and then its buffer may overflow. --film counts them.", l->repeats, l->pictures);
+            "follows later than here, and %s. --film counts them.", l->repeats, l->pictures,
+            is_variable(a->mode) ? "then has more time to fill its buffer" : "then its buffer may overflow");
+}
+
+/* A constant rate that nobody means is refused sooner or later; a variable one is only what the buffer is filled at. */
+static void of_rate(const struct answer *a, struct cautions *c)
+{
+    uint64_t rate = a->declared.bit_rate;
+    if (is_variable(a->mode) && is_no_rate((uint32_t)(rate / CBR_RATE_UNIT)))
+        add(c, "no rate named", "The sequence header's rate is all ones, as encoders write that name none. This check takes it as "
+            "%" PRIu64 " bits a second, and says little more than that each picture fits the buffer.", rate);
 }
 
 /* Bytes that the header at the stream's end must have at least; 0 for a code that is none. */
@@ -152,5 +163,6 @@ void find_cautions(const struct input *in, uint8_t standard, const struct answer
     of_standard(in, standard, c);
     of_headers(in, standard, a, c);
     of_pictures(a, c);
+    of_rate(a, c);
     of_end(in, standard, &a->look, c);
 }

@@ -1,4 +1,4 @@
-/* cbrsend: sends the pictures of an MPEG-2 stream at a constant rate. All judgement is the library's. */
+/* cbrsend: sends the pictures of an MPEG-2 stream at a constant rate, or at a variable one. All judgement is the library's. */
 #define _POSIX_C_SOURCE 200809L
 #include "advice.h"
 #include "caution.h"
@@ -152,11 +152,13 @@ static void print_cautions(const struct job *j)
 
 static void print_sent(const struct job *j, const struct sending *end, const struct vbv_report *report)
 {
-    printf("%s: sent at a constant rate%s\n", j->asked.to, j->in.film ? ", as film" : "");
+    printf("%s: sent at a %s rate%s\n", j->asked.to, j->in.variable ? "variable" : "constant", j->in.film ? ", as film" : "");
     if (j->input.about[0] != 0)
         printf("  From %s: %s.\n", j->in.name, j->input.about);
     print_damage(j);
-    print_report(report);
+    print_report(report, j->in.variable);
+    if (j->in.variable)
+        printf("  %-12s %12d  in every picture: 0xFFFF, as at a variable rate\n", "delay", 0xFFFF);
     printf("  %-12s %12" PRIu64 "  bytes\n", "stuffing", end->stuffing);
     print_left_out(&j->in);
     print_cautions(j);
@@ -261,7 +263,7 @@ static int run(struct job *j)
     if (set_aside_output(j) != 0 || take_in(j->asked.from, j->asked.which, &j->input) != 0)
         return TROUBLE;
     j->in = (struct source){ .name = j->asked.from, .stream = j->input.stream, .unpacked = j->input.about[0] != 0,
-                             .film = j->asked.film };
+                             .film = j->asked.film, .variable = j->asked.variable };
     int status = work(j);
     close_source(&j->in);
     let_go(&j->input);

@@ -68,6 +68,11 @@ int counts_repeats(uint8_t mode)
     return (mode & VBV_FILM) != 0;
 }
 
+int is_variable(uint8_t mode)
+{
+    return (mode & VBV_VARIABLE) != 0;
+}
+
 struct facts facts_of(const struct stream *picture, uint8_t standard)
 {
     uint32_t type = field_value(picture, PICTURE_CODING_TYPE);
@@ -218,6 +223,13 @@ struct declared declared_at(const struct stream *s, size_t sequence, uint8_t sta
     d.bit_rate *= RATE_UNIT;
     d.buffer_bits *= BUFFER_UNIT;
     return d;
+}
+
+int is_no_rate(uint32_t rate)
+{
+    uint32_t ones = (UINT32_C(1) << BIT_RATE.width) - 1;
+    uint32_t all = (UINT32_C(1) << (BIT_RATE.width + BIT_RATE_EXTENSION.width)) - 1;
+    return rate == 0 || rate == ones || rate == all;
 }
 
 struct cadence cadence_of(const struct declared *d, uint8_t mode)

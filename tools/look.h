@@ -27,9 +27,10 @@ struct look {
     size_t end_code;             /* the last sequence end code */
 };
 
-/* Of a mode (hipokuta.h): its standard, and whether it counts repeated fields. */
+/* Of a mode (hipokuta.h): its standard, whether it counts repeated fields, and whether it is of a variable rate. */
 uint8_t standard_of(uint8_t mode);
 int counts_repeats(uint8_t mode);
+int is_variable(uint8_t mode);
 
 /* Looks at a stream; where `of` is not NULL it takes the pictures, as many as an earlier look has counted. */
 void look(const struct stream *s, uint8_t mode, struct look *l, struct shown *of);
@@ -45,6 +46,9 @@ struct declared {
     uint8_t progressive_sequence, low_delay;
 };
 struct declared declared_at(const struct stream *s, size_t sequence, uint8_t standard);
+
+/* Whether a rate, in units of 400 bits a second, is none: 0, or all ones, with the bits of the extension or without. */
+int is_no_rate(uint32_t rate);
 
 /* The cadence that a stream begins with which declares this. */
 struct cadence cadence_of(const struct declared *d, uint8_t mode);

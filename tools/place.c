@@ -158,6 +158,12 @@ static void place_header(const struct question *q, struct place *p)
     }
 }
 
+static uint32_t coded_delay(const struct question *q, size_t picture)
+{
+    struct stream header = part(q->s, q->a->shown[picture].at, q->s->length);
+    return field_value(&header, DELAY);
+}
+
 /* Less what was there: b must not be more. */
 static struct bits less(struct bits a, uint64_t whole)
 {
@@ -172,18 +178,32 @@ static struct bits missing(struct bits a, uint64_t whole)
     return (struct bits){ whole - a.whole - borrow, borrow ? a.parts - a.part : 0, a.parts };
 }
 
-/* Bits delivered at a picture's removal, with so many field periods since the first one's: exact. */
-static struct bits delivered_after(const struct answer *a, uint64_t delay, uint64_t periods)
+/* Bits delivered at the first removal: by its delay, and of a variable rate a full buffer. All bits here are exact. */
+static struct bits delivered_first(const struct answer *a, uint64_t delay)
 {
-    uint64_t over = a->declared.rate_over, under = a->declared.rate_under, rate = a->declared.bit_rate;
-    uint64_t first = delay * rate, field = rate * under, parts = HALF_TICKS * over;
-    uint64_t rest = periods * (field % (2 * over));
-    struct bits b = { BYTE * (a->shown[0].at + CODE_BYTES) + first / TICKS + periods * (field / (2 * over)), 0, parts };
-    b.whole += rest / (2 * over);
-    b.part = first % TICKS * 2 * over + rest % (2 * over) * TICKS;
-    b.whole += b.part / parts;
-    b.part %= parts;
+    uint64_t over = a->declared.rate_over, first = delay * a->declared.bit_rate;
+    if (is_variable(a->mode))
+        return (struct bits){ a->declared.buffer_bits, 0, HALF_TICKS * over };
+    return (struct bits){ BYTE * (a->shown[0].at + CODE_BYTES) + first / TICKS, first % TICKS * 2 * over, HALF_TICKS * over };
+}
+
+/* With those that the rate brings in so many field periods. */
+static struct bits gained(const struct answer *a, struct bits b, uint64_t periods)
+{
+    uint64_t twice = 2 * a->declared.rate_over, field = a->declared.bit_rate * a->declared.rate_under;
+    uint64_t rest = periods * (field % twice);
+    b.whole += periods * (field / twice) + rest / twice;
+    b.part += rest % twice * TICKS;
+    b.whole += b.part / b.parts;
+    b.part %= b.parts;
     return b;
+}
+
+/* At a variable rate no more than fills the buffer, after a picture that ends there. */
+static struct bits capped(const struct answer *a, struct bits b, uint64_t end)
+{
+    uint64_t most = end + a->declared.buffer_bits;
+    return is_variable(a->mode) && b.whole >= most ? (struct bits){ most, 0, b.parts } : b;
 }
 
 /* The expected delay, halves up; for a position that is not beyond the bits delivered. */
@@ -198,6 +218,8 @@ static int agrees(const struct answer *a, const struct place *p, uint64_t positi
 {
     const struct bits *d = &p->delivered;
     int early = d->whole < position;
+    if (is_variable(a->mode))
+        return a->number == VBV_UNDERFLOW && d->whole < end;
     if (a->number == VBV_EARLY || early)
         return a->number == VBV_EARLY && early;
     uint64_t ticks = ticks_to(*d, position, a->declared.bit_rate);
@@ -212,12 +234,14 @@ static int agrees(const struct answer *a, const struct place *p, uint64_t positi
 static void find_time(const struct question *q, struct place *p)
 {
     const struct answer *a = q->a;
-    struct stream first = part(q->s, a->shown[0].at, q->s->length);
     struct cadence cadence = cadence_of(&a->declared, q->mode);
-    uint64_t periods = 0, before = p->picture > 0 ? BYTE * a->shown[p->picture - 1].end : 0;
-    for (size_t n = 0; n < p->picture; n++)
-        periods += lasts(&cadence, a->shown[n].facts);
-    p->delivered = delivered_after(a, field_value(&first, DELAY), periods);
+    uint64_t before = p->picture > 0 ? BYTE * a->shown[p->picture - 1].end : 0;
+    p->due = p->delivered = delivered_first(a, coded_delay(q, 0));
+    for (size_t n = 0; n < p->picture; n++) {
+        uint64_t periods = lasts(&cadence, a->shown[n].facts);
+        p->due = gained(a, p->due, periods);
+        p->delivered = capped(a, gained(a, p->delivered, periods), BYTE * a->shown[n].end);
+    }
     p->timed = p->delivered.whole >= before;
     p->held = less(p->delivered, p->timed ? before : 0);
 }
@@ -265,10 +289,19 @@ static void take_records(const struct question *q)
     free(c.joined);
 }
 
+/* Of 25: the library tells no picture and no delay. */
+static void place_delay(const struct question *q, struct place *p)
+{
+    place_picture(p, q->a, first_refused(q));
+    if (p->in_picture)
+        p->delay = coded_delay(q, p->picture);
+}
+
 static void place_refusal(const struct question *q)
 {
     struct answer *a = q->a;
     struct place *p = &a->place;
+    int of_headers = is_header_refusal(a->number) || a->number == VBV_CONSTANT_RATE;
     *p = (struct place){ .byte = q->s->length };
     if (is_header_refusal(a->number)) {
         place_header(q, p);
@@ -277,14 +310,16 @@ static void place_refusal(const struct question *q)
         p->byte = a->look.sequence;
     } else if (a->number == VBV_VARIABLE_RATE) {
         place_picture(p, a, 0);
+    } else if (a->number == VBV_CONSTANT_RATE) {
+        place_delay(q, p);
     } else if (a->number >= VBV_EARLY && a->number <= VBV_DELAY_MISMATCH) {
         place_picture(p, a, tells_delays(a) ? (size_t)a->refusal.picture : first_refused(q));
         if (p->in_picture)
             measure(q, p);
     }
-    if (q->records || is_header_refusal(a->number))
+    if (q->records || of_headers)
         take_records(q);
-    if (is_header_refusal(a->number) && a->recorded > 0)
+    if (of_headers && a->recorded > 0)
         find_time(q, p);
 }
 
@@ -320,7 +355,7 @@ int ask(const struct stream *s, uint8_t mode, int records, struct answer *a)
 
 struct bits next_time(struct times *t)
 {
-    struct bits at = delivered_after(t->a, t->a->records[0].delay, t->periods);
+    struct bits at = gained(t->a, delivered_first(t->a, t->a->records[0].delay), t->periods);
     t->periods += t->a->records[t->picture++].periods;
     return at;
 }

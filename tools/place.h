@@ -18,7 +18,9 @@ struct place {
     size_t byte;        /* where that header begins, or the picture; the stream's length where there is no place */
     int in_picture;     /* it is a picture's */
     size_t picture;     /* from 0 */
+    uint32_t delay;     /* its coded delay, where that is refused (25) */
     int timed;          /* the picture's removal is told: */
+    struct bits due;    /* its time, as what the rate would bring up to then without a pause */
     struct bits delivered, held; /* bits delivered at it, and what the buffer would hold just before it */
     int measured;       /* too much (9) or too little (7, 10) is told: */
     struct bits over;
@@ -41,7 +43,8 @@ struct answer {
 int ask(const struct stream *s, uint8_t mode, int records, struct answer *a);
 void forget(struct answer *a);
 
-/* The times of an answer's pictures, by its records, one after the other; begins with { a, 0, 0 }. */
+/* The times of an answer's pictures, by its records, one after the other, as what the rate would bring up to then without a
+ * pause; begins with { a, 0, 0 }. */
 struct times {
     const struct answer *a;
     size_t picture;

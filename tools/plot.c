@@ -54,13 +54,33 @@ static const struct removal *removal(const struct drawing *d, size_t n)
     return n < d->count ? d->of + n : &d->bad;
 }
 
+/* Removal n - 1, or the first bit's arrival. */
+static const struct removal *removal_before(const struct drawing *d, size_t n)
+{
+    static const struct removal nothing = { 0, 0, 0, 0, 0 };
+    return n > 0 ? removal(d, n - 1) : &nothing;
+}
+
+/* Whether the buffer is full for a time before removal n, as at a variable rate. */
+static int is_level(const struct drawing *d, size_t n)
+{
+    return d->variable && d->bit_rate > 0 && removal(d, n)->before >= (double)d->buffer_bits;
+}
+
+/* From when on; removal n where it is not. */
+static double level_from(const struct drawing *d, size_t n)
+{
+    const struct removal *last = removal_before(d, n), *next = removal(d, n);
+    double filled = last->seconds + (next->before - last->after) / (double)d->bit_rate;
+    return is_level(d, n) ? within(filled, last->seconds, next->seconds) : next->seconds;
+}
+
 /* What is held at a time after removal n - 1, or after the first bit, and up to removal n. */
 static double held(const struct drawing *d, size_t n, double seconds)
 {
-    static const struct removal nothing = { 0, 0, 0, 0, 0 };
-    const struct removal *last = n > 0 ? removal(d, n - 1) : &nothing, *next = removal(d, n);
-    double apart = next->seconds - last->seconds;
-    return last->after + (apart > 0 ? (next->before - last->after) * (seconds - last->seconds) / apart : 0);
+    const struct removal *last = removal_before(d, n), *next = removal(d, n);
+    double rising = level_from(d, n) - last->seconds, share = rising > 0 ? (seconds - last->seconds) / rising : 0;
+    return last->after + (next->before - last->after) * within(share, 0, 1);
 }
 
 static int shows_refused(const struct sheet *s)
@@ -152,8 +172,8 @@ static void heading(const struct sheet *s)
     fprintf(s->to, "</text>\n<text x='%d' y='%d'><tspan font-weight='bold'%s>", MARGIN, FACTS,
             d->mark != NULL ? " fill='#c00'" : "");
     put_shortened(s->to, d->verdict, LETTERS * 1.1, WORDS_ROOM);
-    fprintf(s->to, "</tspan> <tspan dx='8'>%s bits a second, buffer %s bits, ", grouped(d->bit_rate, rate),
-            grouped(d->buffer_bits, buffer));
+    fprintf(s->to, "</tspan> <tspan dx='8'>%s bits a second%s, buffer %s bits, ", grouped(d->bit_rate, rate),
+            d->variable ? " at most (variable rate)" : "", grouped(d->buffer_bits, buffer));
     put_shortened(s->to, d->frame_rate, LETTERS, 100);
     fprintf(s->to, " frames a second%s", d->film ? ", repeated fields counted" : "");
     if (s->end - s->first > 1)
@@ -225,16 +245,28 @@ static void time_axis(const struct sheet *s)
             (s->left + s->right) / 2, s->bottom + 42);
 }
 
+/* The place where the rise to removal n becomes level, in a path that begins at a time. */
+static void level(const struct sheet *s, size_t n, double from)
+{
+    double seconds = level_from(s->d, n);
+    if (is_level(s->d, n) && seconds > from && seconds < s->until)
+        fprintf(s->to, "L%.2f %.2f\n", across(s, seconds), up(s, removal(s->d, n)->before));
+}
+
 /* Up to each removal, then straight down. */
 static void curve(const struct sheet *s)
 {
     const struct drawing *d = s->d;
     fprintf(s->to, "<path id='curve' fill='none' stroke='#0a4a8f' stroke-width='1.2' stroke-linejoin='bevel' d='M%.2f %.2f\n",
             across(s, s->from), up(s, held(d, s->first, s->from)));
-    for (size_t n = s->first; n < s->good; n++)
+    for (size_t n = s->first; n < s->good; n++) {
+        level(s, n, s->from);
         fprintf(s->to, "L%.2f %.2fV%.2f\n", across(s, d->of[n].seconds), up(s, d->of[n].before), up(s, d->of[n].after));
-    if (s->end < removals(d))
+    }
+    if (s->end < removals(d)) {
+        level(s, s->end, s->from);
         fprintf(s->to, "L%.2f %.2f\n", across(s, s->until), up(s, held(d, s->end, s->until)));
+    }
     fprintf(s->to, "'/>\n");
 }
 
@@ -299,8 +331,10 @@ static void band(const struct sheet *s)
 static void rise(const struct sheet *s)
 {
     const struct removal *next = removal(s->d, s->first);
-    fprintf(s->to, "<path id='rise' fill='none' stroke='#0a4a8f' d='M%.2f %.2fL%.2f %.2f'/>\n", across(s, s->from),
-            up(s, held(s->d, s->first, s->from)), across(s, next->seconds), up(s, next->before));
+    fprintf(s->to, "<path id='rise' fill='none' stroke='#0a4a8f' d='M%.2f %.2f", across(s, s->from),
+            up(s, held(s->d, s->first, s->from)));
+    level(s, s->first, s->from);
+    fprintf(s->to, "L%.2f %.2f'/>\n", across(s, next->seconds), up(s, next->before));
 }
 
 /* The two bounds: an empty buffer and a full one. */
@@ -371,8 +405,10 @@ static void bad_tooth(const struct sheet *s)
     const struct drawing *d = s->d;
     double start = d->count > s->first ? d->of[d->count - 1].seconds : s->from, full = (double)d->buffer_bits;
     double passed = reached(d, full), left = reached(d, s->highest), x = across(s, d->bad.seconds);
-    fprintf(s->to, "<path id='last' stroke='#0a4a8f' stroke-width='1.2' d='M%.2f %.2fL%.2f %.2f'/>\n", across(s, start),
-            up(s, held(d, d->count, start)), across(s, passed), up(s, held(d, d->count, passed)));
+    fprintf(s->to, "<path id='last' fill='none' stroke='#0a4a8f' stroke-width='1.2' d='M%.2f %.2f", across(s, start),
+            up(s, held(d, d->count, start)));
+    level(s, d->count, start);
+    fprintf(s->to, "L%.2f %.2f'/>\n", across(s, passed), up(s, held(d, d->count, passed)));
     fprintf(s->to, "<g id='refused' stroke='#c00' stroke-width='1.5'><path d='M%.2f %.2fL%.2f %.2f'/>", across(s, passed),
             up(s, held(d, d->count, passed)), across(s, left), up(s, held(d, d->count, left)));
     fprintf(s->to, "<path stroke-dasharray='4 3' d='M%.2f %.2fH%.2f'/><path d='M%.2f %.2fV%.2f'/></g>\n", across(s, left),
@@ -437,7 +473,8 @@ static void legend(const struct sheet *s, const char *types)
                   "from the least after a removal to the most before one, in each column (--from and --to draw a part)");
     } else {
         fprintf(s->to, "<path fill='none' stroke='#0a4a8f' d='M%.2f %.2fl12 -10v10l12 -10v10'/>\n", x, y + 5);
-        x = entry(s, x + 32, y, "bits held, falling where a picture is removed");
+        x = entry(s, x + 32, y, s->d->variable ? "bits held, falling where a picture is removed, level while full"
+                                               : "bits held, falling where a picture is removed");
     }
     if (types != NULL)
         x = entry(s, x, y, types);

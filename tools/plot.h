@@ -19,6 +19,7 @@ struct drawing {
     uint64_t bit_rate, buffer_bits;
     const char *frame_rate; /* "25", "30000/1001" */
     int film;               /* repeated fields are counted */
+    int variable;           /* the buffer is filled at the rate while it is not full, else by what comes without a pause */
     const struct removal *of;
     size_t count;
     const char *mark;   /* words of the refusal, NULL for accepted */
@@ -26,9 +27,9 @@ struct drawing {
     double from, to;    /* seconds; to <= from: all */
 };
 
-/* Draws what the buffer holds, rising to each removal and falling there, between empty and full: a curve, or where pictures
- * are too many for one a band, in each column from the least after a removal to the most before one. A refused picture is
- * marked, with its words. */
+/* Draws what the buffer holds, rising to each removal and falling there, between empty and full, at a variable rate level while
+ * it is full: a curve, or where pictures are too many for one a band, in each column from the least after a removal to the most
+ * before one. A refused picture is marked, with its words. */
 void plot(FILE *to, const struct drawing *d);
 
 #endif

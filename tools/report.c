@@ -18,8 +18,12 @@ void print_numbers(const struct vbv_report *r)
     print_share("max_before", r->max_before, r->buffer_bits, "the most held before a removal");
 }
 
-void print_report(const struct vbv_report *r)
+void print_report(const struct vbv_report *r, int variable)
 {
     print_numbers(r);
-    printf("  By the model, a set with this buffer never overflows and never runs dry on this stream.\n");
+    if (variable)
+        printf("  By the model, a set with this buffer, full at first and then filled at this rate while it is not full, never\n"
+               "  runs dry on this stream.\n");
+    else
+        printf("  By the model, a set with this buffer never overflows and never runs dry on this stream.\n");
 }

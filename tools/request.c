@@ -10,21 +10,23 @@
 #include <string.h>
 
 static const char help[] =
-    "usage: cbrsend [--film] [-b RATE] [-B BUFFER] [--stream N] IN OUT\n"
-    "       cbrsend --least-rate [--film] [-B BUFFER] [--stream N] IN\n"
+    "usage: cbrsend [--film] [--variable] [-b RATE] [-B BUFFER] [--stream N] IN OUT\n"
+    "       cbrsend --least-rate [--film] [--variable] [-B BUFFER] [--stream N] IN\n"
     "\n"
     "Takes the pictures of the MPEG-2 video in IN, made at whatever rate, and writes them to OUT at a constant one: with new\n"
-    "delays, and stuffing where the buffer would overflow. OUT is checked before it takes the place of an older OUT, and when\n"
-    "something is refused or goes wrong the older one stays. Pictures are not encoded again: where one is too large, it is\n"
-    "said by how much, and which commands would do. IN is an elementary stream, a transport stream or a program stream; OUT\n"
-    "is an elementary stream. - is standard input or standard output. What is left out of IN: SENDING.md (in docs/, or\n"
-    "where this is installed in share/doc/hipokuta/).\n"
+    "delays, and stuffing where the buffer would overflow; or with --variable at a variable one. OUT is checked before it takes\n"
+    "the place of an older OUT, and when something is refused or goes wrong the older one stays. Pictures are not encoded again:\n"
+    "where one is too large, it is said by how much, and which commands would do. IN is an elementary stream, a transport stream\n"
+    "or a program stream; OUT is an elementary stream. - is standard input or standard output. What is left out of IN:\n"
+    "SENDING.md (in docs/, or where this is installed in share/doc/hipokuta/).\n"
     "\n"
     "  -b RATE       bits a second, a multiple of 400 from 400 to 104857200, such as 4000000, 4000k or 4M. Without it, what\n"
     "                IN's sequence header says.\n"
     "  -B BUFFER     the set's buffer in units of 16384 bits, 1 to 1023. Without it, what IN's sequence header says.\n"
     "  --film        takes pictures that repeat a field (repeat_first_field), which are refused otherwise, and counts the time\n"
     "                that they last; vbvreport --film checks OUT.\n"
+    "  --variable    writes OUT for a variable rate, as discs have it: the delay 0xFFFF in each picture and no stuffing. The\n"
+    "                buffer is then filled at RATE while it is not full.\n"
     "  --least-rate  writes nothing but the least rate that carries IN with this buffer, on standard output.\n"
     "  --stream N    which video of a transport or program stream.\n"
     "  --version     prints the version.\n"
@@ -33,10 +35,11 @@ static const char help[] =
     "Exit status: 0 sent, or a least rate found; 1 refused, or no rate found; 2 bad use, or something that cannot be read or\n"
     "written, or that is no video. OUT is written only with 0.\n";
 
-enum { LEAST_RATE = 256, FILM, STREAM, VERSION };
+enum { LEAST_RATE = 256, FILM, VARIABLE, STREAM, VERSION };
 
 static const struct option options[] = {
     { "film", no_argument, NULL, FILM },
+    { "variable", no_argument, NULL, VARIABLE },
     { "least-rate", no_argument, NULL, LEAST_RATE },
     { "stream", required_argument, NULL, STREAM },
     { "version", no_argument, NULL, VERSION },
@@ -148,6 +151,9 @@ static int read_option(int option, char **words, struct request *r, int *least)
     case FILM:
         r->film = 1;
         return GO;
+    case VARIABLE:
+        r->variable = 1;
+        return GO;
     case LEAST_RATE:
         *least = 1;
         return GO;
@@ -164,8 +170,8 @@ static int read_option(int option, char **words, struct request *r, int *least)
 static int bad_use(const char *what)
 {
     fprintf(stderr, "%s: %s\n", program, what);
-    fprintf(stderr, "usage: cbrsend [--film] [-b RATE] [-B BUFFER] IN OUT, or cbrsend --least-rate [--film] [-B BUFFER] IN   "
-            "(--help says more)\n");
+    fprintf(stderr, "usage: cbrsend [--film] [--variable] [-b RATE] [-B BUFFER] IN OUT, or cbrsend --least-rate [--film] "
+            "[--variable] [-B BUFFER] IN   (--help says more)\n");
     return 2;
 }
 
@@ -205,6 +211,8 @@ void print_command(const struct request *r, struct setting at)
     print_word(r->call);
     if (r->film)
         printf(" --film");
+    if (r->variable)
+        printf(" --variable");
     if (r->to == NULL)
         printf(" --least-rate -B %" PRIu32, at.buffer);
     else

@@ -10,6 +10,7 @@ struct request {
     const char *from, *to; /* to is NULL for --least-rate */
     struct setting at; /* as asked for */
     int film;          /* repeated fields are sent too */
+    int variable;      /* sent at a variable rate */
 };
 
 /* Reads the words. Returns GO, or the exit status where there is nothing more to do. */

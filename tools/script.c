@@ -42,6 +42,11 @@ static const char *json_type(uint8_t type)
     return type < sizeof types / sizeof *types ? types[type] : types[0];
 }
 
+static const char *json_flag(int is)
+{
+    return is ? "true" : "false";
+}
+
 static void json_pictures(const struct answer *a)
 {
     struct times times = { a, 0, 0 };
@@ -85,8 +90,8 @@ static void json_place(const struct told *t)
     else
         printf(",\"picture\":null,\"type\":null");
     if (p->timed)
-        printf(",\"time\":\"%s\",\"seconds\":%.6f", clock_time(p->delivered, a->declared.bit_rate, time),
-               in_seconds(p->delivered, a->declared.bit_rate));
+        printf(",\"time\":\"%s\",\"seconds\":%.6f", clock_time(p->due, a->declared.bit_rate, time),
+               in_seconds(p->due, a->declared.bit_rate));
     else
         printf(",\"time\":null,\"seconds\":null");
 }
@@ -128,8 +133,8 @@ void print_json(const struct told *t, int records)
         string(t->in->about);
     else
         printf("null");
-    printf(",\"standard\":%d,\"film\":%s,\"verdict\":\"%s\",\"report\":", t->standard, counts_repeats(a->mode) ? "true" : "false",
-           a->number == 0 ? "accepted" : "refused");
+    printf(",\"standard\":%d,\"film\":%s,\"variable\":%s,\"verdict\":\"%s\",\"report\":", t->standard,
+           json_flag(counts_repeats(a->mode)), json_flag(is_variable(a->mode)), a->number == 0 ? "accepted" : "refused");
     if (a->number == 0)
         json_report(&a->report);
     else
@@ -199,7 +204,7 @@ static void csv_refusal(const struct told *t)
         printf(",%zu", p->byte);
     else
         printf(",");
-    printf(",%s", p->timed ? clock_time(p->delivered, a->declared.bit_rate, text) : "");
+    printf(",%s", p->timed ? clock_time(p->due, a->declared.bit_rate, text) : "");
     if (p->in_picture)
         printf(",%c", type_letter(a->shown[p->picture].type));
     else

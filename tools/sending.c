@@ -70,13 +70,6 @@ struct setting declared(const struct source *in)
                              header_value(in, VBV_BUFFER_SIZE, VBV_BUFFER_SIZE_EXTENSION) };
 }
 
-int is_no_rate(uint32_t rate)
-{
-    uint32_t ones = (UINT32_C(1) << BIT_RATE.width) - 1;
-    uint32_t all = (UINT32_C(1) << (BIT_RATE.width + BIT_RATE_EXTENSION.width)) - 1;
-    return rate == 0 || rate == ones || rate == all;
-}
-
 /* Puts a setting into the first sequence header and its extension. */
 static void declare(struct source *in, struct setting at)
 {
@@ -96,7 +89,7 @@ struct frame_rate {
 
 uint8_t mode_of(const struct source *in)
 {
-    return in->film ? VBV_MPEG2 + VBV_FILM : VBV_MPEG2;
+    return (uint8_t)(VBV_MPEG2 + (in->film ? VBV_FILM : 0) + (in->variable ? VBV_VARIABLE : 0));
 }
 
 /* Nothing can be encoded again here, so steering does not matter: any quantiser and targets will do. */
@@ -203,7 +196,7 @@ struct sending send_first(struct source *in)
     return send_some(in, (struct setting){ CBR_MOST_RATE, CBR_MOST_BUFFER }, NULL, 1);
 }
 
-/* By the library: which is the largest does not depend on mode, frame rate and quantiser. */
+/* By the library: which is the largest at a constant rate does not depend on film, frame rate and quantiser. */
 uint32_t most_buffer(uint32_t rate)
 {
     struct cbr_state w;
@@ -267,13 +260,14 @@ struct aim {
     uint64_t too_high;
 };
 
-/* With both the buffer is no larger than the rate fills in the longest delay, 65,534 ticks of 1/90,000 s. */
-static struct setting with(const struct aim *aim, struct setting at, uint32_t value)
+/* With both the buffer is no larger than a constant rate fills in the longest delay, 65,534 ticks of 1/90,000 s. */
+static struct setting with(const struct source *in, const struct aim *aim, struct setting at, uint32_t value)
 {
     uint64_t filled = (uint64_t)value * CBR_RATE_UNIT * 65534 / 90000 / CBR_BUFFER_UNIT;
+    int is_cut = aim->what == BOTH && !in->variable && filled < at.buffer;
     if (aim->what == A_BUFFER)
         return (struct setting){ at.rate, value };
-    return (struct setting){ value, aim->what == BOTH && filled < at.buffer ? (uint32_t)filled : at.buffer };
+    return (struct setting){ value, is_cut ? (uint32_t)filled : at.buffer };
 }
 
 static struct trial least(struct source *in, struct setting at, struct aim aim)
@@ -281,7 +275,7 @@ static struct trial least(struct source *in, struct setting at, struct aim aim)
     struct search s = { .low = 1, .high = aim.most, .step = 1 };
     struct trial found = { { 0, 0 }, { .number = VBV_PARAMETER } };
     for (uint32_t value = aim.likely; s.low <= s.high; value = s.low <= s.high ? next_try(&s) : 0) {
-        struct trial tried = { with(&aim, at, value), { .number = 0 } };
+        struct trial tried = { with(in, &aim, at, value), { .number = 0 } };
         in->progress.tries++;
         tried.end = send_all(in, tried.at, NULL);
         if (!is_of_setting(tried.end.number))
@@ -326,7 +320,7 @@ static uint32_t likely_rate(struct source *in, uint32_t buffer)
     return between(most / CBR_RATE_UNIT + 1, CBR_MOST_RATE);
 }
 
-/* Too high is only a rate that brings more than the buffer from one picture to the next. */
+/* Too high is only a constant rate that brings more than the buffer from one picture to the next. */
 struct trial least_rate(struct source *in, struct setting at)
 {
     return least(in, at, (struct aim){ A_RATE, likely_rate(in, at.buffer), CBR_MOST_RATE, CBR_STUFFING });
@@ -338,7 +332,7 @@ struct trial least_of_both(struct source *in, uint32_t largest)
     return least(in, at, (struct aim){ BOTH, likely_rate(in, largest), CBR_MOST_RATE, CBR_STUFFING });
 }
 
-/* Too large is only a buffer that takes longer to fill than a delay can say. */
+/* Too large is only a buffer that a constant rate takes longer to fill than a delay can say. */
 struct trial least_buffer(struct source *in, struct setting at)
 {
     return least(in, at, (struct aim){ A_BUFFER, between(at.buffer, CBR_MOST_BUFFER), CBR_MOST_BUFFER, VBV_PARAMETER });

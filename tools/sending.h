@@ -17,6 +17,7 @@ struct source {
     struct stream stream;
     int unpacked; /* from a container */
     int film;     /* repeated fields are sent too */
+    int variable; /* sent at a variable rate */
     struct pictures pictures;
     size_t header, extension; /* the first sequence header and its extension, among the kept headers; their length for none */
     uint8_t *placed;          /* memory for a placed picture */
@@ -53,9 +54,6 @@ uint8_t mode_of(const struct source *in);
 
 /* The setting that the stream declares. */
 struct setting declared(const struct source *in);
-
-/* Whether a rate is none: 0, or all ones, with the bits of the extension or without. */
-int is_no_rate(uint32_t rate);
 
 /* Sends the whole stream, or what comes before a refusal; for a trial `to` is NULL. */
 struct sending send_all(struct source *in, struct setting at, FILE *to);

@@ -28,16 +28,20 @@ enum form { WORDS, JSON, CSV };
 static const double LAST_SECOND = 1e15;
 
 static const char help[] =
-    "usage: vbvreport [-1|-2] [--film] [-r] [-p PLOT.svg [--from T] [--to T]] [--json|--csv] [--strict] [--stream N] FILE...\n"
+    "usage: vbvreport [-1|-2] [--film] [--constant|--variable] [-r] [-p PLOT.svg [--from T] [--to T]] [--json|--csv] [--strict]\n"
+    "                 [--stream N] FILE...\n"
     "\n"
-    "Checks the MPEG video stream in each FILE against the buffer model of ISO/IEC 13818-2, Annex C, at a constant rate, and\n"
-    "prints the buffer report; or the first refusal, where in the stream it is, and what it means for the cabin set. FILE is an\n"
-    "elementary stream, or a transport or program stream or another container (where this was built with libavformat); - is\n"
-    "standard input. Cautions below the verdict tell of what the check does not read, such as repeated fields without --film,\n"
-    "and of signs that the stream is not whole.\n"
+    "Checks the MPEG video stream in each FILE against the buffer model of ISO/IEC 13818-2, Annex C, and prints the buffer\n"
+    "report; or the first refusal, where in the stream it is, and what it means for the cabin set. MPEG-2 whose first delay is\n"
+    "0xFFFF is checked at a variable rate, and all else at a constant one. FILE is an elementary stream, or a transport or program\n"
+    "stream or another container (where this was built with libavformat); - is standard input. Cautions below the verdict tell of\n"
+    "what the check does not read, such as repeated fields without --film, and of signs that the stream is not whole.\n"
     "\n"
     "  -1, -2             the stream is MPEG-1, MPEG-2. Without either its headers tell.\n"
     "  --film             counts repeated fields (repeat_first_field), as film on 30000/1001 channels has them; MPEG-2 only.\n"
+    "  --constant         checks at a constant rate, whatever the delays: 0xFFFF in the first picture is then refusal 5.\n"
+    "  --variable         checks at a variable rate, as of disc material: the buffer is full at the first removal, is filled at\n"
+    "                     the declared rate, and waits while it is full; MPEG-2 only. Any delay but 0xFFFF is then refusal 25.\n"
     "  -r, --records      lists a record for each picture: coded and expected delay in ticks of 1/90,000 s, bits of data, bits in\n"
     "                     the buffer just before the picture is removed, and field periods up to the next removal, 1 for a field\n"
     "                     picture and 2 for a frame (20 ms each at 25 frames a second), with --film 1, 2, 3, 4 or 6; of a refused\n"
@@ -57,8 +61,12 @@ static const char help[] =
     "Exit status: 0 accepted, 1 refused, 2 bad use, or a file that cannot be read or written or is no MPEG video; 3 accepted with\n"
     "cautions, under --strict. Of several files the worst: 2, then 1, then 3.\n";
 
+/* At which rate a stream is checked: as its first delay tells, or as asked for. */
+enum rate { BY_DELAYS, CONSTANT, VARIABLE };
+
 struct options {
     uint8_t standard; /* 0: as the headers tell */
+    enum rate rate;
     int film, records, strict;
     enum form form;
     const char *picture, *which;
@@ -109,7 +117,7 @@ static int bad_removal(const struct answer *a, struct removal *r)
     if (!p->in_picture || !p->timed)
         return 0;
     double held = in_bits(p->held);
-    *r = (struct removal){ in_seconds(p->delivered, a->declared.bit_rate), held, held - (double)data_bits(a, p->picture),
+    *r = (struct removal){ in_seconds(p->due, a->declared.bit_rate), held, held - (double)data_bits(a, p->picture),
                            type_letter(a->shown[p->picture].type), p->picture };
     return 1;
 }
@@ -149,7 +157,7 @@ static int draw_to(FILE *file, const struct told *t, const struct options *o)
     struct removal *of = calloc(a->recorded + 1, sizeof *of);
     struct drawing d = { .name = t->name, .verdict = verdict_words(t), .bit_rate = a->declared.bit_rate,
                          .buffer_bits = a->declared.buffer_bits, .frame_rate = frame_rate(&a->declared, rate), .film = o->film,
-                         .of = of, .count = a->recorded, .from = o->from,
+                         .variable = is_variable(a->mode), .of = of, .count = a->recorded, .from = o->from,
                          .to = o->to >= 0 ? o->to : o->from > 0 ? LAST_SECOND : 0 };
     if (of == NULL)
         return trouble(o->picture, "no memory for the drawing");
@@ -216,20 +224,36 @@ static int no_answer(const char *name, const char *why, const struct options *o)
     return TROUBLE;
 }
 
+/* Asks in the mode that is wanted; where the delays are to tell, and the first is 0xFFFF, once more at a variable rate. Returns
+ * 0, or 1 where memory does not suffice. */
+static int ask_wanted(const struct input *in, uint8_t standard, const struct options *o, struct answer *a)
+{
+    int records = o->records || o->picture != NULL || o->form == CSV;
+    uint8_t mode = (uint8_t)(standard + (o->film ? VBV_FILM : 0)), variable = (uint8_t)(mode + VBV_VARIABLE);
+    int bad = ask(&in->stream, o->rate == VARIABLE ? variable : mode, records, a);
+    if (bad || o->rate != BY_DELAYS || standard == VBV_MPEG1 || a->number != VBV_VARIABLE_RATE)
+        return bad;
+    forget(a);
+    return ask(&in->stream, variable, records, a);
+}
+
+static int can_be_of_a_stream(uint64_t number)
+{
+    return vbv_refusal_name(number) != NULL && (number < VBV_RECORD_PLACES || number == VBV_CONSTANT_RATE);
+}
+
 /* Asks the library about what was taken in. Returns NULL, or why there is no answer. */
 static const char *asked(const struct input *in, uint8_t standard, const struct options *o, struct answer *a)
 {
-    int records = o->records || o->picture != NULL || o->form == CSV;
-    uint8_t mode = (uint8_t)(standard + (o->film ? VBV_FILM : 0));
     if (standard == 0)
         return "its headers do not tell its standard; say -1 (MPEG-1) or -2 (MPEG-2)";
     if (o->film && standard == VBV_MPEG1)
         return "MPEG-1, and --film is for MPEG-2: MPEG-1 repeats no fields";
-    if (ask(&in->stream, mode, records, a) != 0)
+    if (o->rate == VARIABLE && standard == VBV_MPEG1)
+        return "MPEG-1, and --variable is for MPEG-2: MPEG-1 is checked at a constant rate only";
+    if (ask_wanted(in, standard, o, a) != 0)
         return "no memory for its pictures";
-    if (a->number != 0 && (a->number >= VBV_RECORD_PLACES || vbv_refusal_name(a->number) == NULL))
-        return "the library gave a refusal that no stream can cause";
-    return NULL;
+    return a->number == 0 || can_be_of_a_stream(a->number) ? NULL : "the library gave a refusal that no stream can cause";
 }
 
 static int check(const char *name, const struct input *in, const struct options *o)
@@ -244,7 +268,7 @@ static int check(const char *name, const struct input *in, const struct options 
         trouble(name, why);
         status = no_answer(name, why, o);
     } else {
-        struct told t = { name, o->which, in, standard, &a, &cautions };
+        struct told t = { name, o->which, in, standard, o->rate == BY_DELAYS, &a, &cautions };
         find_cautions(in, standard, &a, &cautions);
         end_progress();
         status = tell(&t, o);
@@ -271,7 +295,8 @@ static int check_file(const char *name, const struct options *o)
 static int bad_use(const char *what)
 {
     fprintf(stderr, "vbvreport: %s\n", what);
-    fprintf(stderr, "usage: vbvreport [-1|-2] [--film] [-r] [-p PLOT.svg] [--json|--csv] FILE...   (--help says more)\n");
+    fprintf(stderr, "usage: vbvreport [-1|-2] [--film] [--constant|--variable] [-r] [-p PLOT.svg] [--json|--csv] FILE...   "
+            "(--help says more)\n");
     return TROUBLE;
 }
 
@@ -295,10 +320,12 @@ static double seconds(const char *text)
     return -1;
 }
 
-enum { FROM = 256, TO, FILM, JSON_FORM, CSV_FORM, STRICT, STREAM, VERSION };
+enum { FROM = 256, TO, FILM, AT_CONSTANT, AT_VARIABLE, JSON_FORM, CSV_FORM, STRICT, STREAM, VERSION };
 
 static const struct option long_options[] = {
     { "film", no_argument, NULL, FILM },
+    { "constant", no_argument, NULL, AT_CONSTANT },
+    { "variable", no_argument, NULL, AT_VARIABLE },
     { "records", no_argument, NULL, 'r' },
     { "plot", required_argument, NULL, 'p' },
     { "from", required_argument, NULL, FROM },
@@ -319,6 +346,11 @@ static const char *take_option(struct options *o, int option)
         int other = o->standard != 0 && o->standard != option - '0';
         o->standard = (uint8_t)(option - '0');
         return other ? "-1 and -2 exclude each other" : NULL;
+    }
+    if (option == AT_CONSTANT || option == AT_VARIABLE) {
+        enum rate wanted = option == AT_CONSTANT ? CONSTANT : VARIABLE, before = o->rate;
+        o->rate = wanted;
+        return before != BY_DELAYS && before != wanted ? "--constant and --variable exclude each other" : NULL;
     }
     if (option == JSON_FORM || option == CSV_FORM) {
         int other = o->form != WORDS;
@@ -358,6 +390,8 @@ static const char *wrong(const struct options *o, int files)
         return "name a file, or - for standard input";
     if (o->film && o->standard == VBV_MPEG1)
         return "--film is for MPEG-2: leave out -1";
+    if (o->rate == VARIABLE && o->standard == VBV_MPEG1)
+        return "--variable is for MPEG-2: leave out -1";
     if (files > 1 && o->picture != NULL)
         return "-p draws one file";
     if ((o->from > 0 || o->to >= 0) && o->picture == NULL)

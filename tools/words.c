@@ -52,6 +52,8 @@ static void print_picture(const struct told *t)
     printf("  picture %zu (the first is 0)", a->place.picture);
     if (tells_delays(a))
         printf(", coded delay %" PRIu64 ", expected delay %" PRIu64, a->refusal.coded, a->refusal.expected);
+    if (a->number == VBV_CONSTANT_RATE)
+        printf(", coded delay %" PRIu32, a->place.delay);
     printf("\n  ");
     if (a->place.header != NULL)
         printf("its %s, ", a->place.header);
@@ -59,7 +61,7 @@ static void print_picture(const struct told *t)
         printf("of type %c, ", type_letter(a->shown[a->place.picture].type));
     print_byte(t);
     if (a->place.timed)
-        printf(", due at %s", clock_time(a->place.delivered, a->declared.bit_rate, time));
+        printf(", due at %s", clock_time(a->place.due, a->declared.bit_rate, time));
     printf("\n");
 }
 
@@ -113,13 +115,38 @@ static void print_remedy(const struct told *t)
     }
 }
 
-/* Delays that count repeated fields differ from those of a check that does not, in which pictures are due earlier. */
-static void print_film(const struct told *t)
+/* A command that asks again, with this word. */
+static void print_command(const struct told *t, const char *word)
 {
-    printf("  Its pictures repeat fields, which this check does not count. With these counted: vbvreport --film%s",
-           t->in->standard == t->standard ? "" : " -2");
+    printf("vbvreport %s%s", word, t->in->standard == t->standard ? "" : " -2");
     print_input(t);
     printf("\n");
+}
+
+static void print_film(const struct told *t)
+{
+    printf("  Its pictures repeat fields, which this check does not count. With these counted: ");
+    print_command(t, "--film");
+}
+
+/* Whether repeated fields may be the cause. Delays that count them differ from those of a check that does not, in which pictures
+ * are due earlier; at a variable rate it is their time alone. */
+static int may_be_film(const struct answer *a)
+{
+    int is_late = is_variable(a->mode) ? a->number == VBV_UNDERFLOW : a->number == VBV_EARLY || a->number == VBV_DELAY_MISMATCH;
+    return is_late && spoils_model(a);
+}
+
+/* A stream that is of neither kind, or of the other. */
+static void print_constant(const struct told *t)
+{
+    if (t->answer->place.in_picture && t->answer->place.picture > 0) {
+        printf("  The delays before it are 0xFFFF, as at a variable rate; this one is not, as at a constant rate. The stream is neither:\n"
+               "  at a constant rate it is refused with 5. Was another stream joined on here?\n");
+    } else {
+        printf("  Its first delay claims a constant rate. The check of that: ");
+        print_command(t, counts_repeats(t->answer->mode) ? "--film --constant" : "--constant");
+    }
 }
 
 static void print_refusal(const struct told *t)
@@ -133,9 +160,11 @@ static void print_refusal(const struct told *t)
         print_sequence(t);
     if (a->number >= VBV_EARLY && a->number <= VBV_DELAY_MISMATCH)
         print_frame_rate(&a->declared);
-    int film = (a->number == VBV_EARLY || a->number == VBV_DELAY_MISMATCH) && spoils_model(a);
+    int film = may_be_film(a);
     if (film)
         print_film(t);
+    if (a->number == VBV_CONSTANT_RATE)
+        print_constant(t);
     printf("  %s%s\n", film ? "If that refuses it too: " : "", vbv_refusal_text(a->number));
     if (a->number == VBV_VARIABLE_RATE)
         print_remedy(t);
@@ -148,8 +177,11 @@ static void print_verdict(const struct told *t)
         printf(": %s\n", t->in->about);
     }
     put_name(stdout, t->name);
-    printf(": MPEG-%d%s, %s\n", t->standard, counts_repeats(t->answer->mode) ? " film" : "",
-           t->answer->number == 0 ? "accepted" : "refused");
+    printf(": MPEG-%d%s%s, %s\n", t->standard, counts_repeats(t->answer->mode) ? " film" : "",
+           is_variable(t->answer->mode) ? " at a variable rate" : "", t->answer->number == 0 ? "accepted" : "refused");
+    if (is_variable(t->answer->mode) && t->by_delays)
+        printf("  %s delay is 0xFFFF, so this is the check of a variable rate. For a line of constant rate: vbvreport --constant\n",
+               t->answer->number == VBV_CONSTANT_RATE ? "The first" : "Every");
 }
 
 void print_words(const struct told *t, int records)
@@ -161,7 +193,7 @@ void print_words(const struct told *t, int records)
     else if (spoils_model(a))
         print_numbers(&a->report);
     else
-        print_report(&a->report);
+        print_report(&a->report, is_variable(a->mode));
     for (size_t i = 0; i < t->cautions->count; i++)
         printf("  caution: %s\n", t->cautions->of[i].words);
     if (records)

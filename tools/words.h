@@ -10,6 +10,7 @@ struct told {
     const char *which; /* --stream's word, or NULL */
     const struct input *in;
     uint8_t standard; /* of the mode that the answer was asked in */
+    int by_delays;    /* the rate's kind, constant or variable, was not asked for: the first delay told it */
     const struct answer *answer;
     const struct cautions *cautions;
 };

@@ -2,10 +2,10 @@
  *
  *     drawings              the kinds of drawing there are, a line each
  *     drawings KIND         one of them, as an SVG
- *     drawings KIND list    what it is of: bits of the buffer, the time asked for, 1 if refused; then each removal's time, bits
- *                           before and after, and type, the refused one last
+ *     drawings KIND list    what it is of: bits of the buffer, the time asked for, 1 if refused, bits a second, 1 at a variable
+ *                           rate; then each removal's time, bits before and after, and type, the refused one last
  *     drawings FILE [list]  that of a file, which must be an MPEG-2 stream that is accepted; after "film:" one with repeated
- *                           fields counted
+ *                           fields counted, after "variable:" or "film:variable:" at a variable rate
  *
  * Exit status 2: bad use, or no such kind or stream. */
 #include "hipokuta.h"
@@ -70,9 +70,25 @@ static const struct kind kinds[] = {
     { "nearly-full", 300, 4000000, 1835008, NULL, 0, 0, 0, 0, 1, "nearly-full.m2v" },
     { "long-name", 50, 4000000, 1835008, NULL, 0, 0, 0, 0, .8, LONG_NAME },
     { "odd-name", 50, 4000000, 1835008, NULL, 0, 0, 0, 0, .8, ODD_NAME },
+    { "variable", 60, 6000000, 1835008, NULL, 0, 0, 0, 0, 1, "variable.m2v" },
+    { "variable-fast", 30, 104857200, 49152, NULL, 0, 0, 0, 0, 1, "variable-fast.m2v" },
+    { "variable-part", 200, 6000000, 1835008, NULL, 0, 0, 2.01, 3.3, 1, "variable-part.m2v" },
+    { "variable-underflow", 12, 6000000, 1835008, UNDERFLOW, 0, -.1, 0, 0, 1, "variable-underflow.m2v" },
+    { "variable-many", 50000, 6000000, 1835008, NULL, 0, 0, 0, 0, 1, "variable-many.m2v" },
 };
 
-/* Pictures at 25 a second, each twelfth an I and each third a P picture, of sizes that keep the buffer within its bounds. */
+static int is_variable(const struct kind *k)
+{
+    return strncmp(k->id, "variable", 8) == 0;
+}
+
+static double least(double a, double b)
+{
+    return a < b ? a : b;
+}
+
+/* Pictures at 25 a second, each twelfth an I and each third a P picture, of sizes that keep the buffer within its bounds; at a
+ * variable rate it waits while it is full. */
 static void make_up(const struct kind *k, struct removal *of)
 {
     static const char types[] = "IBBPBBPBBPBB";
@@ -82,11 +98,11 @@ static void make_up(const struct kind *k, struct removal *of)
         char type = types[n % 12];
         chance = chance * 1664525 + 1013904223;
         double data = arrives * (type == 'I' ? 4 : type == 'P' ? 1.4 : .42) * (.7 + .6 * (chance >> 8) / 0x1p24);
-        double needed = held + arrives - full;
+        double needed = is_variable(k) ? 0 : held + arrives - full;
         data = data < needed ? needed : data > held ? held : data;
         struct removal r = { full * k->level / (double)k->bit_rate + (double)n / 25, held, held - data, type, n };
         of[n] = r;
-        held += arrives - data;
+        held = is_variable(k) ? least(held + arrives - data, full) : held + arrives - data;
     }
 }
 
@@ -105,8 +121,10 @@ static struct removal *fill_kind(const struct kind *k, struct drawing *d)
         last = of[k->pictures - 1];
     double before = k->before > 0 ? full * k->before : last.after + rate / 25;
     struct removal bad = { last.seconds + (before - last.after) / rate, before, full * k->after, 'P', k->pictures };
-    struct drawing made = { k->name, k->mark != NULL ? refused : accepted, k->bit_rate, k->buffer_bits, "25", 0, of,
-                            k->pictures, k->mark, bad, k->from, k->to };
+    if (is_variable(k))
+        bad.before = least(before, full);
+    struct drawing made = { k->name, k->mark != NULL ? refused : accepted, k->bit_rate, k->buffer_bits, "25", 0, is_variable(k),
+                            of, k->pictures, k->mark, bad, k->from, k->to };
     *d = made;
     return of;
 }
@@ -120,9 +138,17 @@ static size_t take_bytes(const char *name, uint8_t *bytes, size_t room)
     return length;
 }
 
-/* The records of a stream, as removals. A picture's type stands in its header, 10 bits after its start code. */
+/* A field's time by the frame rate code at the stream's front, which must be a sequence header. */
+static double field_time(const uint8_t *bytes)
+{
+    static const double rates[16] = { 1, 24000. / 1001, 24, 25, 30000. / 1001, 30, 50, 60000. / 1001, 60, 1, 1, 1, 1, 1, 1, 1 };
+    return .5 / rates[bytes[7] & 15];
+}
+
+/* The records of a stream, as removals. A picture's type stands in its header, 10 bits after its start code. At a constant rate
+ * the time is what arrives; at a variable one the buffer waits while it is full, so that it is by the periods. */
 static void take_records(const struct vbv_report *report, const struct vbv_record *records, const uint8_t *bytes, size_t length,
-                         struct removal *of)
+                         int variable, struct removal *of)
 {
     double seconds = (double)records[0].occupancy_before / (double)report->bit_rate;
     size_t n = 0;
@@ -132,7 +158,9 @@ static void take_records(const struct vbv_report *report, const struct vbv_recor
         double before = (double)records[n].occupancy_before, after = before - (double)records[n].data_bits;
         struct removal r = { seconds, before, after, "?IPBD???"[bytes[at + 5] >> 3 & 7], n };
         of[n++] = r;
-        if (n < report->pictures)
+        if (n < report->pictures && variable)
+            seconds += (double)records[n - 1].periods * field_time(bytes);
+        else if (n < report->pictures)
             seconds += ((double)records[n].occupancy_before - after) / (double)report->bit_rate;
     }
 }
@@ -141,7 +169,9 @@ static struct removal *fill_file(const char *word, struct drawing *d)
 {
     int film = strncmp(word, "film:", 5) == 0;
     const char *name = film ? word + 5 : word;
-    uint8_t mode = film ? VBV_MPEG2 + VBV_FILM : VBV_MPEG2;
+    int variable = strncmp(name, "variable:", 9) == 0;
+    name = variable ? name + 9 : name;
+    uint8_t mode = (uint8_t)(VBV_MPEG2 + (film ? VBV_FILM : 0) + (variable ? VBV_VARIABLE : 0));
     enum { ROOM = 1 << 20, MOST = 10000 };
     struct vbv_report report;
     uint8_t refusal[VBV_REFUSAL_BYTES], *bytes = malloc(ROOM);
@@ -152,9 +182,9 @@ static struct removal *fill_file(const char *word, struct drawing *d)
         vbv_check(bytes, length, mode, (uint8_t *)&report, sizeof report, (uint8_t *)records, MOST * sizeof *records,
                   refusal, sizeof refusal) == 0;
     if (is_accepted) {
-        take_records(&report, records, bytes, length, of);
-        struct drawing made = { name, accepted, report.bit_rate, report.buffer_bits, "25", film, of, (size_t)report.pictures, NULL,
-                                { 0, 0, 0, 0, 0 }, 0, 0 };
+        take_records(&report, records, bytes, length, variable, of);
+        struct drawing made = { name, accepted, report.bit_rate, report.buffer_bits, "25", film, variable, of,
+                                (size_t)report.pictures, NULL, { 0, 0, 0, 0, 0 }, 0, 0 };
         *d = made;
     } else {
         free(of);
@@ -166,7 +196,8 @@ static struct removal *fill_file(const char *word, struct drawing *d)
 
 static void list(const struct drawing *d)
 {
-    printf("%llu %.17g %.17g %d\n", (unsigned long long)d->buffer_bits, d->from, d->to, d->mark != NULL);
+    printf("%llu %.17g %.17g %d %llu %d\n", (unsigned long long)d->buffer_bits, d->from, d->to, d->mark != NULL,
+           (unsigned long long)d->bit_rate, d->variable);
     for (size_t n = 0; n < d->count + (d->mark != NULL); n++) {
         const struct removal *r = n < d->count ? d->of + n : &d->bad;
         printf("%.17g %.17g %.17g %c\n", r->seconds, r->before, r->after, r->type);
