@@ -1,14 +1,14 @@
 -- A stream that the check accepts: each test that it passes, one law a step.
 -- Assumes nothing.
 use mathlib.Core.Path.{_≡_, refl}
-use mathlib.Core.Bool.{true, false}
+use mathlib.Core.Bool.{Bool, true, false, true≢false}
 use mathlib.Core.List.{List, [], _∷_}
 use Prim.Native.Nat.{ℕ, suc, _+_, _-_, _*_, _^_, _≤_}
 use native.Mathlib.Omega.{arith}
 use lib.ListN.{length}
 use Rattle.bits.specs.Refusals.{value}
-use Rattle.vbv.specs.Annex.{firstDelivered, gain, overflows, beyond, expectedDelay, occupancy}
-use Rattle.vbv.specs.Model.{paramsFit, periods}
+use Rattle.vbv.specs.Annex.{overflows, beyond, occupancy, firstArrived, arrived, expected}
+use Rattle.vbv.specs.Model.{paramsFitAt, periods}
 use Rattle.vbv.specs.declared.VbvParams.{VbvParams}
 use Rattle.vbv.proofs.Laws.{over-units, beyond-units}
 use Rattle.verify.specs.declared.CodedPicture.{CodedPicture}
@@ -19,15 +19,15 @@ use Rattle.verify.specs.Coded.{timed}
 use Rattle.verify.specs.declared.VbvMode.{VbvMode}
 use Rattle.verify.specs.Run.{recordOf, run}
 use Rattle.verify.specs.Check.{verdict}
-use Rattle.verify.specs.Accepted.{Conforms, ReadIn}
-use Rattle.verify.proofs.Conforming.{conforming}
+use Rattle.verify.specs.Accepted.{AsCoded, Conforms, DelaysFit, ReadIn}
+use Rattle.verify.proofs.Conforming.{first-bounded, conforming}
 use Rattle.verify.proofs.Accepted.{run-along, accepted-exactly}
 
--- a picture whose coded delay is the expected one, in a buffer that neither overflows nor underflows
-pub record Passed (p : VbvParams) (previous d : ℕ) (c : CodedPicture) : Type 0 where
-  pub in-time : beyond p (c .«pos_bits») d ≡ false
-  pub delay-exact : c .«vbv_delay» ≡ expectedDelay p (c .«pos_bits») d
-  pub delay-told : c .«vbv_delay» ≤ 65534
+-- a picture whose coded delay is the expected one, in a buffer that neither overflows nor underflows; a time is told at a constant rate alone
+pub record Passed (v : Bool) (p : VbvParams) (previous d : ℕ) (c : CodedPicture) : Type 0 where
+  pub in-time : v ≡ false → beyond p (c .«pos_bits») d ≡ false
+  pub delay-exact : c .«vbv_delay» ≡ expected v p (c .«pos_bits») d
+  pub delay-told : v ≡ false → c .«vbv_delay» ≤ 65534
   pub no-overflow : overflows p previous d ≡ false
   pub no-underflow : beyond p (c .«end_bits») d ≡ false
 
@@ -41,33 +41,36 @@ exactRecord p previous d c = record {
   periods = periods (c .interval);
 }
 
-passed-conforms : {p : VbvParams} {previous d : ℕ} {c : CodedPicture} → Passed p previous d c → Conforms p previous d c (exactRecord p previous d c)
+passed-coded : (v : Bool) {p : VbvParams} {previous d : ℕ} {c : CodedPicture} → Passed v p previous d c → v ≡ false → AsCoded p d c
+passed-coded true h z = absurd (true≢false z)
+passed-coded false {p} {previous} {d} {c} h z =
+    let e = h .delay-exact in
+    record { begun = beyond-units p (c .«pos_bits») d (h .in-time refl); sayable = omega (arith, h .delay-told refl); coded-most = omega arith; expected-most = omega arith }
+
+passed-conforms : {v : Bool} {p : VbvParams} {previous d : ℕ} {c : CodedPicture} → Passed v p previous d c → Conforms v p previous d c (exactRecord p previous d c)
 unfolding recordOf
-passed-conforms {p} {previous} {d} {c} h =
+passed-conforms {v} {p} {previous} {d} {c} h =
     let e = h .delay-exact in
     record {
-      begun = beyond-units p (c .«pos_bits») d (h .in-time);
-      sayable = omega (arith, h .delay-told);
-      coded-most = omega arith;
-      expected-most = omega arith;
+      as-coded = passed-coded v h;
       no-overflow = over-units p previous d (h .no-overflow);
       no-underflow = beyond-units p (c .«end_bits») d (h .no-underflow);
       record-is = rw (← e);
     }
 
-pub run-none : (p : VbvParams) (n previous d : ℕ) → run p n previous d [] ≡ value []
+pub run-none : (v : Bool) (p : VbvParams) (n previous d : ℕ) → run v p n previous d [] ≡ value []
 unfolding run
-run-none p n previous d = refl
+run-none v p n previous d = refl
 
-pub run-passed : {p : VbvParams} {previous d : ℕ} {c : CodedPicture} (n : ℕ) (cs : List CodedPicture) {rs : List VbvPictureRecord} → Passed p previous d c
-    → run p (suc n) (c .«end_bits») (d + gain p (periods (c .interval))) cs ≡ value rs
-    → run p n previous d (c ∷ cs) ≡ value (exactRecord p previous d c ∷ rs)
+pub run-passed : {v : Bool} {p : VbvParams} {previous d : ℕ} {c : CodedPicture} (n : ℕ) (cs : List CodedPicture) {rs : List VbvPictureRecord} → Passed v p previous d c
+    → run v p (suc n) (c .«end_bits») (arrived v p (c .«end_bits») d (periods (c .interval))) cs ≡ value rs
+    → run v p n previous d (c ∷ cs) ≡ value (exactRecord p previous d c ∷ rs)
 unfolding run
 run-passed n cs h e = rw (conforming n (passed-conforms h), e)
 
 pub accepted : {m : VbvMode} {s : List ℕ} {p : VbvParams} {x : SeenPicture} {xs : List SeenPicture} {r : VbvPictureRecord} {rs : List VbvPictureRecord}
-    (places : ℕ) → ReadIn m s p x xs → x .«vbv_delay» ≤ 65534 → paramsFit p ≡ true → length (x ∷ xs) ≤ places
-    → run p 0 0 (firstDelivered p (x .«pos_bits») (x .«vbv_delay»)) (timed (cadenceOf (m .film) s) (x ∷ xs)) ≡ value (r ∷ rs)
+    (places : ℕ) → ReadIn m s p x xs → DelaysFit (m .variable) (x ∷ xs) → paramsFitAt (m .variable) p ≡ true → length (x ∷ xs) ≤ places
+    → run (m .variable) p 0 0 (firstArrived (m .variable) p (x .«pos_bits») (x .«vbv_delay»)) (timed (cadenceOf (m .film) s) (x ∷ xs)) ≡ value (r ∷ rs)
     → verdict m s places ≡ value (record { params = p; first = r; others = rs })
 accepted {m} {s} {p} {x} {xs} {r} {rs} places g e f l t =
     accepted-exactly m s places (record { params = p; first = r; others = rs }) .1
@@ -75,8 +78,8 @@ accepted {m} {s} {p} {x} {xs} {r} {rs} places g e f l t =
       first = x;
       others = xs;
       is-read = g;
-      constant-rate = λ z. omega arith;
+      delays-fit = e;
       params-fit = f;
       places-suffice = l;
-      removals = run-along p 0 0 _ (timed (cadenceOf (m .film) s) (x ∷ xs)) (r ∷ rs) t;
+      removals = run-along (m .variable) p 0 0 _ (timed (cadenceOf (m .film) s) (x ∷ xs)) (r ∷ rs) (first-bounded (m .variable) p (x .«pos_bits») (x .«vbv_delay»)) t;
     })

@@ -14,7 +14,7 @@ use Rattle.vbv.specs.declared.VbvViolation.the-variants.{Overflow, Underflow, D
 use Rattle.verify.specs.Answers.{refusalOf}
 use Rattle.bits.specs.declared.VbvRefusal.{VbvRefusal}
 use Rattle.verify.specs.declared.VbvVerifyError.{VbvVerifyError}
-use Rattle.verify.specs.declared.VbvVerifyError.the-variants.{Parse, Model, NoSequenceHeader, NoPictures, VariableRate, RecordPlaces, Violation}
+use Rattle.verify.specs.declared.VbvVerifyError.the-variants.{Parse, Model, NoSequenceHeader, NoPictures, VariableRate, ConstantRate, RecordPlaces, Violation}
 
 -- back from what is told
 unfoldable caseOf : VbvRefusal → VbvVerifyError
@@ -30,7 +30,8 @@ caseOf r =
     (pick (eqb (r .number) 15) RecordPlaces
     (pick (eqb (r .number) 16) (Parse h.FieldToWrite)
     (pick (eqb (r .number) 19) (Parse h.ShortOutput)
-    (Model (modelErrorOf (r .number)))))))))))))
+    (pick (eqb (r .number) 25) ConstantRate
+    (Model (modelErrorOf (r .number))))))))))))))
 
 parse-back : (e : Error) → caseOf (refusalOf (Parse e)) ≡ Parse e
 unfolding caseOf pick
@@ -61,6 +62,7 @@ refusal-back (Model e) = model-back e
 refusal-back NoSequenceHeader = refl
 refusal-back NoPictures = refl
 refusal-back VariableRate = refl
+refusal-back ConstantRate = refl
 refusal-back RecordPlaces = refl
 refusal-back (Violation v) = violation-back v
 

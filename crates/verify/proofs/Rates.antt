@@ -7,7 +7,7 @@ use Prim.Native.Nat.{ℕ, suc, _+_}
 use Rattle.bits.specs.Bits.{pick}
 use Rattle.bits.specs.Refusals.{Answer, value, refused, andThen}
 use Rattle.bits.proofs.Flags.{pick-alike}
-use Rattle.vbv.specs.Annex.{firstDelivered, gain}
+use Rattle.vbv.specs.Annex.{firstArrived, arrived}
 use Rattle.vbv.specs.Model.{periods}
 use Rattle.vbv.specs.Params.{sameParams}
 use Rattle.vbv.specs.Rates.{SameBits, SameTold}
@@ -16,33 +16,29 @@ use Rattle.vbv.proofs.Scale.{SameValue, same-value, same-told}
 use Rattle.pictures.specs.Front.{Front, front}
 use Rattle.pictures.specs.Cadence.{cadenceOf}
 use Rattle.pictures.specs.declared.SeenPicture.{SeenPicture}
-use Rattle.verify.specs.Run.{recordOf, removal, run}
-use Rattle.verify.specs.Check.{Accepted, accepted, withPictures, verdictBy, verdict, reported, records}
+use Rattle.verify.specs.Run.{recordOf, takenOut, removal, run}
+use Rattle.verify.specs.Check.{Accepted, accepted, modelled, withPictures, verdictBy, verdict, reported, records}
 use Rattle.verify.specs.Rates.{SameAnswer, ValueReports}
 use Rattle.verify.specs.declared.VbvMode.{VbvMode}
 use Rattle.verify.specs.declared.CodedPicture.{CodedPicture}
 use Rattle.verify.specs.declared.VbvPictureRecord.{VbvPictureRecord}
 
 module _ {p q : VbvParams} (t : SameTold p q) where
-  same-removal : (n previous d e : ℕ) → SameBits p q d e → (c : CodedPicture) → removal p n previous d c ≡ removal q n previous e c
-  unfolding removal recordOf
-  same-removal n previous d e s c =
-      rw (
-        t .underflow (c .«pos_bits») d e s,
-        t .underflow (c .«end_bits») d e s,
-        t .expected (c .«pos_bits») d e s,
-        t .overflow previous d e s,
-        t .held previous d e s,
-      )
+  same-taken : (v : Bool) (n previous d e : ℕ) → SameBits p q d e → (c : CodedPicture) → takenOut v p n previous d c ≡ takenOut v q n previous e c
+  unfolding takenOut recordOf
+  same-taken v n previous d e s c = rw (t .underflow (c .«end_bits») d e s, t .expected-at v (c .«pos_bits») d e s, t .held previous d e s)
 
-  pub same-run : (n previous d e : ℕ) → SameBits p q d e → (cs : List CodedPicture) → run p n previous d cs ≡ run q n previous e cs
+  same-removal : (v : Bool) (n previous d e : ℕ) → SameBits p q d e → (c : CodedPicture) → removal v p n previous d c ≡ removal v q n previous e c
+  unfolding removal
+  same-removal true n previous d e s c = same-taken true n previous d e s c
+  same-removal false n previous d e s c =
+      rw (t .underflow (c .«pos_bits») d e s, t .expected (c .«pos_bits») d e s, t .overflow previous d e s, same-taken false n previous d e s c)
+
+  pub same-run : (v : Bool) (n previous d e : ℕ) → SameBits p q d e → (cs : List CodedPicture) → run v p n previous d cs ≡ run v q n previous e cs
   unfolding run
-  same-run n previous d e s [] = refl
-  same-run n previous d e s (c ∷ cs) =
-      rw (
-        same-removal n previous d e s c,
-        same-run (suc n) (c .«end_bits») (d + gain p (periods (c .interval))) (e + gain q (periods (c .interval))) (t .later d e (periods (c .interval)) s) cs,
-      )
+  same-run v n previous d e s [] = refl
+  same-run v n previous d e s (c ∷ cs) =
+      rw (same-removal v n previous d e s c, same-run v (suc n) (c .«end_bits») _ _ (t .next-arrived v (c .«end_bits») d e (periods (c .interval)) s) cs)
 
 -- an accepted run is reported alike
 module _ {p q : VbvParams} (v : SameValue p q) where
@@ -62,25 +58,36 @@ unfolding pick
 past g true x h = refl
 past g false x h = h
 
-module _ (p q : VbvParams) (h : sameParams p q ≡ true) (places : ℕ) (x : SeenPicture) (cs : List CodedPicture) where
+module _ (p q : VbvParams) (h : sameParams p q ≡ true) (v : Bool) (places : ℕ) (x : SeenPicture) (cs : List CodedPicture) where
   told : SameTold p q
   told = same-told p q h
 
   abbrev ran : VbvParams → Answer (List VbvPictureRecord)
-  ran r = run r 0 0 (firstDelivered r (x .«pos_bits») (x .«vbv_delay»)) cs
+  ran r = run v r 0 0 (firstArrived v r (x .«pos_bits») (x .«vbv_delay»)) cs
 
   same-ran : ran p ≡ ran q
-  same-ran = same-run told 0 0 _ _ (told .first (x .«pos_bits») (x .«vbv_delay»)) cs
+  same-ran = same-run told v 0 0 _ _ (told .first-arrived v (x .«pos_bits») (x .«vbv_delay»)) cs
 
   through : {Y : Type 0} (g : Answer Accepted → Y) → ((a : Answer (List VbvPictureRecord)) → g (andThen a (accepted p)) ≡ g (andThen a (accepted q)))
-      → g (withPictures places p x cs) ≡ g (withPictures places q x cs)
-  unfolding withPictures
-  through g k = rw (told .fits, same-ran) (past g _ _ (past g _ _ (past g _ _ (k (ran q)))))
+      → g (modelled v places p x cs) ≡ g (modelled v places q x cs)
+  unfolding modelled
+  through g k = rw (told .fits-at v, same-ran) (past g _ _ (past g _ _ (k (ran q))))
 
-same-pictures : (p q : VbvParams) → sameParams p q ≡ true → (places : ℕ) (x : SeenPicture) (cs : List CodedPicture)
-    → SameAnswer (withPictures places p x cs) (withPictures places q x cs)
-same-pictures p q h places x cs =
-    (through p q h places x cs reported (same-reported (same-value p q h)), through p q h places x cs records (same-records (same-value p q h)))
+-- the delays are those of the pictures
+through-delays : (p q : VbvParams) (v : Bool) (places : ℕ) (x : SeenPicture) (cs : List CodedPicture) {Y : Type 0} (g : Answer Accepted → Y)
+    → g (modelled v places p x cs) ≡ g (modelled v places q x cs) → g (withPictures v places p x cs) ≡ g (withPictures v places q x cs)
+unfolding withPictures
+through-delays p q true places x cs g e = past g _ _ e
+through-delays p q false places x cs g e = past g _ _ e
+
+same-pictures : (p q : VbvParams) → sameParams p q ≡ true → (v : Bool) (places : ℕ) (x : SeenPicture) (cs : List CodedPicture)
+    → SameAnswer (withPictures v places p x cs) (withPictures v places q x cs)
+same-pictures p q h v places x cs =
+    let w = same-value p q h in
+    (
+      through-delays p q v places x cs reported (through p q h v places x cs reported (same-reported w)),
+      through-delays p q v places x cs records (through p q h v places x cs records (same-records w)),
+    )
 
 same-streams : (m : VbvMode) (s t : List ℕ) (places : ℕ) (f g : Front) → front (m .standard) s ≡ value f → front (m .standard) t ≡ value g
     → sameParams (f .params) (g .params) ≡ true → f .first ≡ g .first → f .others ≡ g .others → cadenceOf (m .film) s ≡ cadenceOf (m .film) t
@@ -88,7 +95,7 @@ same-streams : (m : VbvMode) (s t : List ℕ) (places : ℕ) (f g : Front) → f
 unfolding verdict verdictBy
 same-streams m s t places f g a b h e k c =
     rw (a, b, c, e, k)
-    (pick-alike SameAnswer _ (refl, refl) λ z. same-pictures (f .params) (g .params) h places (g .first) _)
+    (pick-alike SameAnswer _ (refl, refl) λ z. same-pictures (f .params) (g .params) h (m .variable) places (g .first) _)
 
 pub value-reports : ValueReports
 value-reports = record { of-pictures = same-pictures; of-streams = same-streams }

@@ -1,7 +1,7 @@
--- The records of an accepted stream come one after another from the walk, and outside film from the recorder.
+-- The records of an accepted stream come one after another from the walk, and outside film and at a constant rate from the recorder.
 -- Assumes nothing.
 use mathlib.Core.Path.{_≡_, refl, sym, ap, _∙_}
-use mathlib.Core.Bool.{false}
+use mathlib.Core.Bool.{Bool, false}
 use Prim.Native.Nat.{ℕ, zero, suc, _*_, _^_, _≤_}
 use mathlib.Core.List.{List, [], _∷_, _++_}
 use native.Mathlib.Omega.{arith}
@@ -87,8 +87,8 @@ step-one s w x next e = rw e
 
 -- and what it comes to
 pub stepped-one : (w : Walker) (x : SeenPicture) (next : ℕ) {st : Progress} {k : VbvCadence}
-    → st ≡ advanced (w .params) (w .progress) (codedOf (interval (w .cadence) (x .facts)) x) → k ≡ after (w .cadence) (x .facts)
-    → _≡_ {A = Walker × VbvPictureRecord} (record { standard = w .standard; params = w .params; at = next; cadence = k; progress = st }, lastOf st) (steppedBy w (one x next))
+    → st ≡ advanced (w .variable) (w .params) (w .progress) (codedOf (interval (w .cadence) (x .facts)) x) → k ≡ after (w .cadence) (x .facts)
+    → _≡_ {A = Walker × VbvPictureRecord} (record { standard = w .standard; variable = w .variable; params = w .params; at = next; cadence = k; progress = st }, lastOf st) (steppedBy w (one x next))
 unfolding steppedBy
 stepped-one w x next e f = rw (e, f)
 
@@ -104,7 +104,7 @@ module _ (s : List ℕ) (w : VbvRecorder) where
   record-refused e = rw (← e)
 
   pub record-one : (x : SeenPicture) (next : ℕ) → value (one x next) ≡ nextSeen (w .standard) s (w .at)
-      → wentOn w next (advanced (w .params) (w .progress) (codedOf (interval (opened false false false) (x .facts)) x)) ≡ nextRecord s w
+      → wentOn w next (advanced false (w .params) (w .progress) (codedOf (interval (opened false false false) (x .facts)) x)) ≡ nextRecord s w
   unfolding nextRecord recordedBy
   record-one x next e = rw (← e, outside-film .as-before (opened false false false) (x .facts) (opened-film false false false))
 
@@ -121,9 +121,9 @@ state-front s w (suc i) = ap (λ (x : VbvRecorder). nextRecord s x .recorder) (s
 abbrev pub recorderStep : List ℕ → VbvRecorder → VbvRecorder × VbvPictureRecord
 recorderStep s w = (nextRecord s w .recorder, nextRecord s w .last)
 
--- it walks outside film
+-- it walks outside film and at a constant rate
 abbrev walking : VbvRecorder → Walker
-walking w = record { standard = w .standard; params = w .params; at = w .at; cadence = opened false false false; progress = w .progress }
+walking w = record { standard = w .standard; variable = false; params = w .params; at = w .at; cadence = opened false false false; progress = w .progress }
 
 plain-none : (w : VbvRecorder) → steppedBy (walking w) nothing ≡ (walking (recordedBy w nothing .recorder), recordedBy w nothing .last)
 unfolding steppedBy recordedBy stayed
@@ -156,18 +156,18 @@ plain-steps s w (suc i) = rw (plain-step s w) (ap (λ (rs : List VbvPictureRecor
 
 -- ---- the records
 
-abbrev standing : VbvStandard → VbvParams → VbvCadence → ℕ → Progress → Walker
-standing standard p k i st = record { standard = standard; params = p; at = i; cadence = k; progress = st }
+abbrev standing : VbvStandard → Bool → VbvParams → VbvCadence → ℕ → Progress → Walker
+standing standard v p k i st = record { standard = standard; variable = v; params = p; at = i; cadence = k; progress = st }
 
 -- step n gives the last record after picture n
-yields : {standard : VbvStandard} {s : List ℕ} (p : VbvParams) (k : VbvCadence) {xs : List SeenPicture} {i : ℕ} (st : Progress)
-    → Visits standard s i (value xs) → recordsBy (nextStep s) (standing standard p k i st) (length xs) ≡ lastsAll p st (timed k xs)
+yields : {standard : VbvStandard} {s : List ℕ} (v : Bool) (p : VbvParams) (k : VbvCadence) {xs : List SeenPicture} {i : ℕ} (st : Progress)
+    → Visits standard s i (value xs) → recordsBy (nextStep s) (standing standard v p k i st) (length xs) ≡ lastsAll v p st (timed k xs)
 unfolding recordsBy lastsAll steppedBy timed
-yields p k st (walk.ended h) = refl
-yields {standard} {s} p k {i = i} st (walk.went-on {next = n} {x = x} {xs = xs} h t) =
+yields v p k st (walk.ended h) = refl
+yields {standard} {s} v p k {i = i} st (walk.went-on {next = n} {x = x} {xs = xs} h t) =
     let c = codedOf (interval k (x .facts)) x in
-    rw (step-one s (standing standard p k i st) x n h)
-    (ap (λ (rs : List VbvPictureRecord). lastOf (advanced p st c) ∷ rs) (yields p (after k (x .facts)) (advanced p st c) t))
+    rw (step-one s (standing standard v p k i st) x n h)
+    (ap (λ (rs : List VbvPictureRecord). lastOf (advanced v p st c) ∷ rs) (yields v p (after k (x .facts)) (advanced v p st c) t))
 
 -- of an accepted stream they are the verdict's, as many as the answer counts, and there are places for them
 pub record Recorded (rs : ℕ → List VbvPictureRecord) (places : ℕ) (v : Answer Accepted) (r : VbvVerified) : Type 0 where
@@ -181,57 +181,57 @@ unfolding recordCount
 none-recorded rs places (Refused x) z h = record { each = z; count = refl; few = omega arith }
 none-recorded rs places (Report x) z h = let y : _≡_ {A = ℕ} 0 1 = cc in absurd (omega arith)
 
-pub after-none : (standard : VbvStandard) (k : VbvCadence) (s : List ℕ) (a : Answer VbvParams) → recordsAfter standard k s a 0 ≡ []
+pub after-none : (standard : VbvStandard) (v : Bool) (k : VbvCadence) (s : List ℕ) (a : Answer VbvParams) → recordsAfter standard v k s a 0 ≡ []
 unfolding recordsAfter
-after-none standard k s (value p) = records-none (nextStep s) (walkerOf standard k p)
-after-none standard k s (refused n i c e) = refl
+after-none standard v k s (value p) = records-none (nextStep s) (walkerOf standard v k p)
+after-none standard v k s (refused n i c e) = refl
 
-module _ (standard : VbvStandard) (k : VbvCadence) (s : List ℕ) (places : ℕ) where
-  pub recorded-by : (r : VbvVerified) → verifiedAnswer r ≡ reported (verdictBy standard k s places)
-      → Recorded (recordsAfter standard k s (opening standard s)) places (verdictBy standard k s places) r
+module _ (standard : VbvStandard) (v : Bool) (k : VbvCadence) (s : List ℕ) (places : ℕ) where
+  pub recorded-by : (r : VbvVerified) → verifiedAnswer r ≡ reported (verdictBy standard v k s places)
+      → Recorded (recordsAfter standard v k s (opening standard s)) places (verdictBy standard v k s places) r
   unfolding recordCount recordsAfter
-  recorded-by r h = go r (verdictBy standard k s places) refl h
+  recorded-by r h = go r (verdictBy standard v k s places) refl h
     where
-      go : (r : VbvVerified) (v : Answer Accepted) → verdictBy standard k s places ≡ v → verifiedAnswer r ≡ reported v
-          → Recorded (recordsAfter standard k s (opening standard s)) places (verdictBy standard k s places) r
-      go r (refused n i c e) z h = rw z (none-recorded (recordsAfter standard k s (opening standard s)) places r (after-none standard k s (opening standard s)) h)
-      go (Refused x) (value v) z h = let y : _≡_ {A = ℕ} 0 1 = cc in absurd (omega arith)
-      go (Report x) (value v) z h =
-          let a = passed-by standard k s places z in
+      go : (r : VbvVerified) (w : Answer Accepted) → verdictBy standard v k s places ≡ w → verifiedAnswer r ≡ reported w
+          → Recorded (recordsAfter standard v k s (opening standard s)) places (verdictBy standard v k s places) r
+      go r (refused n i c e) z h = rw z (none-recorded (recordsAfter standard v k s (opening standard s)) places r (after-none standard v k s (opening standard s)) h)
+      go (Refused x) (value w) z h = let y : _≡_ {A = ℕ} 0 1 = cc in absurd (omega arith)
+      go (Report x) (value w) z h =
+          let a = passed-by standard v k s places z in
           let f = a .first in
           let os = timed (after k (f .facts)) (a .others) in
-          let e : x ≡ reportOf v = cc in
-          let j = judges (v .params) places (interval k (f .facts)) f os (rw (timed-first k f (a .others)) at (rising-by a)) in
-          let l : lastsAll (v .params) Fresh (timed k (f ∷ a .others)) ≡ v .first ∷ v .others
-          = rw (timed-first k f (a .others)) (j .lasts (v .first) (v .others) (rw (timed-first k f (a .others)) at (judged-is a))) in
+          let e : x ≡ reportOf w = cc in
+          let j = judges v (w .params) places (interval k (f .facts)) f os (rw (timed-first k f (a .others)) at (rising-by a)) in
+          let l : lastsAll v (w .params) Fresh (timed k (f ∷ a .others)) ≡ w .first ∷ w .others
+          = rw (timed-first k f (a .others)) (j .lasts (w .first) (w .others) (rw (timed-first k f (a .others)) at (judged-is a))) in
           let m = timed-length k (f ∷ a .others) in
-          let n = lasts-length (v .params) Fresh (timed k (f ∷ a .others)) in
-          let q : length (f ∷ a .others) ≡ length (v .first ∷ v .others) = sym m ∙ sym n ∙ ap length l in
-          let y = yields (v .params) k Fresh (rw (a .is-read .pictures-are) at (steps-give standard s (a .is-read .short))) in
+          let n = lasts-length v (w .params) Fresh (timed k (f ∷ a .others)) in
+          let q : length (f ∷ a .others) ≡ length (w .first ∷ w .others) = sym m ∙ sym n ∙ ap length l in
+          let y = yields v (w .params) k Fresh (rw (a .is-read .pictures-are) at (steps-give standard s (a .is-read .short))) in
           rw e record { each = rw (z, opening-short standard s (a .is-read .short) ∙ a .is-read .declares, ← q) (y ∙ l); count = rw z; few = omega (arith, q, a .places-suffice) }
 
 -- where the opening is refused so is the verdict
-unopened : (standard : VbvStandard) (k : VbvCadence) (s : List ℕ) (places : ℕ) {n i c j : ℕ} → opening standard s ≡ refused n i c j → verdictBy standard k s places ≡ refused n i c j
+unopened : (standard : VbvStandard) (v : Bool) (k : VbvCadence) (s : List ℕ) (places : ℕ) {n i c j : ℕ} → opening standard s ≡ refused n i c j → verdictBy standard v k s places ≡ refused n i c j
 unfolding verdictBy
-unopened standard k s places e = rw (front-unopened standard s e)
+unopened standard v k s places e = rw (front-unopened standard s e)
 
--- the recorder's, outside film
+-- the recorder's, outside film and at a constant rate
 module _ (standard : VbvStandard) (s : List ℕ) (places : ℕ) (r : VbvVerified) where
   abbrev plainly : Answer Accepted
   plainly = verdict (plain standard) s places
 
-  in-plain : plainly ≡ verdictBy standard (opened false false false) s places
+  in-plain : plainly ≡ verdictBy standard false (opened false false false) s places
   in-plain = rw (plain-of s) at (verdict-in (plain standard) s places (plain-fits standard))
 
   pub recorded : verifiedAnswer r ≡ reported plainly → Recorded (recordsBy (recorderStep s) (recorderOf standard (opening standard s))) places plainly r
   unfolding recorderOf recordsAfter
   recorded h = rw in-plain (go (opening standard s) refl)
     where
-      b : Recorded (recordsAfter standard (opened false false false) s (opening standard s)) places (verdictBy standard (opened false false false) s places) r
-      b = recorded-by standard (opened false false false) s places r (h ∙ ap reported in-plain)
+      b : Recorded (recordsAfter standard false (opened false false false) s (opening standard s)) places (verdictBy standard false (opened false false false) s places) r
+      b = recorded-by standard false (opened false false false) s places r (h ∙ ap reported in-plain)
 
-      go : (a : Answer VbvParams) → opening standard s ≡ a → Recorded (recordsBy (recorderStep s) (recorderOf standard a)) places (verdictBy standard (opened false false false) s places) r
+      go : (a : Answer VbvParams) → opening standard s ≡ a → Recorded (recordsBy (recorderStep s) (recorderOf standard a)) places (verdictBy standard false (opened false false false) s places) r
       go (value p) e = let c = rw e at b in record { each = plain-steps s _ (recordCount r) ∙ c .each; count = b .count; few = b .few }
       go (refused n k i j) e =
-          let z = unopened standard (opened false false false) s places e in
+          let z = unopened standard false (opened false false false) s places e in
           rw z (none-recorded (recordsBy (recorderStep s) (recorderOf standard (refused n k i j))) places r (records-none (recorderStep s) _) (h ∙ ap reported (in-plain ∙ z)))

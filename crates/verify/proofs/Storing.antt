@@ -114,9 +114,9 @@ module _ {s : List ℕ} {w₀ : Walker} {count : ℕ} {out₀ out : List ℕ} {w
 
   -- by what a step has shown
   pub stored-more : {x : SeenPicture} {n : ℕ} → nextSeen (w .standard) s (w .at) ≡ value (one x n)
-      → {st : Progress} → st ≡ advanced (w .params) (w .progress) (codedOf (interval (w .cadence) (x .facts)) x) → {k : VbvCadence} → k ≡ after (w .cadence) (x .facts)
+      → {st : Progress} → st ≡ advanced (w .variable) (w .params) (w .progress) (codedOf (interval (w .cadence) (x .facts)) x) → {k : VbvCadence} → k ≡ after (w .cadence) (x .facts)
       → {new : List ℕ} → new ≡ storedNext count i st out
-      → Stored s w₀ count out₀ new (record { standard = w .standard; params = w .params; at = n; cadence = k; progress = st }) (i + 1)
+      → Stored s w₀ count out₀ new (record { standard = w .standard; variable = w .variable; params = w .params; at = n; cadence = k; progress = st }) (i + 1)
   unfolding storedNext
   stored-more {x} {n} e {st} f {k} g {new} b =
       let q = stepped-one w x n f g ∙ sym (step-one s w x n e) in
@@ -138,7 +138,7 @@ module _ {rs : ℕ → List VbvPictureRecord} {v : Answer Accepted} {r : VbvVeri
 
 -- in a mode that exists, and in one that does not
 pub over-in : (m : VbvMode) (s : List ℕ) (places : ℕ) (out : List ℕ) {k : VbvCadence} {last : List ℕ} → modeFits m ≡ true → k ≡ cadenceOf (m .film) s
-    → last ≡ over (recordsBytes (records (verdictBy (m .standard) k s places))) out → last ≡ over (recordsBytes (records (verdict m s places))) out
+    → last ≡ over (recordsBytes (records (verdictBy (m .standard) (m .variable) k s places))) out → last ≡ over (recordsBytes (records (verdict m s places))) out
 over-in m s places out h e z = rw (verdict-in m s places h, ← e) z
 
 pub over-none : (m : VbvMode) (s : List ℕ) (places : ℕ) (out : List ℕ) → modeFits m ≡ false → out ≡ over (recordsBytes (records (verdict m s places))) out

@@ -1,6 +1,7 @@
 -- The walk from picture to picture: what is still to come makes of the state what the whole stream makes of the first one.
 -- Assumes nothing.
 use mathlib.Core.Path.{_≡_, refl, sym, ap, _∙_}
+use mathlib.Core.Bool.{Bool}
 use Prim.Native.Nat.{ℕ, suc, _+_, _*_, _≤_, _<_}
 use mathlib.Core.List.{List, [], _∷_}
 use native.Mathlib.Omega.{arith}
@@ -29,55 +30,55 @@ use Rattle.verify.specs.Steps.{advanced, advancedAll, walkedOver, walked
 
 -- ---- what is still to come
 
-over-none : (p : VbvParams) (k : VbvCadence) (st : Progress) → walkedOver p k 0 st [] ≡ refused 4 0 0 0
+over-none : (v : Bool) (p : VbvParams) (k : VbvCadence) (st : Progress) → walkedOver v p k 0 st [] ≡ refused 4 0 0 0
 unfolding walkedOver pick
-over-none p k st = refl
+over-none v p k st = refl
 
-over-done : (p : VbvParams) (k : VbvCadence) (n : ℕ) (st : Progress) → (n ≡ 0 → ⊥) → walkedOver p k n st [] ≡ value (p, (n, st))
+over-done : (v : Bool) (p : VbvParams) (k : VbvCadence) (n : ℕ) (st : Progress) → (n ≡ 0 → ⊥) → walkedOver v p k n st [] ≡ value (p, (n, st))
 unfolding walkedOver advancedAll timed pick
-over-done p k n st h = let e : n + 0 ≡ n = omega arith in rw (e, ne-eqb n 0 h)
+over-done v p k n st h = let e : n + 0 ≡ n = omega arith in rw (e, ne-eqb n 0 h)
 
-over-more : (p : VbvParams) (k : VbvCadence) (n : ℕ) (st : Progress) (x : SeenPicture) (xs : List SeenPicture)
-    → walkedOver p k n st (x ∷ xs) ≡ walkedOver p (after k (x .facts)) (n + 1) (advanced p st (codedOf (interval k (x .facts)) x)) xs
+over-more : (v : Bool) (p : VbvParams) (k : VbvCadence) (n : ℕ) (st : Progress) (x : SeenPicture) (xs : List SeenPicture)
+    → walkedOver v p k n st (x ∷ xs) ≡ walkedOver v p (after k (x .facts)) (n + 1) (advanced v p st (codedOf (interval k (x .facts)) x)) xs
 unfolding walkedOver advancedAll timed
-over-more p k n st x xs = let e : n + suc (length xs) ≡ n + 1 + length xs = omega arith in rw e
+over-more v p k n st x xs = let e : n + suc (length xs) ≡ n + 1 + length xs = omega arith in rw e
 
-over-before : (p : VbvParams) (k : VbvCadence) (n : ℕ) (st : Progress) (x : SeenPicture) (a : Answer (List SeenPicture))
-    → andThen (before x a) (walkedOver p k n st) ≡ andThen a (walkedOver p (after k (x .facts)) (n + 1) (advanced p st (codedOf (interval k (x .facts)) x)))
-over-before p k n st x (value xs) = over-more p k n st x xs
-over-before p k n st x (refused m i c e) = refl
+over-before : (v : Bool) (p : VbvParams) (k : VbvCadence) (n : ℕ) (st : Progress) (x : SeenPicture) (a : Answer (List SeenPicture))
+    → andThen (before x a) (walkedOver v p k n st) ≡ andThen a (walkedOver v p (after k (x .facts)) (n + 1) (advanced v p st (codedOf (interval k (x .facts)) x)))
+over-before v p k n st x (value xs) = over-more v p k n st x xs
+over-before v p k n st x (refused m i c e) = refl
 
 -- ---- the loop
 
 -- with k before the first picture and j before the next
-pub record Walking (standard : VbvStandard) (s : List ℕ) (p : VbvParams) (k : VbvCadence) (i n : ℕ) (j : VbvCadence) (st : Progress) : Type 0 where
+pub record Walking (standard : VbvStandard) (v : Bool) (s : List ℕ) (p : VbvParams) (k : VbvCadence) (i n : ℕ) (j : VbvCadence) (st : Progress) : Type 0 where
   pub few : n ≤ i
   pub inside : i ≤ length s
-  pub answer : andThen (seenFrom standard s i) (walkedOver p j n st) ≡ andThen (seenPictures standard s) (walkedOver p k 0 Fresh)
+  pub answer : andThen (seenFrom standard s i) (walkedOver v p j n st) ≡ andThen (seenPictures standard s) (walkedOver v p k 0 Fresh)
 
-pub walking-none : (standard : VbvStandard) (s : List ℕ) (p : VbvParams) (k : VbvCadence) → Walking standard s p k 0 0 k Fresh
-walking-none standard s p k = record { few = omega arith; inside = omega arith; answer = rw (seen-from-first standard s) }
+pub walking-none : (standard : VbvStandard) (v : Bool) (s : List ℕ) (p : VbvParams) (k : VbvCadence) → Walking standard v s p k 0 0 k Fresh
+walking-none standard v s p k = record { few = omega arith; inside = omega arith; answer = rw (seen-from-first standard s) }
 
-module _ {standard : VbvStandard} {s : List ℕ} (short : 8 * length s ≤ farthest) {p : VbvParams} {k : VbvCadence} {i n : ℕ} {j : VbvCadence} {st : Progress} (w : Walking standard s p k i n j st) where
-  pub walking-empty : nextSeen standard s i ≡ value nothing → n ≡ 0 → refused 4 0 0 0 ≡ andThen (seenPictures standard s) (walkedOver p k 0 Fresh)
-  walking-empty e z = sym (over-none p j st) ∙ rw (seen-end standard s short i e, z) at (w .answer)
+module _ {standard : VbvStandard} {v : Bool} {s : List ℕ} (short : 8 * length s ≤ farthest) {p : VbvParams} {k : VbvCadence} {i n : ℕ} {j : VbvCadence} {st : Progress} (w : Walking standard v s p k i n j st) where
+  pub walking-empty : nextSeen standard s i ≡ value nothing → n ≡ 0 → refused 4 0 0 0 ≡ andThen (seenPictures standard s) (walkedOver v p k 0 Fresh)
+  walking-empty e z = sym (over-none v p j st) ∙ rw (seen-end standard s short i e, z) at (w .answer)
 
-  pub walking-done : nextSeen standard s i ≡ value nothing → (n ≡ 0 → ⊥) → value (p, (n, st)) ≡ andThen (seenPictures standard s) (walkedOver p k 0 Fresh)
-  walking-done e z = sym (over-done p j n st z) ∙ rw (seen-end standard s short i e) at (w .answer)
+  pub walking-done : nextSeen standard s i ≡ value nothing → (n ≡ 0 → ⊥) → value (p, (n, st)) ≡ andThen (seenPictures standard s) (walkedOver v p k 0 Fresh)
+  walking-done e z = sym (over-done v p j n st z) ∙ rw (seen-end standard s short i e) at (w .answer)
 
-  pub walking-refused : {m : ℕ} → nextSeen standard s i ≡ refused m 0 0 0 → refused m 0 0 0 ≡ andThen (seenPictures standard s) (walkedOver p k 0 Fresh)
+  pub walking-refused : {m : ℕ} → nextSeen standard s i ≡ refused m 0 0 0 → refused m 0 0 0 ≡ andThen (seenPictures standard s) (walkedOver v p k 0 Fresh)
   walking-refused e = rw (seen-refused standard s short i e) at (w .answer)
 
   pub walking-more : {x : SeenPicture} {next : ℕ} → nextSeen standard s i ≡ value (one x next)
-      → {new : Progress} → new ≡ advanced p st (codedOf (interval j (x .facts)) x) → {moved : VbvCadence} → moved ≡ after j (x .facts)
-      → Walking standard s p k next (n + 1) moved new
+      → {new : Progress} → new ≡ advanced v p st (codedOf (interval j (x .facts)) x) → {moved : VbvCadence} → moved ≡ after j (x .facts)
+      → Walking standard v s p k next (n + 1) moved new
   walking-more {x} {next} e h m =
       let q = seen-one standard s short i e in
       rw (h, m)
       (record {
         few = omega (arith, q .0, w .few);
         inside = q .1;
-        answer = sym (over-before p j n st x (seenFrom standard s next)) ∙ rw (q .2) at (w .answer);
+        answer = sym (over-before v p j n st x (seenFrom standard s next)) ∙ rw (q .2) at (w .answer);
       })
 
 -- how many pictures there are to record, by what the walk comes to
@@ -92,24 +93,24 @@ count-refused h e = rw (← e) at h
 -- ---- the front
 
 -- its pictures walked over
-abbrev walkedFront : VbvCadence → Front → Answer (VbvParams × (ℕ × Progress))
-walkedFront k f = walkedOver (f .params) k 0 Fresh (f .first ∷ f .others)
+abbrev walkedFront : Bool → VbvCadence → Front → Answer (VbvParams × (ℕ × Progress))
+walkedFront v k f = walkedOver v (f .params) k 0 Fresh (f .first ∷ f .others)
 
-over-first : (k : VbvCadence) (p : VbvParams) (a : Answer (List SeenPicture)) → andThen a (walkedOver p k 0 Fresh) ≡ andThen (andThen a (λ xs. withFirst p xs)) (walkedFront k)
-over-first k p (value []) = over-none p k Fresh ∙ rw (first-none p)
-over-first k p (value (x ∷ xs)) = rw (first-some p x xs)
-over-first k p (refused n i c e) = refl
+over-first : (v : Bool) (k : VbvCadence) (p : VbvParams) (a : Answer (List SeenPicture)) → andThen a (walkedOver v p k 0 Fresh) ≡ andThen (andThen a (λ xs. withFirst p xs)) (walkedFront v k)
+over-first v k p (value []) = over-none v p k Fresh ∙ rw (first-none p)
+over-first v k p (value (x ∷ xs)) = rw (first-some p x xs)
+over-first v k p (refused n i c e) = refl
 
-module _ (standard : VbvStandard) (k : VbvCadence) (s : List ℕ) where
-  pub walked-refused : {r : Declared} {e : Unread} → r ≡ NotDeclared e → declaredAnswer r ≡ opening standard s → unread e ≡ andThen (front standard s) (walkedFront k)
+module _ (standard : VbvStandard) (v : Bool) (k : VbvCadence) (s : List ℕ) where
+  pub walked-refused : {r : Declared} {e : Unread} → r ≡ NotDeclared e → declaredAnswer r ≡ opening standard s → unread e ≡ andThen (front standard s) (walkedFront v k)
   walked-refused {r} {e} q d = rw (front-unopened standard s (sym d ∙ ap declaredAnswer q))
 
-  pub walked-opened : {p : VbvParams} → opening standard s ≡ value p → {a : Answer (VbvParams × (ℕ × Progress))} → a ≡ andThen (seenPictures standard s) (walkedOver p k 0 Fresh)
-      → a ≡ andThen (front standard s) (walkedFront k)
-  walked-opened {p} e w = w ∙ rw (front-opened standard s e) (over-first k p (seenPictures standard s))
+  pub walked-opened : {p : VbvParams} → opening standard s ≡ value p → {a : Answer (VbvParams × (ℕ × Progress))} → a ≡ andThen (seenPictures standard s) (walkedOver v p k 0 Fresh)
+      → a ≡ andThen (front standard s) (walkedFront v k)
+  walked-opened {p} e w = w ∙ rw (front-opened standard s e) (over-first v k p (seenPictures standard s))
 
-  pub count-opened : {p : VbvParams} → opening standard s ≡ value p → {count : ℕ} → count ≤ walkedCount (andThen (front standard s) (walkedFront k))
-      → count ≤ walkedCount (andThen (seenPictures standard s) (walkedOver p k 0 Fresh))
+  pub count-opened : {p : VbvParams} → opening standard s ≡ value p → {count : ℕ} → count ≤ walkedCount (andThen (front standard s) (walkedFront v k))
+      → count ≤ walkedCount (andThen (seenPictures standard s) (walkedOver v p k 0 Fresh))
   count-opened e h = rw (walked-opened e refl) h
 
 pub opened : (standard : VbvStandard) (s : List ℕ) {r : Declared} {p : VbvParams} → r ≡ Params p → declaredAnswer r ≡ opening standard s → opening standard s ≡ value p

@@ -97,6 +97,7 @@ pub(crate) fn recorded(
 ) -> Removed
     ensures { λ r. ⌜ r ≡ recordedIf model coded expected before removal ⌝ }
 {
+    let interval = coded.interval;
     match removal {
         VbvRemoval::Refused(error) => Removed::Refused(VbvVerifyError::Model(error)),
         VbvRemoval::Violation(violation) => Removed::Refused(VbvVerifyError::Violation(with_delays(
@@ -110,7 +111,7 @@ pub(crate) fn recorded(
                 expected_delay: expected,
                 data_bits: less(coded.end_bits, model.prev_end_bits),
                 occupancy_before_bits: before,
-                periods: periods(coded.interval),
+                periods: periods(interval),
             },
             next,
         ),

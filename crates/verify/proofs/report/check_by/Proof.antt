@@ -15,7 +15,7 @@ judge-requires : tie.Need-judge-requires
 judge-requires c κs = search needs
 
 returns : tie.Need-returns
-returns c = ap verifiedAnswer (c .judge .ensures) ∙ judgement-is _ _ _ _ (c .before .before .walk-front .result) (c .before .before .walk-front .ensures .0)
+returns c = ap verifiedAnswer (c .judge .ensures) ∙ judgement-is _ _ _ _ _ (c .before .before .walk-front .result) (c .before .before .walk-front .ensures .0)
 
 pub check-by-spec : {M : Type 1} → statement M
 check-by-spec =

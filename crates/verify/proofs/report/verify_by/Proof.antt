@@ -22,23 +22,23 @@ record-count-requires c κs = search needs
 
 walk-front-requires-2 : tie.Need-walk-front-requires-2
 walk-front-requires-2 c κs =
-    let v = ap verifiedAnswer (c .before .before .before .judge .ensures) ∙ judgement-is _ _ _ _ (c .before .before .before .before .before .walk-front .result) (c .before .before .before .before .before .walk-front .ensures .0) in
+    let v = ap verifiedAnswer (c .before .before .before .judge .ensures) ∙ judgement-is _ _ _ _ _ (c .before .before .before .before .before .walk-front .result) (c .before .before .before .before .before .walk-front .ensures .0) in
     rw (c .before .before .record-count .ensures)
-    (count-fits (c .before .before .before .before .before .before .before .before .before .args .records .now) (recorded-by _ _ _ _ _ v), rw (← c .before .before .before .before .before .walk-front .ensures .0, c .before .before .before .judge .ensures) (few-judged _ (c .before .before .before .before .before .walk-front .result)))
+    (count-fits (c .before .before .before .before .before .before .before .before .before .args .records .now) (recorded-by _ _ _ _ _ _ v), rw (← c .before .before .before .before .before .walk-front .ensures .0, c .before .before .before .judge .ensures) (few-judged _ (c .before .before .before .before .before .walk-front .result)))
 
 same-length : tie.Need-same-length
 same-length c = search needs
 
 returns : tie.Need-returns
 returns c =
-    let v = ap verifiedAnswer (c .before .before .before .before .before .before .judge .ensures) ∙ judgement-is _ _ _ _ (c .before .before .before .before .before .before .before .before .walk-front .result) (c .before .before .before .before .before .before .before .before .walk-front .ensures .0) in
-    (v, stored-is (c .before .before .before .before .before .before .before .before .before .before .before .before .args .records .now) (recorded-by _ _ _ _ (c .before .before .before .before .before .before .judge .result) v) (rw (c .before .before .before .before .before .record-count .ensures) at (c .before .before .walk-front2 .ensures .1)))
+    let v = ap verifiedAnswer (c .before .before .before .before .before .before .judge .ensures) ∙ judgement-is _ _ _ _ _ (c .before .before .before .before .before .before .before .before .walk-front .result) (c .before .before .before .before .before .before .before .before .walk-front .ensures .0) in
+    (v, stored-is (c .before .before .before .before .before .before .before .before .before .before .before .before .args .records .now) (recorded-by _ _ _ _ _ (c .before .before .before .before .before .before .judge .result) v) (rw (c .before .before .before .before .before .record-count .ensures) at (c .before .before .walk-front2 .ensures .1)))
 
 returns-2 : tie.Need-returns-2
 returns-2 c =
-    let v = ap verifiedAnswer (c .before .before .judge .ensures) ∙ judgement-is _ _ _ _ (c .before .before .before .before .walk-front .result) (c .before .before .before .before .walk-front .ensures .0) in
+    let v = ap verifiedAnswer (c .before .before .judge .ensures) ∙ judgement-is _ _ _ _ _ (c .before .before .before .before .walk-front .result) (c .before .before .before .before .walk-front .ensures .0) in
     let z : c .before .record-count .result ≡ 0 = omega arith in
-    (v, stored-is (c .before .before .before .before .before .before .before .before .args .records .now) (recorded-by _ _ _ _ (c .before .before .judge .result) v) (rw (← c .before .record-count .ensures, z, after-none _ _ _ _) (none-stored _)))
+    (v, stored-is (c .before .before .before .before .before .before .before .before .args .records .now) (recorded-by _ _ _ _ _ (c .before .before .judge .result) v) (rw (← c .before .record-count .ensures, z, after-none _ _ _ _ _) (none-stored _)))
 
 pub verify-by-spec : {M : Type 1} → statement M
 verify-by-spec =

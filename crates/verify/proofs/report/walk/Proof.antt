@@ -11,16 +11,16 @@ use Rattle.verify.proofs.report.walk.Statement.{statement}
 use Rattle.verify.proofs.report.walk.Tie as tie
 
 abbrev Inv-loop : tie.InvT-loop
-Inv-loop stream standard params count out₀ i₀ n₀ first progress₀ out i n cadence progress =
-    Walking standard stream params first i n cadence progress
-    × Stored stream (record { standard = standard; params = params; at = 0; cadence = first; progress = Fresh }) count out₀ out
-    (record { standard = standard; params = params; at = i; cadence = cadence; progress = progress }) n
+Inv-loop stream standard variable params count out₀ i₀ n₀ first progress₀ out i n cadence progress =
+    Walking standard variable stream params first i n cadence progress
+    × Stored stream (record { standard = standard; variable = variable; params = params; at = 0; cadence = first; progress = Fresh }) count out₀ out
+    (record { standard = standard; variable = variable; params = params; at = i; cadence = cadence; progress = progress }) n
 
 abbrev μ-loop : tie.MeasureT-loop
-μ-loop stream standard params count out₀ i₀ n₀ first progress₀ out i n cadence progress = length stream - i
+μ-loop stream standard variable params count out₀ i₀ n₀ first progress₀ out i n cadence progress = length stream - i
 
 loop-holds : tie.Need-loop-holds Inv-loop μ-loop
-loop-holds c = (walking-none _ _ _ _, stored-none _ _ _ _ refl)
+loop-holds c = (walking-none _ _ _ _ _, stored-none _ _ _ _ refl)
 
 next-seen-requires : tie.Need-next-seen-requires Inv-loop μ-loop
 next-seen-requires c κs = search needs

@@ -21,13 +21,13 @@ enum-known-params c = search needs
 walk-requires : tie.Need-walk-requires
 walk-requires c κs =
     let o = opened _ _ (c .before .before .params .given .1) (c .before .before .before .before .opening .ensures) in
-    (opening-opened _ _ o, (omega arith, count-opened _ _ _ o (omega arith)))
+    (opening-opened _ _ o, (omega arith, count-opened _ _ _ _ o (omega arith)))
 
 returns : tie.Need-returns
 returns c =
-    let a = walked-refused _ (c .before .before .before .before .before .before .args .cadence) _ (c .before .error .given .1) (c .before .before .before .opening .ensures) in
+    let a = walked-refused _ (c .before .before .before .before .before .before .args .variable) (c .before .before .before .before .before .before .args .cadence) _ (c .before .error .given .1) (c .before .before .before .opening .ensures) in
     let z : c .before .before .before .before .before .before .args .count ≡ 0 = omega (arith, count-refused {count = c .before .before .before .before .before .before .args .count} (omega arith) a) in
-    (a, rw (z, after-none _ _ _ _) (none-stored _))
+    (a, rw (z, after-none _ _ _ _ _) (none-stored _))
 
 same-length : tie.Need-same-length
 same-length c = search needs
@@ -36,7 +36,7 @@ returns-2 : tie.Need-returns-2
 unfolding recordsAfter
 returns-2 c =
     let o = opened _ _ (c .before .before .before .before .before .params .given .1) (c .before .before .before .before .before .before .before .opening .ensures) in
-    (walked-opened _ _ _ o (c .before .before .walk .ensures .0), rw o (c .before .before .walk .ensures .1))
+    (walked-opened _ _ _ _ o (c .before .before .walk .ensures .0), rw o (c .before .before .walk .ensures .1))
 
 pub walk-front-spec : {M : Type 1} → statement M
 walk-front-spec =

@@ -1,4 +1,4 @@
-use Rattle.verify.specs.Steps.{advanced, goneOn}
+use Rattle.verify.specs.Steps.{goneOnFrom, goneOn}
 use borrow.Author.Needs.{needs}
 use Rattle.verify.proofs.run.before_removal.Statement.{statement}
 use Rattle.verify.proofs.run.before_removal.Tie as tie
@@ -19,19 +19,19 @@ enum-known-progress-3 : tie.Need-enum-known-progress-3
 enum-known-progress-3 c = search needs
 
 returns : tie.Need-returns
-unfolding advanced
+unfolding goneOnFrom
 returns c = rw (c .before .enum-told .given .1) (c .begin .ensures)
 
 returns-2 : tie.Need-returns-2
-unfolding advanced goneOn
+unfolding goneOnFrom goneOn
 returns-2 c = rw (c .before .progress .given .1)
 
 returns-3 : tie.Need-returns-3
-unfolding advanced goneOn
+unfolding goneOnFrom goneOn
 returns-3 c = rw (c .before .progress2 .given .1)
 
 returns-4 : tie.Need-returns-4
-unfolding advanced goneOn
+unfolding goneOnFrom goneOn
 returns-4 c = rw (c .before .progress3 .given .1)
 
 pub before-removal-spec : {M : Type 1} → statement M
