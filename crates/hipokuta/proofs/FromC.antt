@@ -28,7 +28,7 @@ use Rattle.layout.specs.Config.{configSize, hasMode, configIn}
 use Rattle.words.specs.Words.{wordsBytes, wordAt, laid}
 use Rattle.words.proofs.Bytes.{each-small, length-words, word-put}
 use Rattle.layout.specs.Mode.{modeNumber, isMode, modeFor}
-use Rattle.layout.proofs.Modes.{modes-numbered, no-other, for-one, Numbered, one, two, six, one-of}
+use Rattle.layout.proofs.Modes.{modes-numbered, no-mpeg1, for-one, Numbered, one, two, six, ten, fourteen, one-of}
 use Rattle.layout.proofs.Configured.{mode-fits, config-is}
 use Rattle.pictures.specs.declared.VbvStandard.the-variants.{Mpeg1, Mpeg2}
 use Rattle.verify.specs.Mode.{modeFits}
@@ -230,18 +230,19 @@ as-create c more place b = go (decLt (length place) stateSize) (modeFits (c .mod
         with-mode _ place (words-long c more) (omega (arith, h)) _ refl (rw word (m .0)) ∙ ap (λ (x : CbrConfig). createIn x place) (config-read-back c more b (m .1))
     go (no h) false e =
         let u = unfit-mode (c .mode) e in
-        let five : modeNumber (c .mode) ≡ 5 = rw (u .0, u .1) in
-        no-such-mode _ place (words-long c more) (omega (arith, h)) (rw (word, five) (no-other 5 (λ z. omega arith) (λ z. omega arith) (λ z. omega arith)))
+        no-such-mode _ place (words-long c more) (omega (arith, h)) (rw (word, u .0) (no-mpeg1 (c .mode .film) (c .mode .variable) (u .1)))
         ∙ sym (unwritten c place (omega (arith, h)) (u .0))
 
-another-mode : (config place : List ℕ) → configSize ≤ length config → stateSize ≤ length place → (wordAt config 0 ≡ 2 → ⊥) → (wordAt config 0 ≡ 6 → ⊥)
+another-mode : (config place : List ℕ) → configSize ≤ length config → stateSize ≤ length place → (wordAt config 0 ≡ 2 → ⊥) → (wordAt config 0 ≡ 6 → ⊥) → (wordAt config 0 ≡ 10 → ⊥) → (wordAt config 0 ≡ 14 → ⊥)
     → createWith config place ≡ refused 12 0 0 0
-another-mode config place l h a b = go (isMode (wordAt config 0)) refl
+another-mode config place l h a b c d = go (isMode (wordAt config 0)) refl
   where
     mode-is : (n : ℕ) → wordAt config 0 ≡ n → Numbered n → configIn config .mode .standard ≡ Mpeg1
     mode-is n e one = rw (config-is config, e, for-one)
     mode-is n e two = absurd (a e)
     mode-is n e six = absurd (b e)
+    mode-is n e ten = absurd (c e)
+    mode-is n e fourteen = absurd (d e)
 
     go : (t : Bool) → isMode (wordAt config 0) ≡ t → createWith config place ≡ refused 12 0 0 0
     go true e = with-mode config place l h _ refl e ∙ unwritten (configIn config) place h (mode-is (wordAt config 0) refl (one-of (wordAt config 0) e))

@@ -20,7 +20,7 @@ use Rattle.hipokuta.specs.Send.{createIn, createWith, COffer, reach, off
 use Rattle.hipokuta.specs.Numbers.{EntryNumbers}
 
 abbrev Checks : Answer Accepted → Type 0
-Checks a = Numbered (19 ∷ 12 ∷ 14 ∷ 3 ∷ 1 ∷ 2 ∷ 6 ∷ 4 ∷ 5 ∷ 15 ∷ 7 ∷ 8 ∷ []) [] (11 ∷ 9 ∷ 10 ∷ []) a
+Checks a = Numbered (19 ∷ 12 ∷ 14 ∷ 3 ∷ 1 ∷ 2 ∷ 6 ∷ 4 ∷ 5 ∷ 25 ∷ 15 ∷ 7 ∷ 8 ∷ []) [] (11 ∷ 9 ∷ 10 ∷ []) a
 
 vbv-check-numbered : (s : List ℕ) (mode : ℕ) (report recs refusal : List ℕ) → Checks (checked s mode report recs refusal)
 unfolding checked
@@ -30,7 +30,7 @@ vbv-check-numbered s mode report recs refusal =
     wider refl refl refl (check-numbers (modeFor mode) s _)
 
 abbrev Reports : {X : Type 0} → Answer X → Type 0
-Reports a = Numbered (19 ∷ 12 ∷ 14 ∷ 3 ∷ 1 ∷ 2 ∷ 6 ∷ 4 ∷ 5 ∷ 7 ∷ 8 ∷ []) [] (11 ∷ 9 ∷ 10 ∷ []) a
+Reports a = Numbered (19 ∷ 12 ∷ 14 ∷ 3 ∷ 1 ∷ 2 ∷ 6 ∷ 4 ∷ 5 ∷ 25 ∷ 7 ∷ 8 ∷ []) [] (11 ∷ 9 ∷ 10 ∷ []) a
 
 vbv-report-numbered : (s : List ℕ) (mode : ℕ) (report refusal : List ℕ) → Reports (reportAlone s mode report refusal)
 unfolding reportAlone

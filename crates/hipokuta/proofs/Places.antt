@@ -19,7 +19,7 @@ use Rattle.verify.specs.declared.VbvMode.{VbvMode}
 use Rattle.layout.specs.Mode.{isMode, modeFor}
 use Rattle.verify.specs.declared.VbvStreamReport.{VbvStreamReport}
 use Rattle.layout.specs.Answers.{reportSize, refusalSize}
-use Rattle.layout.proofs.Modes.{is-one, is-two, is-six, for-one, for-two, for-six, no-other}
+use Rattle.layout.proofs.Modes.{is-one, is-two, is-six, is-ten, is-fourteen, for-one, for-two, for-six, for-ten, for-fourteen, no-other}
 use Rattle.hipokuta.specs.Check.{checked, reportAlone, OwedOfReports, Modes, OwedOfModes}
 
 module _ (s : List ℕ) (mode : ℕ) (report recs refusal : List ℕ) where
@@ -78,7 +78,9 @@ module _ (s report recs refusal : List ℕ) (l : reportSize ≤ length report) (
     mpeg-1 = rw (← for-one) (checked-in 1 is-one);
     mpeg-2 = rw (← for-two) (checked-in 2 is-two);
     film-2 = rw (← for-six) (checked-in 6 is-six);
-    no-mode = λ mode a b c. let e = no-other mode a b c in (none-checked mode e, none-reported mode e);
+    variable-2 = rw (← for-ten) (checked-in 10 is-ten);
+    film-variable-2 = rw (← for-fourteen) (checked-in 14 is-fourteen);
+    no-mode = λ mode a b c d f. let e = no-other mode a b c d f in (none-checked mode e, none-reported mode e);
   }
 
 pub modes : OwedOfModes

@@ -8,7 +8,7 @@ use Rattle.words.specs.Words.{wordsBytes, laid}
 use Rattle.headers.specs.Answers.{flagOf}
 use Rattle.rate_control.specs.declared.CbrWriter.{CbrWriter}
 use Rattle.rate_control.proofs.States.{Three, of-three, is-three}
-use Rattle.pictures.specs.declared.VbvStandard.the-variants.{Mpeg2}
+use Rattle.verify.specs.Mode.{mpeg2}
 use Rattle.layout.specs.Mode.{modeNumber}
 use Rattle.layout.specs.State.{pendingCode, pendingQuantiser, openCode, cadenceWords, stateWords, stateBytes}
 
@@ -18,7 +18,7 @@ three-then t (of-three a b c) = refl
 
 pub state-told : (place : List ℕ) (w : CbrWriter) (started code waits finished : ℕ) → length (w .«target_bits») ≡ 3 → length (w .q) ≡ 3
     → started ≡ flagOf (w .model .started) → code ≡ pendingCode (w .pending) → waits ≡ pendingQuantiser (w .pending) → finished ≡ flagOf (w .finished)
-    → (mode progressive low repeat top waiting : ℕ) → mode ≡ modeNumber (record { standard = Mpeg2; film = w .cadence .film }) → progressive ≡ flagOf (w .cadence .progressive)
+    → (mode progressive low repeat top waiting : ℕ) → mode ≡ modeNumber (mpeg2 (w .cadence .film) (w .variable)) → progressive ≡ flagOf (w .cadence .progressive)
     → low ≡ flagOf (w .cadence .«low_delay») → repeat ≡ flagOf (w .cadence .repeat) → top ≡ flagOf (w .cadence .top) → waiting ≡ openCode (w .cadence .waiting)
     → (out : List ℕ)
     → out

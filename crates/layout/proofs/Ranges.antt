@@ -15,7 +15,8 @@ use Rattle.rate_control.specs.declared.Pending.the-variants.{Nothing, Waits}
 use Rattle.rate_control.specs.declared.CbrWriter.{CbrWriter}
 use Rattle.headers.proofs.Answers.{flag-bound}
 use Rattle.vbv.specs.Model.{farthest}
-use Rattle.vbv.proofs.Fitting.{model-fits}
+use Rattle.vbv.proofs.Fitting.{range-fits, model-in-range, in-range, frames-in-range}
+use Rattle.vbr.proofs.Either.{fits-range-at}
 use Rattle.rate_control.proofs.Fitting.{all-fit-at, quantiser-is, writer-fits}
 use Rattle.rate_control.proofs.States.{pending-some}
 use Rattle.layout.specs.State.{pendingCode, pendingQuantiser, stateWords}
@@ -48,14 +49,16 @@ pub state-small : (w : CbrWriter) → writerFits w ≡ true → AllWords (stateW
 unfolding stateWords
 state-small w h =
     let f = writer-fits h in
-    let m = model-fits (f .model-fits) in
-    let p = m .params-fit in
-    small-more (omega (arith, p .rate-high))
-    (small-more (omega (arith, p .size-high))
-    (small-more (omega (arith, p .frn-high))
-    (small-more (omega (arith, p .frd-high))
+    let e = fits-range-at (w .variable) (w .model) (f .model-fits) in
+    let m = range-fits e in
+    let p = in-range (w .model .params) (m .params-in) in
+    let q = frames-in-range (w .model .params) (m .params-in) in
+    small-more (omega (arith, p .0))
+    (small-more (omega (arith, p .1))
+    (small-more (omega (arith, q .0))
+    (small-more (omega (arith, q .1))
     (small-more (omega (arith, m .whole-high))
-    (small-more (omega (arith, m .rest-low, p .frn-high))
+    (small-more (omega (arith, model-in-range e))
     (small-more (omega (arith, m .end-high))
     (small-more (omega (arith, m .removed-high))
     (small-more (omega (arith, flag-bound (w .model .started)))
@@ -64,4 +67,4 @@ state-small w h =
     (small-more (omega (arith, code-low (w .pending)))
     (small-more (omega (arith, quantiser-low (w .pending) (f .pending)))
     (small-more (omega (arith, f .stuffed, m .end-high))
-    (small-more (omega (arith, flag-bound (w .finished))) (cadence-small (w .cadence))))))))))))))))
+    (small-more (omega (arith, flag-bound (w .finished))) (cadence-small (w .variable) (w .cadence))))))))))))))))

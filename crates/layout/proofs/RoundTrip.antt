@@ -26,7 +26,7 @@ use Rattle.words.proofs.Bytes.{length-words, word-put, wordsFrom, words-back}
 use Rattle.words.proofs.Laying.{laid-over, length-laid}
 use Rattle.layout.specs.State.{stateSize, pendingCode, pendingQuantiser, cadenceWords, stateWords, stateBytes, pendingOf, codesFit, writerAt, stateFits}
 use Rattle.cadence.specs.declared.VbvCadence.{VbvCadence}
-use Rattle.layout.proofs.Cadences.{cadence-length, Stands, stands-fits, stands-read, cadence-back}
+use Rattle.layout.proofs.Cadences.{cadence-length, Stands, stands-fits, stands-rate, stands-read, cadence-back}
 use Rattle.layout.proofs.Ranges.{code-low, state-small}
 
 -- ---- a writer's lists
@@ -34,8 +34,8 @@ use Rattle.layout.proofs.Ranges.{code-low, state-small}
 length-state-words : (w : CbrWriter) → length (w .«target_bits») ≡ 3 → length (w .q) ≡ 3 → length (stateWords w) ≡ 25
 unfolding stateWords
 length-state-words w t q =
-    let rest = pendingCode (w .pending) ∷ pendingQuantiser (w .pending) ∷ w .«stuffing_bytes» ∷ flagOf (w .finished) ∷ cadenceWords (w .cadence) in
-    omega (arith, length-append (w .«target_bits») (w .q ++ rest), length-append (w .q) rest, cadence-length (w .cadence))
+    let rest = pendingCode (w .pending) ∷ pendingQuantiser (w .pending) ∷ w .«stuffing_bytes» ∷ flagOf (w .finished) ∷ cadenceWords (w .variable) (w .cadence) in
+    omega (arith, length-append (w .«target_bits») (w .q ++ rest), length-append (w .q) rest, cadence-length (w .variable) (w .cadence))
 
 pub length-state : (w : CbrWriter) → length (w .«target_bits») ≡ 3 → length (w .q) ≡ 3 → length (stateBytes w) ≡ stateSize
 unfolding stateBytes
@@ -71,13 +71,13 @@ stand-put w place h t q l k g =
     (word-put (state-small w h) (drop (length b) place) k (omega (arith, lit< {m = k} {n = 25} g, length-state-words w t q)))
 
 -- so they are read: the codes fit, and the writer is that one
-stand-read : (m : VbvCbrModel) {t q : List ℕ} → Three t → Three q → (p : Pending) (n : ℕ) (f : Bool) (k : VbvCadence) (s : List ℕ)
-    → Stand (record { model = m; «target_bits» = t; q = q; pending = p; «stuffing_bytes» = n; finished = f; cadence = k }) s
+stand-read : (m : VbvCbrModel) {t q : List ℕ} → Three t → Three q → (p : Pending) (n : ℕ) (f : Bool) (k : VbvCadence) (v : Bool) (s : List ℕ)
+    → Stand (record { model = m; «target_bits» = t; q = q; pending = p; «stuffing_bytes» = n; finished = f; cadence = k; variable = v }) s
     → (codesFit s ≡ true)
-    × (writerAt s ≡ record { model = m; «target_bits» = t; q = q; pending = p; «stuffing_bytes» = n; finished = f; cadence = k })
+    × (writerAt s ≡ record { model = m; «target_bits» = t; q = q; pending = p; «stuffing_bytes» = n; finished = f; cadence = k; variable = v })
 unfolding stateWords cadenceWords codesFit writerAt
-stand-read m (of-three a b c) (of-three d e g) p n f k s at = (
-  rw (at 8 tt, at 15 tt, at 16 tt, at 18 tt, pending-told p, stands-fits k s stands) (simp (le-leb _ _ (flag-bound (m .started)), le-leb _ _ (code-low p), le-leb _ _ (flag-bound f))),
+stand-read m (of-three a b c) (of-three d e g) p n f k v s at = (
+  rw (at 8 tt, at 15 tt, at 16 tt, at 18 tt, pending-told p, stands-fits v k s stands) (simp (le-leb _ _ (flag-bound (m .started)), le-leb _ _ (code-low p), le-leb _ _ (flag-bound f))),
   rw (
     at 0 tt,
     at 1 tt,
@@ -101,11 +101,12 @@ stand-read m (of-three a b c) (of-three d e g) p n f k s at = (
     at 17 tt,
     at 18 tt,
     flag-same f,
-    stands-read k s stands,
+    stands-read v k s stands,
+    stands-rate v k s stands,
   ),
 )
   where
-    stands : Stands k s
+    stands : Stands v k s
     stands = record { mode = at 19 tt; progressive = at 20 tt; low-delay = at 21 tt; repeat = at 22 tt; top = at 23 tt; waiting = at 24 tt }
 
 module _ (w : CbrWriter) (place : List ℕ) (h : writerFits w ≡ true) (t : length (w .«target_bits») ≡ 3) (q : length (w .q) ≡ 3) (l : stateSize ≤ length place) where
@@ -113,7 +114,7 @@ module _ (w : CbrWriter) (place : List ℕ) (h : writerFits w ≡ true) (t : len
   unfolding stateFits
   read-put =
       let s = laid (stateBytes w) place in
-      let r = stand-read (w .model) (is-three _ t) (is-three _ q) (w .pending) (w .«stuffing_bytes») (w .finished) (w .cadence) s (stand-put w place h t q l) in
+      let r = stand-read (w .model) (is-three _ t) (is-three _ q) (w .pending) (w .«stuffing_bytes») (w .finished) (w .cadence) (w .variable) s (stand-put w place h t q l) in
       (rw (length-laid (stateBytes w) place, le-leb _ _ l, r .0, r .1, h), r .1)
 
 -- ---- put back what was read

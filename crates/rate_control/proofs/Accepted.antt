@@ -6,8 +6,8 @@ use mathlib.Core.List.{List, [], _∷_}
 use Prim.Native.Nat.{ℕ, suc, _+_, _-_, _*_, _≤_}
 use native.Mathlib.Omega.{arith}
 use lib.ListN.{length}
-use Rattle.vbv.specs.Annex.{firstDelivered, gain}
-use Rattle.vbv.specs.Model.{farthest, paramsFit, periods}
+use Rattle.vbv.specs.Annex.{firstArrived, arrived}
+use Rattle.vbv.specs.Model.{farthest, paramsFitAt, periods}
 use Rattle.vbv.specs.declared.RemovalInterval.{RemovalInterval}
 use Rattle.vbv.specs.declared.VbvParams.{VbvParams}
 use Rattle.vbv.proofs.Laws.{units-over, units-beyond}
@@ -22,6 +22,7 @@ use Rattle.pictures.specs.declared.VbvStandard.the-variants.{Mpeg1, Mpeg2}
 use Rattle.cadence.specs.Cadence.{after}
 use Rattle.cadence.specs.declared.VbvCadence.{VbvCadence}
 use Rattle.verify.specs.declared.VbvMode.{VbvMode}
+use Rattle.verify.specs.Accepted.{DelaysFit}
 use Rattle.verify.specs.Coded.{timed}
 use Rattle.verify.proofs.Accepting.{Passed, exactRecord, run-none, run-passed, accepted}
 use Rattle.verify.proofs.Rates.{same-run}
@@ -33,9 +34,9 @@ use Rattle.rate_control.proofs.Sending.{seenBy, seenSent, codedSent, co
 
 -- ---- the run over the pictures
 
-done-passed : {p : VbvParams} {i : RemovalInterval} {d previous : ℕ} {x : Sent} → Done p i d previous x → Passed p previous d (codedSent i x)
+done-passed : {v : Bool} {p : VbvParams} {i : RemovalInterval} {d previous : ℕ} {x : Sent} → Done v p i d previous x → Passed v p previous d (codedSent i x)
 unfolding codedSent
-done-passed {p} r = record {
+done-passed {p = p} r = record {
   in-time = r .in-time;
   delay-exact = r .as-placed .delay-exact;
   delay-told = r .as-placed .delay-told;
@@ -43,16 +44,16 @@ done-passed {p} r = record {
   no-underflow = units-beyond p _ _ (r .in-buffer .no-underflow);
 }
 
-done-record : {p : VbvParams} {i : RemovalInterval} {d previous : ℕ} {x : Sent} → Done p i d previous x → exactRecord p previous d (codedSent i x) ≡ sentRecord p i d previous x
+done-record : {v : Bool} {p : VbvParams} {i : RemovalInterval} {d previous : ℕ} {x : Sent} → Done v p i d previous x → exactRecord p previous d (codedSent i x) ≡ sentRecord p i d previous x
 unfolding codedSent sentRecord
 done-record {previous = previous} {x = x} r =
     let e : 8 * (x .before + length (x .bytes)) - previous ≡ 8 * length (x .bytes) = omega (arith, r .begins) in
     rw e
 
-course-ran : {p : VbvParams} {k : VbvCadence} {d previous : ℕ} {xs : List Sent} (n : ℕ) → RemovalsDone p k d previous xs
-    → run p n previous d (codedBy k xs) ≡ value (sentRecords p k d previous xs)
+course-ran : {v : Bool} {p : VbvParams} {k : VbvCadence} {d previous : ℕ} {xs : List Sent} (n : ℕ) → RemovalsDone v p k d previous xs
+    → run v p n previous d (codedBy k xs) ≡ value (sentRecords v p k d previous xs)
 unfolding codedSent codedBy sentRecords
-course-ran {p} {k} {d} {previous} n no-removal = run-none p n previous d
+course-ran {v} {p} {k} {d} {previous} n no-removal = run-none v p n previous d
 course-ran n (removal-then {k = k} {x = x} {xs = xs} r c) = rw (← done-record r) (run-passed n (codedBy (after k (sentFacts x)) xs) (done-passed r) (course-ran (suc n) c))
 
 -- ---- the verdict
@@ -65,32 +66,37 @@ unfolding seenBy
 seen-length [] = refl
 seen-length (x ∷ xs) = ap suc (seen-length xs)
 
-first-told : {p : VbvParams} {k : VbvCadence} {d previous : ℕ} {x : Sent} {xs : List Sent} → RemovalsDone p k d previous (x ∷ xs) → x .delay ≤ 65534
-first-told (removal-then r c) = r .as-placed .delay-told
+-- at a constant rate the first delay is no 0xFFFF, at a variable one each is
+delays-fit : (v : Bool) {p : VbvParams} {k : VbvCadence} {d previous : ℕ} {xs : List Sent} → RemovalsDone v p k d previous xs → DelaysFit v (seenBy xs)
+unfolding seenBy seenSent
+delays-fit v no-removal = tt
+delays-fit false (removal-then r c) = λ e. omega (arith, e, r .as-placed .delay-told refl)
+delays-fit true (removal-then r c) = (r .as-placed .delay-exact, delays-fit true c)
 
 -- what the first headers declare, the same as p but for numerator and denominator: the check runs alike with either. And they open the cadence of the check
-passes-by : (m : VbvMode) (p : VbvParams) (x : Sent) (xs : List Sent) → m .standard ≡ Mpeg2 → paramsFit p ≡ true → 8 * length (endToEnd (x ∷ xs)) ≤ farthest → EachDone (m .film) p (x ∷ xs)
+passes-by : (m : VbvMode) (p : VbvParams) (x : Sent) (xs : List Sent) → m .standard ≡ Mpeg2 → paramsFitAt (m .variable) p ≡ true → 8 * length (endToEnd (x ∷ xs)) ≤ farthest
+    → EachDone (m .variable) (m .film) p (x ∷ xs)
     → (s : DeclaresSame p (x .offer .headers)) → declared Mpeg2 (endToEnd (x ∷ xs)) ≡ value (s .params)
     → cadenceOf (m .film) (endToEnd (x ∷ xs)) ≡ cadenceBy (m .film) (x .offer .headers)
     → seenPictures Mpeg2 (endToEnd (x ∷ xs)) ≡ value (seenBy (x ∷ xs)) → ((k : VbvCadence) → timed k (seenBy (x ∷ xs)) ≡ codedBy k (x ∷ xs))
     → PassesCheck m p (x ∷ xs)
 unfolding seenBy seenSent sentRecords
 passes-by m p x xs q f l c s d j h t places n =
-    let first = firstDelivered p (sentPosition x) (x .delay) in
+    let first = firstArrived (m .variable) p (sentPosition x) (x .delay) in
     let b = cadenceBy (m .film) (x .offer .headers) in
     let k = same-told p (s .params) (s .same) in
     let v = same-value p (s .params) (s .same) in
-    let ran = sym (same-run k 0 0 _ _ (k .first (sentPosition x) (x .delay)) (codedBy b (x ∷ xs))) ∙ course-ran 0 c in
+    let ran = sym (same-run k (m .variable) 0 0 _ _ (k .first-arrived (m .variable) (sentPosition x) (x .delay)) (codedBy b (x ∷ xs))) ∙ course-ran 0 c in
     let a = accepted
     {m = m}
     {s = endToEnd (x ∷ xs)}
     {x = seenSent x}
     {xs = seenBy xs}
     {r = sentRecord p (lastsFor b x) first 0 x}
-    {rs = sentRecords p (after b (sentFacts x)) (first + gain p (periods (lastsFor b x))) (sentEnd x) xs}
+    {rs = sentRecords (m .variable) p (after b (sentFacts x)) (arrived (m .variable) p (sentEnd x) first (periods (lastsFor b x))) (sentEnd x) xs}
     places
     (record { mode-exists = λ e. absurd (not-both (sym e ∙ q)); is-read = rw q (record { short = l; declares = d; pictures-are = h }) })
-    (first-told c) (sym (k .fits) ∙ f)
+    (delays-fit (m .variable) c) (sym (k .fits-at (m .variable)) ∙ f)
     (rw (seen-length xs) n) (rw (j, t) ran) in
     record {
       report-is = rw (a, v .rate, v .size);
@@ -120,7 +126,8 @@ sending-begun film {p} {x} {xs} a = go (a .parts) (a .fit) (a .seen-is) (a .head
           opens = ap (cadenceOf film) l ∙ stream-cadence film f ys (a .follows) ∙ ap (cadenceBy film) h;
         }
 
-pub passes : (m : VbvMode) (p : VbvParams) (xs : List Sent) → m .standard ≡ Mpeg2 → paramsFit p ≡ true → 8 * length (endToEnd xs) ≤ farthest → EachDone (m .film) p xs
+pub passes : (m : VbvMode) (p : VbvParams) (xs : List Sent) → m .standard ≡ Mpeg2 → paramsFitAt (m .variable) p ≡ true → 8 * length (endToEnd xs) ≤ farthest
+    → EachDone (m .variable) (m .film) p xs
     → Sending p false 0 xs → PassesCheck m p xs
 passes m p [] q f l c a = tt
 passes m p (x ∷ xs) q f l c a =

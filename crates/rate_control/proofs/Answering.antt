@@ -1,7 +1,7 @@
 -- Every answer is the one that is due.
 -- Assumes nothing.
 use mathlib.Core.Path.{_≡_, refl, sym, ap, subst, _∙_}
-use mathlib.Core.Bool.{Bool, true, false, _||_, true≢false}
+use mathlib.Core.Bool.{Bool, true, false, not, _&&_, _||_, true≢false}
 use mathlib.Core.List.{List}
 use Prim.Native.Nat.{ℕ, zero, suc, _+_, _*_, _≤_, _<_}
 use native.Mathlib.Omega.{arith}
@@ -9,27 +9,26 @@ use lib.Dec.{ltb}
 use borrow.Author.Tests.{ltb-false, ltb-true, eqb-true, eqb-false, not-true, not-false}
 use Rattle.bits.specs.Bits.{pick}
 use Rattle.bits.specs.Refusals.{Answer, refused}
-use Rattle.bits.proofs.Flags.{or-left, or-right, or-other, pick-elim}
+use Rattle.bits.proofs.Flags.{both-true, or-left, or-right, or-other, pick-elim}
 use Rattle.bits.proofs.Over.{over-take, over-drop}
 use Rattle.vbv.specs.Model.{farthest}
 use Rattle.vbv.specs.Annex.{unit, overflows, beyond}
 use Rattle.vbv.specs.declared.VbvParams.{VbvParams}
-use Rattle.vbv.proofs.Laws.{over-units, over-full, beyond-units, beyond-there, first-in-time, fits-params}
+use Rattle.vbv.proofs.Laws.{over-units, over-full, beyond-units, beyond-there, first-in-time}
 use Rattle.layers.specs.declared.PictureKind.{PictureKind}
 use Rattle.layers.specs.declared.PictureKind.the-variants.{I, P, B}
 use Rattle.layers.specs.Layer.{layerFits}
 use Rattle.rate_control.specs.Answers.{Given}
 use Rattle.rate_control.specs.Writer.{index, clashes, asked}
-use Rattle.rate_control.specs.Offer.{Offer, position, content, end, deliveredAt, deliveredNext, stuffing, delay, firstDelay, tooLarge, placedBytes, offer, outOf}
+use Rattle.rate_control.specs.Offer.{Offer, position, content, end, deliveredAt, stuffing, delay, firstDelay, tooLarge, placedBytes, offer, outOf}
 use Rattle.rate_control.specs.Sent.{positionOf, contentOf, Stuffs}
 use Rattle.rate_control.specs.Due.{Known, deliveredFor, holding, OutOfTurn, last-placed, other-kind, Fitting, Near, OnTime, AllDelivered, delayFor, Due, out-of-turn, bad-headers, bad-layer, far-position, far-end, early-position, overflowing, too-large, largest, no-edge, no-room, room, PartHolds, lastsIn}
 use Rattle.rate_control.specs.declared.Pending.{Pending}
 use Rattle.rate_control.specs.declared.Pending.the-variants.{Nothing, Waits}
 use Rattle.rate_control.specs.declared.CbrWriter.{CbrWriter}
 use Rattle.vbv.proofs.Cases.{delivered-of}
-use Rattle.rate_control.proofs.Chain.{Placing, Outcome, stays, closes, retries, hands-out}
-use Rattle.rate_control.proofs.Fitting.{writer-fits}
-use Rattle.rate_control.proofs.Placing.{delivered-later, delivered-first, placed-size, stuffing-last, stuffing-least, first-told}
+use Rattle.rate_control.proofs.Chain.{at-constant, Placing, Outcome, stays, closes, retries, hands-out}
+use Rattle.rate_control.proofs.Placing.{delivered-later, delivered-first, placed-size, stuffing-last, stuffing-least, overflow-constant, edge-constant, delay-is, first-told}
 use Rattle.rate_control.proofs.Retries.{below-31}
 use Rattle.rate_control.proofs.Invariant.{Inv, asked-quant}
 use Rattle.rate_control.proofs.Removing.{position-same, content-same}
@@ -85,20 +84,20 @@ module _ (p : VbvParams) (t : List ℕ) (x : Known) (o : Offer) {n : ℕ} (h : I
   unfolding end
   at-end = rw at-content
 
-  pub stuffs : layerFits (x .cadence .film) (o .kind) (o .interval) (o .layer) ≡ true → Stuffs p (x .bytes) (deliveredFor p x o) (lastsIn x o) o (stuffing held o)
-  unfolding deliveredNext
+  pub stuffs : layerFits (x .cadence .film) (o .kind) (o .interval) (o .layer) ≡ true
+      → Stuffs (x .variable) p (x .bytes) (deliveredFor p x o) (lastsIn x o) o (stuffing held o)
   stuffs f = record {
-    least = λ e j. rw (← lasts-known p t x o f, ← delivered-known p t x o, ← at-content) (stuffing-least held o (fits-params (held .model) (writer-fits (h .fits) .model-fits)) e j);
+    least = λ e j. rw (← lasts-known p t x o f, ← delivered-known p t x o, ← at-content) (stuffing-least held o (h .fits) e j);
     after-last = stuffing-last held o;
   }
 
-  late : beyond p (position held o) (deliveredAt held o) ≡ true → 1 ≤ x .pictures
-  late e = go (x .pictures) refl
+  late : x .variable ≡ false → beyond p (position held o) (deliveredAt held o) ≡ true → 1 ≤ x .pictures
+  late v e = go (x .pictures) refl
     where
       go : (k : ℕ) → x .pictures ≡ k → 1 ≤ x .pictures
       go zero g =
           let s : held .model .started ≡ false = rw g in
-          absurd (true≢false (sym e ∙ rw (delivered-first held o s) (first-in-time p (position held o) (firstDelay p))))
+          absurd (true≢false (sym e ∙ rw (delivered-first held o v s) (first-in-time p (position held o) (firstDelay p))))
       go (suc k) g = omega (arith, g)
 
   at-first : x .finished ≡ false → overflows p (8 * x .bytes) (deliveredAt held o) ≡ true → x .pictures ≡ 0
@@ -111,12 +110,13 @@ module _ (p : VbvParams) (t : List ℕ) (x : Known) (o : Offer) {n : ℕ} (h : I
           absurd (true≢false (sym e ∙ rw (delivered-later held o s) (h .room s f)))
 
   pub delay-known : Placing held o → delay held o ≡ delayFor p x o
-  unfolding delay pick
-  delay-known g = go (held .model .started) refl
+  unfolding pick
+  delay-known g = go (x .variable) refl (held .model .started) refl
     where
-      go : (b : Bool) → held .model .started ≡ b → delay held o ≡ delayFor p x o
-      go true e = rw (delivered-later held o e, delivered-of, e, at-position)
-      go false e = first-told held o g e ∙ rw e
+      go : (v : Bool) → x .variable ≡ v → (b : Bool) → held .model .started ≡ b → delay held o ≡ delayFor p x o
+      go true v b e = delay-is held o v ∙ rw v
+      go false v true e = delay-is held o v ∙ rw (delivered-later held o e, delivered-of, at-position, v, e)
+      go false v false e = first-told held o g v e ∙ rw (v, e)
 
   size-due : OnTime p x o (stuffing held o) → deliveredFor p x o < contentOf (x .bytes) o * unit p → D (tooLarge (asked held (o .kind)))
   unfolding asked
@@ -139,13 +139,14 @@ module _ (p : VbvParams) (t : List ℕ) (x : Known) (o : Offer) {n : ℕ} (h : I
         position-near = rw (← at-position) (ltb-false farthest (position held o) (or-left _ _ h14));
         end-near = rw (← at-end) (ltb-false farthest (end held o) (or-right (ltb farthest (position held o)) _ h14));
       } in
-      pick-elim D _ (λ e. early-position near (rw (← delivered-known p t x o, ← at-position) (beyond-there p _ _ e)) (late e)) λ h7.
-      let in-time : positionOf (x .bytes) o * unit p ≤ deliveredFor p x o = rw (← delivered-known p t x o, ← at-position) (beyond-units p _ _ h7) in
+      pick-elim D _ (λ e. early-due near e) λ h7.
+      let in-time : x .variable ≡ false → positionOf (x .bytes) o * unit p ≤ deliveredFor p x o
+      = λ v. rw (← delivered-known p t x o, ← at-position) (beyond-units p _ _ (at-constant (x .variable) _ h7 v)) in
       pick-elim D _ (λ e. overflow-due near in-time (or-left _ _ h17) e) λ h9.
       let timely : OnTime p x o (stuffing held o) = record { near = near; in-time = in-time; no-overflow = rw (← delivered-known p t x o) (over-units p _ _ h9) } in
       pick-elim D _ (λ e. size-due timely (rw (← delivered-known p t x o, ← at-content) (beyond-there p _ _ e))) λ size.
       pick-elim D _
-      (λ e. no-edge timely (rw (← delivered-known p t x o, ← at-content) (beyond-units p _ _ size)) (rw (← delivered-known p t x o, ← at-end) (beyond-there p _ _ e)))
+      (λ e. no-edge (edge-constant held o size e) timely (rw (← delivered-known p t x o, ← at-content) (beyond-units p _ _ size)) (rw (← delivered-known p t x o, ← at-end) (beyond-there p _ _ e)))
       λ h22.
       let whole : AllDelivered p x o (stuffing held o) = record { on-time = timely; end-delivered = rw (← delivered-known p t x o, ← at-end) (beyond-units p _ _ h22) } in
       pick-elim D _ (λ e. no-room whole (rw (← placed-size held o) (ltb-true _ _ e))) λ h19.
@@ -158,7 +159,7 @@ module _ (p : VbvParams) (t : List ℕ) (x : Known) (o : Offer) {n : ℕ} (h : I
         layer-fits = not-false _ h20;
         position-far = ltb-false farthest (position held o) (or-left _ _ h14);
         end-far = ltb-false farthest (end held o) (or-right (ltb farthest (position held o)) _ h14);
-        in-time = h7;
+        in-time = at-constant (x .variable) _ h7;
         no-overflow = h9;
         no-underflow = h22;
         room = ltb-false _ _ h19;
@@ -169,11 +170,18 @@ module _ (p : VbvParams) (t : List ℕ) (x : Known) (o : Offer) {n : ℕ} (h : I
       far g true e f = far-position g (rw (← at-position) (ltb-true _ _ e))
       far g false e f = far-end g (stuffs (g .layer-fits)) (rw (← at-end) (ltb-true farthest (end held o) (or-other (ltb farthest (position held o)) _ f e)))
 
-      overflow-due : Near p x o (stuffing held o) → positionOf (x .bytes) o * unit p ≤ deliveredFor p x o → x .finished ≡ false
+      early-due : Near p x o (stuffing held o) → not (x .variable) && beyond p (position held o) (deliveredAt held o) ≡ true → D (refused 7 0 0 0)
+      early-due near e =
+          let b = both-true (not (x .variable)) _ e in
+          let v = not-true _ (b .0) in
+          early-position v near (rw (← delivered-known p t x o, ← at-position) (beyond-there p _ _ (b .1))) (late v (b .1))
+
+      overflow-due : Near p x o (stuffing held o) → (x .variable ≡ false → positionOf (x .bytes) o * unit p ≤ deliveredFor p x o) → x .finished ≡ false
           → overflows p (8 * x .bytes) (deliveredAt held o) ≡ true → D (refused 9 (x .pictures) 0 0)
       overflow-due near in-time f e =
           let z = at-first f e in
-          subst (λ (k : ℕ). D (refused 9 k 0 0)) (sym z) (overflowing near in-time (rw (← delivered-known p t x o) (over-full p _ _ e)) z)
+          let v = overflow-constant held o (h .fits) e in
+          subst (λ (k : ℕ). D (refused 9 k 0 0)) (sym z) (overflowing v near (in-time v) (rw (← delivered-known p t x o) (over-full p _ _ e)) z)
 
 -- ---- what its output part holds
 

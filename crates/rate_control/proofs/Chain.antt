@@ -1,7 +1,7 @@
 -- What an offer can come to, with the facts that the tests on the way give.
 -- Assumes nothing.
 use mathlib.Core.Path.{_≡_, refl}
-use mathlib.Core.Bool.{true, false}
+use mathlib.Core.Bool.{Bool, true, false, not, _&&_}
 use Prim.Native.Nat.{ℕ, _≤_}
 use lib.Dec.{ltb, eqb}
 use lib.ListN.{length}
@@ -21,6 +21,17 @@ use Rattle.rate_control.specs.declared.CbrWriter.{CbrWriter}
 abbrev pub q-of : CbrWriter → Offer → ℕ
 q-of w o = asked w (o .kind)
 
+-- a test that is asked only at a constant rate
+pub at-constant : (v b : Bool) → not v && b ≡ false → v ≡ false → b ≡ false
+at-constant v b h e = rw e at (h)
+
+pub by-constant : (v b : Bool) → (v ≡ false → b ≡ false) → not v && b ≡ false
+by-constant true b h = refl
+by-constant false b h = h refl
+
+pub asked-constant : (v b : Bool) → v ≡ false → b ≡ true → not v && b ≡ true
+asked-constant v b e h = rw (e, h)
+
 -- what the tests before a placing have shown
 pub record Placing (w : CbrWriter) (o : Offer) : Type 0 where
   pub fitted : writerFits w ≡ true
@@ -30,7 +41,7 @@ pub record Placing (w : CbrWriter) (o : Offer) : Type 0 where
   pub layer-fits : layerFits (w .cadence .film) (o .kind) (o .interval) (o .layer) ≡ true
   pub position-far : position w o ≤ farthest
   pub end-far : end w o ≤ farthest
-  pub in-time : beyond (w .model .params) (position w o) (deliveredAt w o) ≡ false
+  pub in-time : w .variable ≡ false → beyond (w .model .params) (position w o) (deliveredAt w o) ≡ false
   pub no-overflow : overflows (w .model .params) (w .model .«prev_end_bits») (deliveredAt w o) ≡ false
   pub no-underflow : beyond (w .model .params) (end w o) (deliveredAt w o) ≡ false
   pub room : length (placedBytes w o) ≤ length (o .out)
@@ -66,7 +77,7 @@ outcome w o =
       layer-fits = not-false _ h20;
       position-far = ltb-false _ _ (or-left _ _ h14);
       end-far = ltb-false _ _ (or-right (ltb farthest (position w o)) _ h14);
-      in-time = h7;
+      in-time = at-constant (w .variable) _ h7;
       no-overflow = h9;
       no-underflow = h22;
       room = ltb-false _ _ h19;

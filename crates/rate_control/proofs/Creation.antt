@@ -14,7 +14,8 @@ use Rattle.bits.specs.Refusals.{value, orElse}
 use Rattle.vbv.specs.Answers.{frameRate, modelAnswer, rateAnswer}
 use Rattle.bits.proofs.Flags.{was-held, both-true}
 use Rattle.vbv.specs.Params.{rateUnit}
-use Rattle.vbv.specs.Model.{farthest, paramsFit, newModel}
+use Rattle.vbv.specs.Model.{farthest, paramsFitAt, newModel}
+use Rattle.vbr.specs.Variable.{newVariable, newModelAt}
 use Rattle.vbv.specs.declared.FrameRate.{FrameRate}
 use Rattle.vbv.specs.declared.FrameRate.the-variants.{Rate, Refused as NoRate}
 use Rattle.vbv.specs.declared.VbvParams.{VbvParams}
@@ -24,8 +25,8 @@ use Rattle.vbv.specs.declared.VbvError.the-variants.{Params}
 use Rattle.vbv.specs.declared.VbvModel.{VbvModel}
 use Rattle.vbv.specs.declared.VbvModel.the-variants.{Model, Refused as NoModel}
 use Rattle.vbv.proofs.Params.{params-rate}
-use Rattle.vbv.proofs.Fitting.{params-fit}
-use Rattle.vbv.proofs.Laws.{model-made}
+use Rattle.vbv.proofs.Fitting.{not-zero, frames-in-range, fit-in-at}
+use Rattle.vbr.proofs.Either.{made-at}
 use Rattle.cadence.specs.Cadence.{opened}
 use Rattle.cadence.specs.declared.VbvCadence.{VbvCadence}
 use Rattle.cadence.proofs.Keeping.{opened-fits}
@@ -130,18 +131,27 @@ module _ (p : VbvParams) (between anchors : ℕ) (h : TargetsFit p between ancho
   targets-low =
       simp (le-leb _ _ (target-low 40 (omega arith)), le-leb _ _ (target-low 16 (omega arith)), le-leb _ _ (target-low 9 (omega arith)))
 
+-- ---- a model of parameters, at either kind of rate
+
+module _ (v : Bool) (p : VbvParams) (x : VbvModel) where
+  pub new-variable : v ≡ true → modelAnswer x ≡ newVariable p → modelAnswer x ≡ newModelAt v p
+  new-variable h e = rw h e
+
+  pub new-constant : v ≡ false → modelAnswer x ≡ newModel p → modelAnswer x ≡ newModelAt v p
+  new-constant h e = rw h e
+
 -- a model of a configuration in its ranges has targets
-pub targets-fit : (c : CbrConfig) (n d : ℕ) (p : VbvParams) (x : VbvModel) (m : VbvCbrModel) → p ≡ writerParams c (n, d) → modelAnswer x ≡ newModel p
+pub targets-fit : (c : CbrConfig) (v : Bool) (n d : ℕ) (p : VbvParams) (x : VbvModel) (m : VbvCbrModel) → p ≡ writerParams c (n, d) → modelAnswer x ≡ newModelAt v p
     → x ≡ Model m → Ranges c → TargetsFit (m .params) (c .«b_between») (c .«anchors_per_gop»)
-targets-fit c n d p x m i e h r =
-    let k = model-made p m (sym e ∙ ap modelAnswer h) in
-    let q = params-fit (k .params-fit) in
+targets-fit c v n d p x m i e h r =
+    let k = made-at v p m (sym e ∙ ap modelAnswer h) in
+    let q = fit-in-at v p (k .params-fit) in
     let rate : p .«bit_rate» ≡ rateUnit * c .«bit_rate_value» = ap (λ (y : VbvParams). y .«bit_rate») i ∙ params-rate _ _ (n, d) in
     rw (k .params-kept)
     (record {
       rate-high = omega (arith, rate, r .rate-high);
-      frn-low = q .frn-low;
-      frd-high = q .frd-high;
+      frn-low = not-zero p q .1;
+      frd-high = frames-in-range p q .1;
       between-high = r .between-high;
       anchors-high = r .anchors-high;
     })
@@ -158,23 +168,24 @@ pub fresh-told : (c : CbrConfig) (m : VbvCbrModel) (t : List ℕ) (k : VbvCadenc
       «stuffing_bytes» = 0;
       finished = false;
       cadence = k;
+      variable = c .mode .variable;
     })
     (freshWriter c m)
 unfolding freshWriter
 fresh-told c m t k e f = rw (e, f)
 
 module _ (c : CbrConfig) where
-  module _ (n d : ℕ) (p : VbvParams) (i : p ≡ writerParams c (n, d)) (x : VbvModel) (e : modelAnswer x ≡ newModel p) where
+  module _ (n d : ℕ) (p : VbvParams) (i : p ≡ writerParams c (n, d)) (x : VbvModel) (e : modelAnswer x ≡ newModelAt (c .mode .variable) p) where
     pub way-made : (m : VbvCbrModel) (w : CbrWriter) → x ≡ Model m → w ≡ freshWriter c m
         → Creates (record { answer = Created; writer = w }) (withRate c (n, d))
     way-made m w h g =
-        let a : newModel (writerParams c (n, d)) ≡ value m = ap newModel (sym i) ∙ sym e ∙ ap modelAnswer h in
+        let a : newModelAt (c .mode .variable) (writerParams c (n, d)) ≡ value m = ap (newModelAt (c .mode .variable)) (sym i) ∙ sym e ∙ ap modelAnswer h in
         (rw (a, g), rw (a, g))
 
     pub way-unmade : (error : VbvError) (r : CbrCreated) → x ≡ NoModel error → r ≡ notCreated error → Creates r (withRate c (n, d))
     unfolding notCreated
     way-unmade error r h g =
-        let a : newModel (writerParams c (n, d)) ≡ modelAnswer (NoModel error) = ap newModel (sym i) ∙ sym e ∙ ap modelAnswer h in
+        let a : newModelAt (c .mode .variable) (writerParams c (n, d)) ≡ modelAnswer (NoModel error) = ap (newModelAt (c .mode .variable)) (sym i) ∙ sym e ∙ ap modelAnswer h in
         (rw (a, g), rw (a, g))
 
   -- the answer, and the writer beside it
@@ -220,7 +231,7 @@ pub record Creation (c : CbrConfig) (w : CbrWriter) : Type 0 where
   pub frames : ℕ × ℕ
   pub frames-are : frameRate (c .«frame_rate_code») (c .«frame_rate_extension_n») (c .«frame_rate_extension_d») ≡ value frames
   pub model : VbvCbrModel
-  pub model-is : newModel (writerParams c frames) ≡ value model
+  pub model-is : newModelAt (c .mode .variable) (writerParams c frames) ≡ value model
   pub writer-is : freshWriter c model ≡ w
 
 pub creation-found : (c : CbrConfig) (w : CbrWriter) → create c ≡ value w → Creation c w
@@ -228,14 +239,14 @@ unfolding create
 creation-found c w h =
     let a = was-held (configFits c) _ _ refused-value h in
     let f = then-value (frameRate (c .«frame_rate_code») (c .«frame_rate_extension_n») (c .«frame_rate_extension_d»)) (a .1) in
-    let m = then-value (newModel (writerParams c (f .0))) (f .2) in
+    let m = then-value (newModelAt (c .mode .variable) (writerParams c (f .0))) (f .2) in
     record { ranges = a .0; frames = f .0; frames-are = f .1; model = m .0; model-is = m .1; writer-is = same-value (m .2) }
 
 -- ---- the writer
 
 pub record Fresh (w : CbrWriter) : Type 0 where
   pub inv : Inv 0 w
-  pub params-fit : paramsFit (w .model .params) ≡ true
+  pub params-fit : paramsFitAt (w .variable) (w .model .params) ≡ true
   pub unplaced : w .model .started ≡ false
   pub at-zero : w .model .«prev_end_bits» ≡ 0
   pub unstuffed : w .«stuffing_bytes» ≡ 0
@@ -243,9 +254,9 @@ pub record Fresh (w : CbrWriter) : Type 0 where
 fresh-writer : {c : CbrConfig} {w : CbrWriter} (x : Creation c w) → Fresh (freshWriter c (x .model))
 unfolding freshWriter allFit
 fresh-writer {c} x =
-    let a = model-made _ (x .model) (x .model-is) in
+    let a = made-at (c .mode .variable) (writerParams c (x .frames)) (x .model) (x .model-is) in
     let f = config-ranges c (x .ranges) in
-    let t = targets-fit c (x .frames .0) (x .frames .1) _ (Model (x .model)) (x .model) refl (sym (x .model-is)) refl f in
+    let t = targets-fit c (c .mode .variable) (x .frames .0) (x .frames .1) _ (Model (x .model)) (x .model) refl (sym (x .model-is)) refl f in
     record {
       inv =
           record {

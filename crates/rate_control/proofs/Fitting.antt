@@ -1,7 +1,7 @@
 -- What the test of a writer's state says, as bounds, and back.
 -- Assumes nothing.
 use mathlib.Core.Path.{_≡_, refl}
-use mathlib.Core.Bool.{Bool, true}
+use mathlib.Core.Bool.{Bool, true, false}
 use mathlib.Core.List.{List, [], _∷_}
 use Prim.Native.Nat.{ℕ, zero, suc, _*_, _%_, _≤_, _<_}
 use native.Mathlib.Omega.{arith}
@@ -9,7 +9,10 @@ use lib.Dec.{leb, eqb}
 use lib.ListN.{length, getD, set}
 use borrow.Author.Tests.{leb-true, eqb-true, le-leb, eq-eqb}
 use Rattle.bits.proofs.Flags.{both-true}
-use Rattle.vbv.specs.Model.{farthest, modelFits}
+use Rattle.vbv.specs.Model.{farthest, paramsInRange, modelFits}
+use Rattle.vbv.proofs.Fitting.{range-fits, fit-in-at}
+use Rattle.vbr.specs.Variable.{variableFits, modelFitsAt}
+use Rattle.vbr.proofs.Either.{fits-params-at, fits-range-at}
 use Rattle.rate_control.specs.Create.{within}
 use Rattle.cadence.specs.Cadence.{cadenceFits}
 use Rattle.rate_control.specs.Writer.{quantiserFits, allFit, pendingFits, writerFits}
@@ -74,7 +77,7 @@ waits-fits h k = is-quantiser h
 -- ---- the state
 
 pub record WriterFits (w : CbrWriter) : Type 0 where
-  pub model-fits : modelFits (w .model) ≡ true
+  pub model-fits : modelFitsAt (w .variable) (w .model) ≡ true
   pub whole-bytes : w .model .«prev_end_bits» % 8 ≡ 0
   pub few : 8 * w .model .removed ≤ w .model .«prev_end_bits»
   pub stuffed : 8 * w .«stuffing_bytes» ≤ w .model .«prev_end_bits»
@@ -86,7 +89,7 @@ pub record WriterFits (w : CbrWriter) : Type 0 where
 pub writer-fits : {w : CbrWriter} → writerFits w ≡ true → WriterFits w
 unfolding writerFits
 writer-fits {w} h =
-    let a = both-true (modelFits (w .model)) _ h in
+    let a = both-true (modelFitsAt (w .variable) (w .model)) _ h in
     let b = both-true (eqb (w .model .«prev_end_bits» % 8) 0) _ (a .1) in
     let c = both-true (leb (8 * w .model .removed) (w .model .«prev_end_bits»)) _ (b .1) in
     let d = both-true (leb (8 * w .«stuffing_bytes») (w .model .«prev_end_bits»)) _ (c .1) in
@@ -108,3 +111,18 @@ pub fitting-writer : (w : CbrWriter) → WriterFits w → writerFits w ≡ true
 unfolding writerFits
 fitting-writer w f =
     simp (f .model-fits, eq-eqb _ _ (f .whole-bytes), le-leb _ _ (f .few), le-leb _ _ (f .stuffed), f .targets, f .quantisers, f .pending, f .cadence)
+
+-- ---- the model, at its rate
+
+module _ (w : CbrWriter) (f : WriterFits w) where
+  pub params-range : paramsInRange (w .model .params) ≡ true
+  params-range = fit-in-at (w .variable) (w .model .params) (fits-params-at (w .variable) (w .model) (f .model-fits))
+
+  pub end-far : w .model .«prev_end_bits» ≤ farthest
+  end-far = range-fits (fits-range-at (w .variable) (w .model) (f .model-fits)) .end-high
+
+  pub model-constant : w .variable ≡ false → modelFits (w .model) ≡ true
+  model-constant e = rw e at (f .model-fits)
+
+  pub model-variable : w .variable ≡ true → variableFits (w .model) ≡ true
+  model-variable e = rw e at (f .model-fits)

@@ -9,8 +9,8 @@ use Rattle.bits.specs.Bits.{pick}
 use Rattle.bits.specs.Refusals.{Answer, orElse}
 use Rattle.vbv.specs.Annex.{overflows}
 use Rattle.vbv.specs.Model.{farthest, delivered}
-use Rattle.vbv.proofs.Fitting.{model-fits}
-use Rattle.vbv.proofs.After.{model-after, after-fits}
+use Rattle.vbv.proofs.After.{model-after}
+use Rattle.vbr.proofs.Either.{after-fits-at}
 use Rattle.layers.specs.declared.PictureKind.{PictureKind}
 use Rattle.layers.specs.declared.PictureKind.the-variants.{I, P, B}
 use Rattle.layers.specs.Layer.{factsIn}
@@ -26,8 +26,8 @@ use Rattle.rate_control.specs.declared.Pending.the-variants.{Nothing, Wa
 use Rattle.rate_control.specs.declared.CbrWriter.{CbrWriter}
 use Rattle.rate_control.proofs.Chain.{q-of, Placing, Outcome, stays, closes, retries, hands-out, outcome}
 use Rattle.rate_control.proofs.Retries.{Quant, below-31, rest, rest-small, rest-step, coarser-quant, steered-quant}
-use Rattle.rate_control.proofs.Fitting.{all-fit-at, all-fit-set, quantiser-is, is-quantiser, none-fits, waits-fits, WriterFits, writer-fits, fitting-writer}
-use Rattle.rate_control.proofs.Placing.{placed-size, end-is, next-room, params-fitted}
+use Rattle.rate_control.proofs.Fitting.{all-fit-at, all-fit-set, quantiser-is, is-quantiser, none-fits, waits-fits, WriterFits, writer-fits, fitting-writer, end-far}
+use Rattle.rate_control.proofs.Placing.{placed-size, end-is, next-room}
 use Rattle.rate_control.proofs.Lasting.{before-fits}
 use Rattle.rate_control.proofs.States.{withdraw-answer}
 
@@ -82,15 +82,14 @@ unfolding withPlaced deliveredNext
 place-fits {w = w} {o = o} h g =
     let m = w .model in
     let f = writer-fits (g .fitted) in
-    let v = model-fits (f .model-fits) in
     let e = end-is w o in
     let s = placed-size w o in
     let l = layer-long (w .cadence .film) (o .kind) (o .interval) (o .layer) (g .layer-fits) in
-    let c : m .removed < farthest = omega (arith, f .few, v .end-high) in
+    let c : m .removed < farthest = omega (arith, f .few, end-far w f) in
     let a = model-after m (end w o) (deliveredNext w o) in
     record {
       model-fits =
-          after-fits m (f .model-fits) (deliveredAt w o) (g .no-overflow) (end w o) (intervalAt w o)
+          after-fits-at (w .variable) m (deliveredAt w o) (f .model-fits) (g .no-overflow) (end w o) (intervalAt w o)
           (record { end-far = g .end-far; end-low = omega arith; count = c }) (g .no-underflow);
       whole-bytes = rw (a .end-is) (omega (arith, f .whole-bytes));
       few = rw (a .end-is, a .count-is) (omega (arith, f .few));
@@ -110,7 +109,7 @@ place-inv {w = w} {o = o} h g =
       three = length-set (w .q) (index (o .kind)) _ ∙ h .three;
       none-yet = λ e. absurd (true≢false (sym (a .is-started) ∙ e));
       waiting = refl;
-      room = λ s e. rw (a .delivered-is, a .params-kept, a .end-is) (next-room w o (params-fitted w o g) e);
+      room = λ s e. rw (a .delivered-is, a .params-kept, a .end-is) (next-room w o (g .fitted) e);
     }
 
 -- ---- kept by every call

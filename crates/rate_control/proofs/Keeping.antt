@@ -47,23 +47,26 @@ pub withdraw-unpending : (w : CbrWriter) → w .pending ≡ Nothing → orElse w
 unfolding withdraw
 withdraw-unpending w p = pick-elim (λ (r : Answer CbrWriter). orElse w r ≡ w) _ (λ e. refl) (λ e. none-pending w p)
 
--- ---- three targets
+-- ---- three targets, and the rate
 
-outcome-targets : {w : CbrWriter} {o : Offer} {a : Answer Given} → Outcome w o a → leftBy w o a .«target_bits» ≡ w .«target_bits»
+abbrev Kept : CbrWriter → CbrWriter → Type 0
+Kept v w = (v .«target_bits» ≡ w .«target_bits») × (v .variable ≡ w .variable)
+
+outcome-kept : {w : CbrWriter} {o : Offer} {a : Answer Given} → Outcome w o a → Kept (leftBy w o a) w
 unfolding withPending withPlaced pick
-outcome-targets (stays e) = rw e
-outcome-targets (closes g) = refl
-outcome-targets (retries g) = refl
-outcome-targets (hands-out g) = refl
+outcome-kept (stays e) = (rw e, rw e)
+outcome-kept (closes g) = (refl, refl)
+outcome-kept (retries g) = (refl, refl)
+outcome-kept (hands-out g) = (refl, refl)
 
-withdraw-targets : (w : CbrWriter) → orElse w (withdraw w) .«target_bits» ≡ w .«target_bits»
+withdraw-kept : (w : CbrWriter) → Kept (orElse w (withdraw w)) w
 unfolding withdraw withPending
-withdraw-targets w = pick-elim (λ (r : Answer CbrWriter). orElse w r .«target_bits» ≡ w .«target_bits») _ (λ e. refl) (λ e. refl)
+withdraw-kept w = pick-elim (λ (r : Answer CbrWriter). Kept (orElse w r) w) _ (λ e. (refl, refl)) (λ e. (refl, refl))
 
-pub left-targets : (w : CbrWriter) (c : Call) → leftByCall w c .«target_bits» ≡ w .«target_bits»
+pub left-kept : (w : CbrWriter) (c : Call) → Kept (leftByCall w c) w
 unfolding leftByCall
-left-targets w (offering o) = outcome-targets (outcome w o)
-left-targets w withdrawing = withdraw-targets w
+left-kept w (offering o) = outcome-kept (outcome w o)
+left-kept w withdrawing = withdraw-kept w
 
 -- ---- what holds of a writer between calls, with the numbers of targets and quantisers that its type has
 
@@ -80,7 +83,7 @@ pub created-whole : (c : CbrConfig) (w : CbrWriter) → create c ≡ value w →
 created-whole c w h = record { tries = 0; inv = created-fresh c w h .inv; targets = rw (← creation-found c w h .writer-is) (fresh-targets c _) }
 
 pub left-whole : {w : CbrWriter} (c : Call) → Whole w → Whole (leftByCall w c)
-left-whole {w} c h = record { tries = _; inv = call-inv c (h .inv); targets = ap length (left-targets w c) ∙ h .targets }
+left-whole {w} c h = record { tries = _; inv = call-inv c (h .inv); targets = ap length (left-kept w c .0) ∙ h .targets }
 
 pub final-whole : {w : CbrWriter} (l : List Call) → Whole w → Whole (final w l)
 unfolding final

@@ -11,7 +11,7 @@ use lib.ListN.{length}
 use borrow.Author.Tests.{lt-ltb}
 use Rattle.bits.specs.Bits.{pick}
 use Rattle.bits.specs.Refusals.{Answer, value, orElse}
-use Rattle.vbv.specs.Annex.{gain}
+use Rattle.vbv.specs.Annex.{arrived}
 use Rattle.vbv.specs.Answers.{frameRate}
 use Rattle.vbv.specs.Model.{periods}
 use Rattle.vbv.specs.declared.VbvParams.{VbvParams}
@@ -28,9 +28,10 @@ use Rattle.rate_control.specs.Due.{Known, atFirst, deliveredFor, cadence
 use Rattle.rate_control.specs.declared.Pending.the-variants.{Nothing}
 use Rattle.rate_control.specs.declared.CbrConfig.{CbrConfig}
 use Rattle.rate_control.specs.declared.CbrWriter.{CbrWriter}
-use Rattle.vbv.proofs.Cases.{modelAt, after-is, delivered-of, made-is}
+use Rattle.vbv.proofs.Cases.{modelAt, after-is, delivered-of}
+use Rattle.vbr.proofs.Either.{made-at-is}
 use Rattle.rate_control.proofs.Chain.{Outcome, stays, closes, retries, hands-out, outcome}
-use Rattle.rate_control.proofs.Placing.{delivered-later, delivered-first, end-is}
+use Rattle.rate_control.proofs.Placing.{delivered-later, delivered-first, next-is, end-is}
 use Rattle.rate_control.proofs.Creation.{creation-found}
 use Rattle.rate_control.proofs.Invariant.{Inv, call-inv, withdraw-is}
 use Rattle.rate_control.proofs.Removing.{position-same}
@@ -48,11 +49,14 @@ module _ (p : VbvParams) (t : List ℕ) where
       where
         go : (b : Bool) → holding p t x .model .started ≡ b → deliveredAt (holding p t x) o ≡ deliveredFor p x o
         go true e = rw (delivered-later (holding p t x) o e, delivered-of, e)
-        go false e = rw (delivered-first (holding p t x) o e, position-same (x .bytes) (holding p t x) o refl, e)
+        go false e = rw (delivered-first (holding p t x) o refl e, position-same (x .bytes) (holding p t x) o refl, e)
 
     pub cadence-known : cadenceAt (holding p t x) (o .headers) ≡ cadenceFor x o
     unfolding cadenceAt
     cadence-known = refl
+
+    end-known : end (holding p t x) o ≡ 8 * (x .bytes + length (placedBytes (holding p t x) o))
+    end-known = omega (arith, end-is (holding p t x) o)
 
     -- a layer that fits tells what the offer says
     module _ (f : layerFits (x .cadence .film) (o .kind) (o .interval) (o .layer) ≡ true) where
@@ -63,15 +67,12 @@ module _ (p : VbvParams) (t : List ℕ) where
       unfolding intervalAt
       lasts-known = ap (λ (k : VbvCadence). interval k (factsIn (o .layer))) cadence-known ∙ ap (interval (cadenceFor x o)) facts-known
 
-      next-known : deliveredNext (holding p t x) o ≡ deliveredFor p x o + gain p (periods (lastsIn x o))
-      unfolding deliveredNext
-      next-known = rw (delivered-known, lasts-known)
+      next-known : deliveredNext (holding p t x) o
+          ≡ arrived (x .variable) p (8 * (x .bytes + length (placedBytes (holding p t x) o))) (deliveredFor p x o) (periods (lastsIn x o))
+      next-known = rw (next-is, end-known, delivered-known, lasts-known)
 
       moved-known : after (cadenceAt (holding p t x) (o .headers)) (factsIn (o .layer)) ≡ after (cadenceFor x o) (factsFor o)
       moved-known = ap (λ (k : VbvCadence). after k (factsIn (o .layer))) cadence-known ∙ ap (after (cadenceFor x o)) facts-known
-
-    end-known : end (holding p t x) o ≡ 8 * (x .bytes + length (placedBytes (holding p t x) o))
-    end-known = omega (arith, end-is (holding p t x) o)
 
     outcome-told : {a : Answer Given} → Outcome (holding p t x) o a → leftBy (holding p t x) o a ≡ holding p t (knownAfterOffer p t x o a)
     unfolding withPending withPlaced asked pick
@@ -111,5 +112,5 @@ created-known c f w e h =
     let x = creation-found c w h in
     let same : value (x .frames) ≡ value f = sym (x .frames-are) ∙ e in
     let g : x .frames ≡ f = cc in
-    let m : x .model ≡ modelAt (writerParams c (x .frames)) 0 0 0 false = made-is _ _ (x .model-is) in
+    let m : x .model ≡ modelAt (writerParams c (x .frames)) 0 0 0 false = made-at-is (c .mode .variable) _ _ (x .model-is) in
     sym (x .writer-is) ∙ rw (m, g) (fresh-known c f)

@@ -13,11 +13,12 @@ use Rattle.bits.specs.Bits.{pick}
 use Rattle.bits.specs.Answers.{over}
 use Rattle.bits.specs.Refusals.{Answer}
 use Rattle.vbv.specs.Model.{farthest}
-use Rattle.vbv.specs.Steps.{ModelFits}
+use Rattle.vbv.specs.Steps.{ParamsFit}
 use Rattle.vbv.specs.Patch.{patched}
 use Rattle.vbv.specs.declared.RemovalInterval.{RemovalInterval}
 use Rattle.vbv.specs.declared.VbvError.the-variants.{Params}
-use Rattle.vbv.proofs.Fitting.{model-fits}
+use Rattle.vbv.proofs.Fitting.{params-fit}
+use Rattle.vbv.proofs.Laws.{fits-params}
 use Rattle.layers.specs.declared.PictureKind.{PictureKind}
 use Rattle.layers.specs.Headers.{headersFit}
 use Rattle.layers.specs.Layer.{layerFits, factsIn}
@@ -35,7 +36,7 @@ use Rattle.rate_control.specs.declared.Placement.{Placement}
 use Rattle.rate_control.specs.declared.Timing.{Timing}
 use Rattle.rate_control.specs.declared.Tested.{Tested}
 use Rattle.rate_control.specs.declared.Tested.the-variants.{Refused, TooLarge, Ready}
-use Rattle.rate_control.proofs.Fitting.{all-fit-get, writer-fits}
+use Rattle.rate_control.proofs.Fitting.{all-fit-get, writer-fits, end-far, model-constant}
 use Rattle.rate_control.proofs.Lasting.{timing-lasts}
 use Rattle.rate_control.proofs.Placing.{placed-size}
 use Rattle.rate_control.proofs.Numbers.{answer-is, writer-is}
@@ -43,8 +44,12 @@ use Rattle.rate_control.proofs.Testing.{placement, measuredFor, measure
 
 -- ---- the tests
 
-pub model-of : (w : CbrWriter) (f : Bool) → f ≡ writerFits w → f ≡ true → ModelFits (w .model)
-model-of w f e h = model-fits (writer-fits (sym e ∙ h) .model-fits)
+module _ (w : CbrWriter) (f : Bool) (e : f ≡ writerFits w) (h : f ≡ true) where
+  pub end-of : w .model .«prev_end_bits» ≤ farthest
+  end-of = end-far w (writer-fits (sym e ∙ h))
+
+  pub params-of : w .variable ≡ false → ParamsFit (w .model .params)
+  params-of c = params-fit (fits-params (w .model) (model-constant w (writer-fits (sym e ∙ h)) c))
 
 module _ (w : CbrWriter) (headers : List ℕ) (k : PictureKind) (i : RemovalInterval) (last : Bool) (layer : List ℕ) (j : RemovalInterval) (f : Bool) (e : f ≡ writerFits w) where
   pub way-unfit : f ≡ false → Refused (Model Params) ≡ tested w headers k i last layer j
@@ -69,7 +74,7 @@ module _ (w : CbrWriter) (headers : List ℕ) (k : PictureKind) (i : RemovalInte
         unfolding tested
         way-20 r = no _ _ _ fine (no _ _ _ (rw (← q) g) (no _ _ _ (rw (← a, l)) (yes _ _ _ (rw (← b, r)) refl)))
 
-        pub way-on : (v : Tested) → u ≡ true → v ≡ measured (w .model) (length headers) (length layer) j last → v ≡ tested w headers k i last layer j
+        pub way-on : (v : Tested) → u ≡ true → v ≡ measured (w .variable) (w .model) (length headers) (length layer) j last → v ≡ tested w headers k i last layer j
         unfolding tested
         way-on v r z = no _ _ _ fine (no _ _ _ (rw (← q) g) (no _ _ _ (rw (← a, l)) (no _ _ _ (rw (← b, r)) z)))
 
@@ -92,7 +97,7 @@ timing-same w o =
     pick-alike Same _ refl λ h17.
     pick-alike Same _ refl λ h18.
     pick-alike Same _ refl λ h20.
-    ap (λ (j : RemovalInterval). measured (w .model) (length (o .headers)) (length (o .layer)) j (o .last)) (timing-lasts w o (not-false _ h20))
+    ap (λ (j : RemovalInterval). measured (w .variable) (w .model) (length (o .headers)) (length (o .layer)) j (o .last)) (timing-lasts w o (not-false _ h20))
   where
     Same : Tested → Tested → Type 0
     Same s t = s ≡ t
@@ -198,12 +203,11 @@ module _ (w : CbrWriter) (o : Offer) (j : Tested) (e : j ≡ testedFor w o) (p :
   placeable-of =
       let r = ready in
       let v = writer-fits (r .fitted) in
-      let m = model-fits (v .model-fits) in
       let s : p .«stuffing_bytes» ≡ stuffing w o = ap (λ (x : Placement). x .«stuffing_bytes») (r .is) in
       record {
         layer-far = omega (arith, r .end-far);
         target-far = leb-true _ _ (all-fit-get (λ t. leb t farthest) (w .«target_bits») (index (o .kind)) refl (v .targets));
-        total-far = omega (arith, r .end-far, v .stuffed, m .end-high);
+        total-far = omega (arith, r .end-far, v .stuffed, end-far w v);
       }
 
   ready-is : offerInCode w o ≡ pick (ltb (length (o .out)) (p .bytes)) (refusedInCode w Output) (placedBy w (o .kind) (length (o .layer)) (o .last) p (cadenceLeft w o))

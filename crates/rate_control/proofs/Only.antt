@@ -1,7 +1,7 @@
 -- Of what creation, the calls and their answers told, no other answer is due than the one that is given.
 -- Assumes nothing.
 use mathlib.Core.Path.{_≡_, refl, sym, _∙_}
-use mathlib.Core.Bool.{Bool, true, false, not, _||_}
+use mathlib.Core.Bool.{Bool, true, false, not, _&&_, _||_}
 use mathlib.Core.List.{List}
 use Prim.Native.Nat.{ℕ, _+_, _*_, _≤_, _<_}
 use native.Mathlib.Omega.{arith}
@@ -24,14 +24,14 @@ use Rattle.rate_control.specs.Offer.{Offer, position, content, end, deli
 use Rattle.rate_control.specs.Sent.{contentOf, Stuffs}
 use Rattle.rate_control.specs.Due.{Known, anyPlaced, deliveredFor, askedFor, holding, OutOfTurn, Fitting, Near, OnTime, AllDelivered, Due, out-of-turn, bad-headers, bad-layer, far-position, far-end, early-position, overflowing, too-large, largest, no-edge, no-room, room, lastsIn}
 use Rattle.rate_control.specs.declared.CbrWriter.{CbrWriter}
-use Rattle.rate_control.proofs.Chain.{Placing}
+use Rattle.rate_control.proofs.Chain.{by-constant, asked-constant, Placing}
 use Rattle.rate_control.proofs.Placing.{placed-size}
 use Rattle.rate_control.proofs.Invariant.{Inv}
 use Rattle.rate_control.proofs.Knowing.{delivered-known}
 use Rattle.rate_control.proofs.Answering.{turn, in-turn-is, at-position, at-content, at-end, stuffs, delay-known}
 
 -- the zeros are fixed by what they do
-stuffing-same : {p : VbvParams} {n d : ℕ} {i : RemovalInterval} {o : Offer} {a b : ℕ} → Stuffs p n d i o a → Stuffs p n d i o b → a ≡ b
+stuffing-same : {v : Bool} {p : VbvParams} {n d : ℕ} {i : RemovalInterval} {o : Offer} {a b : ℕ} → Stuffs v p n d i o a → Stuffs v p n d i o b → a ≡ b
 stuffing-same {o = o} {a = a} {b = b} g h = go (o .last) refl
   where
     go : (t : Bool) → o .last ≡ t → a ≡ b
@@ -60,7 +60,7 @@ module _ (p : VbvParams) (t : List ℕ) (x : Known) (o : Offer) {n : ℕ} (i : I
   abbrev upTo9 : Answer Given → Answer Given
   upTo9 r =
       upTo14
-      (refuse 7 (beyond p (position w o) (deliveredAt w o))
+      (refuse 7 (not (x .variable) && beyond p (position w o) (deliveredAt w o))
       (violate 9 (x .pictures) 0 0 (overflows p (8 * x .bytes) (deliveredAt w o)) r))
 
   abbrev upTo22 : Answer Given → Answer Given
@@ -77,10 +77,10 @@ module _ (p : VbvParams) (t : List ℕ) (x : Known) (o : Offer) {n : ℕ} (i : I
   turn-no : (OutOfTurn x o → ⊥) → (x .finished || clashes (x .pending) (o .kind)) ≡ false
   turn-no f = is-false _ (λ e. f (turn x o _ refl e))
 
-  stuffing-is : {z : ℕ} → Fitting p x o → Stuffs p (x .bytes) (deliveredFor p x o) (lastsIn x o) o z → stuffing w o ≡ z
+  stuffing-is : {z : ℕ} → Fitting p x o → Stuffs (x .variable) p (x .bytes) (deliveredFor p x o) (lastsIn x o) o z → stuffing w o ≡ z
   stuffing-is f g = stuffing-same (stuffs p t x o i (f .layer-fits)) g
 
-  end-is : {z : ℕ} → Fitting p x o → Stuffs p (x .bytes) (deliveredFor p x o) (lastsIn x o) o z → end w o ≡ contentOf (x .bytes) o + 8 * z
+  end-is : {z : ℕ} → Fitting p x o → Stuffs (x .variable) p (x .bytes) (deliveredFor p x o) (lastsIn x o) o z → end w o ≡ contentOf (x .bytes) o + 8 * z
   end-is f g = rw (← stuffing-is f g) (at-end p t x o i)
 
   past-20 : {z r : Answer Given} → Fitting p x o → z ≡ r → z ≡ upTo20 r
@@ -98,9 +98,9 @@ module _ (p : VbvParams) (t : List ℕ) (x : Known) (o : Offer) {n : ℕ} (i : I
 
   past-9 : {k : ℕ} {z r : Answer Given} → OnTime p x o k → z ≡ r → z ≡ upTo9 r
   past-9 g e =
-      let a : position w o * unit p ≤ deliveredAt w o = rw (delivered-known p t x o, at-position p t x o i) (g .in-time) in
+      let a : x .variable ≡ false → position w o * unit p ≤ deliveredAt w o = λ v. rw (delivered-known p t x o, at-position p t x o i) (g .in-time v) in
       let b : deliveredAt w o ≤ (8 * x .bytes + p .«buffer_size_bits») * unit p = rw (delivered-known p t x o) (g .no-overflow) in
-      past-14 (g .near) (no _ _ _ (units-beyond p _ _ a) (no _ _ _ (units-over p _ _ b) e))
+      past-14 (g .near) (no _ _ _ (by-constant (x .variable) _ (λ v. units-beyond p _ _ (a v))) (no _ _ _ (units-over p _ _ b) e))
 
   past-22 : {k : ℕ} {z r : Answer Given} → AllDelivered p x o k → z ≡ r → z ≡ upTo22 r
   past-22 {k} g e =
@@ -127,7 +127,7 @@ module _ (p : VbvParams) (t : List ℕ) (x : Known) (o : Offer) {n : ℕ} (i : I
         layer-fits = r .fitting .layer-fits;
         position-far = rw (at-position p t x o i) (r .position-near);
         end-far = rw (end-is (r .fitting) (r .stuffs)) (r .end-near);
-        in-time = units-beyond p _ _ (rw (delivered-known p t x o, at-position p t x o i) (q .in-time));
+        in-time = λ v. units-beyond p _ _ (rw (delivered-known p t x o, at-position p t x o i) (q .in-time v));
         no-overflow = units-over p _ _ (rw (delivered-known p t x o) (q .no-overflow));
         no-underflow = units-beyond p _ _ (rw (delivered-known p t x o, end-is (r .fitting) (r .stuffs)) (g .end-delivered));
         room = s;
@@ -148,17 +148,17 @@ module _ (p : VbvParams) (t : List ℕ) (x : Known) (o : Offer) {n : ℕ} (i : I
   only (far-position g l) = past-20 g (yes _ _ _ (is-true _ (λ z. omega (arith, l, at-position p t x o i, ltb-false farthest (position w o) (or-left _ _ z)))) refl)
   only (far-end g s l) =
       past-20 g (yes _ _ _ (is-true _ (λ z. omega (arith, l, end-is g s, ltb-false farthest (end w o) (or-right (ltb farthest (position w o)) _ z)))) refl)
-  only (early-position g l k) = past-14 g (yes _ _ _ (not-there _ _ _ _ (at-position p t x o i) (delivered-known p t x o) l) refl)
-  only (overflowing g a l k) =
+  only (early-position v g l k) = past-14 g (yes _ _ _ (asked-constant (x .variable) _ v (not-there _ _ _ _ (at-position p t x o i) (delivered-known p t x o) l)) refl)
+  only (overflowing v g a l k) =
       let b : position w o * unit p ≤ deliveredAt w o = rw (delivered-known p t x o, at-position p t x o i) a in
       past-14 g
-      (no _ _ _ (units-beyond p _ _ b)
+      (no _ _ _ (by-constant (x .variable) _ (λ v. units-beyond p _ _ b))
       (yes _ _ _ (is-true _ (λ z. omega (arith, l, over-units p (8 * x .bytes) (deliveredFor p x o) (rw (← delivered-known p t x o) z)))) (rw k)))
   only (too-large g l q) =
       past-9 g (yes _ _ _ (not-there _ _ _ _ (at-content p t x o i) (delivered-known p t x o) l) (no _ _ _ (ne-eqb (askedFor x o) 31 (λ z. omega (arith, q, z))) refl))
   only (largest g l q) =
       past-9 g (yes _ _ _ (not-there _ _ _ _ (at-content p t x o i) (delivered-known p t x o) l) (yes _ _ _ (eq-eqb (askedFor x o) 31 q) refl))
-  only (no-edge g a l) =
+  only (no-edge v g a l) =
       let b : content w o * unit p ≤ deliveredAt w o = rw (delivered-known p t x o, at-content p t x o i) a in
       past-9 g
       (no _ _ _ (units-beyond p _ _ b)

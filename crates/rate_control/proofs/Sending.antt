@@ -33,7 +33,7 @@ use Rattle.rate_control.specs.Demand.{AllBytes}
 use Rattle.rate_control.specs.declared.CbrWriter.{CbrWriter}
 use Rattle.rate_control.proofs.Storage.{end-code-last, end-code-none}
 use Rattle.rate_control.proofs.Chain.{Placing, Outcome, stays, closes, retries, hands-out, outcome}
-use Rattle.rate_control.proofs.Placing.{delay-low}
+use Rattle.rate_control.proofs.Placing.{delay-word}
 use Rattle.rate_control.proofs.Invariant.{Inv, outcome-inv, call-inv, withdraw-is}
 use Rattle.rate_control.proofs.Removing.{sentOf, finished-none}
 
@@ -146,7 +146,7 @@ module _ {p : VbvParams} {placed : Bool} (n : ℕ) (w : CbrWriter) (o : Offer) {
 place-fit : {w : CbrWriter} {o : Offer} → Placing w o → Bytes (o .layer) → PartFits (w .model .params) (w .model .started) (partOf w o)
 place-fit {w} {o} g b = record {
   headers-fit = g .headers-fit;
-  laid = laid (w .cadence .film) (o .kind) (o .interval) (o .layer) (g .layer-fits) b (delay w o) (omega (arith, delay-low w o g));
+  laid = laid (w .cadence .film) (o .kind) (o .interval) (o .layer) (g .layer-fits) b (delay w o) (delay-word w o g);
 }
 
 same-sending : {p q : VbvParams} {a c : Bool} {n : ℕ} {xs : List Sent} → p ≡ q → a ≡ c → Sending p a n xs → Sending q c n xs

@@ -13,6 +13,8 @@ use Rattle.bits.specs.Bits.{pick}
 use Rattle.bits.proofs.Appending.{lt-or-le}
 use Rattle.vbv.specs.Model.{farthest, modelFits}
 use Rattle.vbv.proofs.Fitting.{both-below}
+use Rattle.vbv.specs.declared.VbvCbrModel.{VbvCbrModel}
+use Rattle.vbr.specs.Variable.{variableFits, modelFitsAt}
 use Rattle.layers.specs.declared.PictureKind.{PictureKind}
 use Rattle.cadence.specs.Cadence.{cadenceFits}
 use Rattle.rate_control.specs.Writer.{allFit, quantiserFits, pendingFits, writerFits}
@@ -61,7 +63,15 @@ bytes-bits n b =
     (λ (h : n ≤ b / 8). le-leb n (b / 8) h ∙ sym (le-leb (8 * n) b (omega arith)))
     (lt-or-le (b / 8) n)
 
-pub writer-tested : (w : CbrWriter) (f t q p k : Bool) (g : ℕ) → f ≡ modelFits (w .model) → g ≡ max (w .model .removed) (w .«stuffing_bytes») → t ≡ allFit (λ x. leb x farthest) (w .«target_bits»)
+-- the model's ranges, at its rate
+module _ (v : Bool) (m : VbvCbrModel) (r : Bool) where
+  pub at-variable : v ≡ true → r ≡ variableFits m → r ≡ modelFitsAt v m
+  at-variable h e = rw h e
+
+  pub at-constant : v ≡ false → r ≡ modelFits m → r ≡ modelFitsAt v m
+  at-constant h e = rw h e
+
+pub writer-tested : (w : CbrWriter) (f t q p k : Bool) (g : ℕ) → f ≡ modelFitsAt (w .variable) (w .model) → g ≡ max (w .model .removed) (w .«stuffing_bytes») → t ≡ allFit (λ x. leb x farthest) (w .«target_bits»)
     → q ≡ allFit quantiserFits (w .q) → p ≡ pendingFits (w .pending) → k ≡ cadenceFits (w .cadence)
     → (f && (eqb (w .model .«prev_end_bits» % 8) 0
     && (leb g (w .model .«prev_end_bits» / 8) && (t && (q && (p && k))))))

@@ -79,6 +79,7 @@ pub placed-told : (w : CbrWriter) (k : PictureKind) (layer : ℕ) (last : Bool) 
             «stuffing_bytes» = w .«stuffing_bytes» + p .«stuffing_bytes»;
             finished = last;
             cadence = c;
+            variable = w .variable;
           };
     })
     (placedBy w k layer last p c)

@@ -11,7 +11,6 @@ use Rattle.bits.specs.Refusals.{Answer}
 use Rattle.bits.proofs.Over.{over-take}
 use Rattle.vbv.specs.Model.{farthest}
 use Rattle.vbv.proofs.After.{model-after}
-use Rattle.vbv.proofs.Fitting.{model-fits}
 use Rattle.rate_control.specs.Answers.{Given}
 use Rattle.rate_control.specs.Writer.{writerFits}
 use Rattle.rate_control.specs.Offer.{Offer, end, deliveredNext, placedBytes, withPending, withPlaced, leftBy, outOf}
@@ -20,7 +19,7 @@ use Rattle.rate_control.specs.Sent.{sentBy, sent, endToEnd, stuffingOf}
 use Rattle.rate_control.specs.declared.CbrWriter.{CbrWriter}
 use Rattle.rate_control.proofs.Chain.{Outcome, stays, closes, retries, hands-out, outcome}
 use Rattle.rate_control.proofs.Placing.{end-is}
-use Rattle.rate_control.proofs.Fitting.{writer-fits}
+use Rattle.rate_control.proofs.Fitting.{writer-fits, end-far}
 use Rattle.rate_control.proofs.Invariant.{Inv, call-inv, withdraw-is}
 
 -- ---- the stuffing total
@@ -73,6 +72,4 @@ final-fits w (c ∷ l) h = final-fits _ l (call-inv c h)
 
 -- never more than 2^48 bits
 pub laid-low : {m : ℕ} (n : ℕ) (w : CbrWriter) (l : List Call) → Inv m w → 8 * length (endToEnd (sent n (stepsOf w l))) ≤ farthest
-laid-low n w l h =
-    let f = model-fits (writer-fits (final-fits w l h) .model-fits) in
-    omega (arith, f .end-high, laid-bits n w l h)
+laid-low n w l h = omega (arith, end-far (final w l) (writer-fits (final-fits w l h)), laid-bits n w l h)

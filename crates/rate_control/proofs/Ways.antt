@@ -13,6 +13,7 @@ use Rattle.vbv.specs.Answers.{modelAnswer, removalAnswer, delayAnswer, modelBit
 use Rattle.vbv.proofs.Numbers.{model-case, delay-case, model-bits-case, removal-case}
 use Rattle.vbv.specs.Steps.{ParamsFit, delayOf, bitsOf, removalOf}
 use Rattle.vbv.specs.Model.{farthest, startModel, delayForPicture, removePicture, maxEndBits, minEndBits}
+use Rattle.vbr.specs.Variable.{startVariable, removeVariable}
 use Rattle.vbv.specs.declared.RemovalInterval.{RemovalInterval}
 use Rattle.vbv.specs.declared.VbvParams.{VbvParams}
 use Rattle.vbv.specs.declared.VbvCbrModel.{VbvCbrModel}
@@ -29,7 +30,7 @@ use Rattle.vbv.specs.declared.VbvDelay.the-variants as dl
 use Rattle.vbv.specs.declared.VbvBits.{VbvBits}
 use Rattle.vbv.specs.declared.VbvBits.the-variants as bt
 use Rattle.rate_control.specs.Offer.{firstDelay, endCode}
-use Rattle.rate_control.specs.Steps.{startedAt, stuffingUpTo, readyBy, byEnd, violated, bySize, byMost, withStuffing, byLeast, byStart, extentOf, within14, measured}
+use Rattle.rate_control.specs.Steps.{startedAt, stuffingUpTo, readyBy, byEnd, violated, bySize, byMost, withStuffing, byLeast, byStart, filledAt, flowedBy, byFilled, byRate, extentOf, within14, measured}
 use Rattle.rate_control.specs.declared.CbrError.the-variants.{Model, Violation, Stuffing}
 use Rattle.rate_control.specs.declared.Extent.{Extent}
 use Rattle.rate_control.specs.declared.Tested.{Tested}
@@ -128,6 +129,36 @@ module _ (m : VbvCbrModel) (x : Extent) (z : ℕ) (i : RemovalInterval) (r : Vbv
       unfolding byMost bySize pick
       size-yes next j l q = q ∙ rw (model-bits-case h e, le-ltb _ _ g, removal-case l k)
 
+-- ---- at a variable rate
+
+module _ (m : VbvCbrModel) where
+  pub filled-kept : m .started ≡ true → md.Model m ≡ filledAt m
+  unfolding filledAt pick
+  filled-kept h = rw h
+
+  pub filled-new : (r : VbvModel) → m .started ≡ false → modelAnswer r ≡ startVariable m → r ≡ filledAt m
+  unfolding filledAt pick
+  filled-new r h g = sym (model-case refl g) ∙ rw h
+
+module _ (x : Extent) (i : RemovalInterval) (r : VbvModel) (v : VbvModel) (e : r ≡ v) where
+  pub fill-no : (error : VbvError) → r ≡ md.Refused error → Refused (Model error) ≡ byFilled x i v
+  unfolding byFilled
+  fill-no error h = rw (← e, h)
+
+  module _ (n : VbvCbrModel) (h : r ≡ md.Model n) (s : VbvRemoval) (k : removalAnswer s ≡ removeVariable n (x .content) i) where
+    pub flow-no : (error : VbvError) → s ≡ rm.Refused error → Refused (Model error) ≡ byFilled x i v
+    unfolding byFilled flowedBy
+    flow-no error l = rw (← e, h, removal-case l k)
+
+    pub flow-violated : (w : VbvViolation) (j : Tested) → s ≡ rm.Violation w → j ≡ violated w → j ≡ byFilled x i v
+    unfolding byFilled flowedBy
+    flow-violated w j l q = q ∙ rw (← e, h, removal-case l k)
+
+    pub flow-yes : (next : VbvCbrModel) → s ≡ rm.Model next
+        → Ready (record { model = next; «vbv_delay» = 0xFFFF; bytes = x .bytes; «stuffing_bytes» = 0 }) ≡ byFilled x i v
+    unfolding byFilled flowedBy
+    flow-yes next l = rw (← e, h, removal-case l k)
+
 -- ---- the end
 
 module _ (m : VbvCbrModel) (x : Extent) (i : RemovalInterval) (last : Bool) (r : VbvBits) (v : Answer ℕ) (e : modelBitsAnswer r ≡ v) where
@@ -151,30 +182,40 @@ module _ (m : VbvCbrModel) (x : Extent) (i : RemovalInterval) (last : Bool) (r :
 
 -- ---- all
 
+-- at a constant rate the parameters fit, the ratio too
+pub ratio-known : (v : Bool) (p : VbvParams) → (v ≡ false → ParamsFit p) → v ≡ false → ParamsFit p
+ratio-known v p f h = f h
+
 pub end-code-four : (last : Bool) → last ≡ true → (4 ≡ length (endCode last)) × (4 ≤ 4)
 end-code-four last h = (sym (end-size last h), omega arith)
 
 pub end-code-empty : (last : Bool) → last ≡ false → (0 ≡ length (endCode last)) × (0 ≤ 4)
 end-code-empty last h = (rw (end-code-none last h), omega arith)
 
-module _ (m : VbvCbrModel) (headers layer : ℕ) (i : RemovalInterval) (last : Bool) (a : ℕ) (e : a ≡ max headers layer) where
-  pub far-bytes : farthest / 8 < a → Refused (Model Range) ≡ measured m headers layer i last
+module _ (v : Bool) (m : VbvCbrModel) (headers layer : ℕ) (i : RemovalInterval) (last : Bool) (a : ℕ) (e : a ≡ max headers layer) where
+  pub far-bytes : farthest / 8 < a → Refused (Model Range) ≡ measured v m headers layer i last
   unfolding measured pick
   far-bytes h = rw (← e, lt-ltb (farthest / 8) a h)
 
   module _ (h : a ≤ farthest / 8) (t b : ℕ) (k : t ≡ length (endCode last))
       (f : b ≡ max (m .«prev_end_bits» + 8 * (headers + 4)) (m .«prev_end_bits» + 8 * (headers + layer + t))) where
-    pub far-position : farthest < b → Refused (Model Range) ≡ measured m headers layer i last
+    pub far-position : farthest < b → Refused (Model Range) ≡ measured v m headers layer i last
     unfolding measured within14 extentOf pick
     far-position g = rw (← e, le-ltb (farthest / 8) a h, ← k, ← f, lt-ltb farthest b g)
 
-    module _ (g : b ≤ farthest) (s : VbvModel) (q : s ≡ startedAt m (m .«prev_end_bits» + 8 * (headers + 4))) where
-      pub not-started : (error : VbvError) → s ≡ md.Refused error → Refused (Model error) ≡ measured m headers layer i last
-      unfolding measured within14 extentOf byStart pick
-      not-started error l = rw (← e, le-ltb (farthest / 8) a h, ← k, ← f, le-ltb farthest b g, ← q, l)
+    module _ (g : b ≤ farthest) where
+      abbrev x : Extent
+      x = record { position = m .«prev_end_bits» + 8 * (headers + 4); content = m .«prev_end_bits» + 8 * (headers + layer + t); bytes = headers + layer + t }
 
-      pub is-started : (n : VbvCbrModel) (j : Tested) → s ≡ md.Model n
-          → j ≡ byLeast n (record { position = m .«prev_end_bits» + 8 * (headers + 4); content = m .«prev_end_bits» + 8 * (headers + layer + t); bytes = headers + layer + t }) i last (bitsOf (minEndBits n i))
-          → j ≡ measured m headers layer i last
-      unfolding measured within14 extentOf byStart pick
-      is-started n j l w = w ∙ rw (← e, le-ltb (farthest / 8) a h, ← k, ← f, le-ltb farthest b g, ← q, l)
+      pub flows : v ≡ true → (j : Tested) → j ≡ byFilled x i (filledAt m) → j ≡ measured v m headers layer i last
+      unfolding measured within14 extentOf byRate pick
+      flows y j q = q ∙ rw (← e, le-ltb (farthest / 8) a h, ← k, ← f, le-ltb farthest b g, y)
+
+      module _ (y : v ≡ false) (s : VbvModel) (q : s ≡ startedAt m (m .«prev_end_bits» + 8 * (headers + 4))) where
+        pub not-started : (error : VbvError) → s ≡ md.Refused error → Refused (Model error) ≡ measured v m headers layer i last
+        unfolding measured within14 extentOf byRate byStart pick
+        not-started error l = rw (← e, le-ltb (farthest / 8) a h, ← k, ← f, le-ltb farthest b g, y, ← q, l)
+
+        pub is-started : (n : VbvCbrModel) (j : Tested) → s ≡ md.Model n → j ≡ byLeast n x i last (bitsOf (minEndBits n i)) → j ≡ measured v m headers layer i last
+        unfolding measured within14 extentOf byRate byStart pick
+        is-started n j l w = w ∙ rw (← e, le-ltb (farthest / 8) a h, ← k, ← f, le-ltb farthest b g, y, ← q, l)

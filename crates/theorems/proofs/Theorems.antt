@@ -13,6 +13,9 @@ use Rattle.writers.proofs.GopHeader.{group-read-back, time-code-written}
 use Rattle.vbv.proofs.Fractions.{fractions}
 use Rattle.vbv.proofs.Numbering.{model-numbers, model-stays}
 use Rattle.vbv.proofs.Rates.{rates}
+use Rattle.vbv.proofs.Arrival.{arrival-owed}
+use Rattle.vbr.proofs.Numbers.{variable-numbers, variable-stays}
+use Rattle.vbr.proofs.Figures.{variable-figures}
 use Rattle.scan.proofs.Scans.{scans-owed}
 use Rattle.scan.proofs.Pictures.{walk-gives, in-order}
 use Rattle.verify.proofs.Accepted.{accepted-exactly, nothing-cut}
@@ -30,6 +33,7 @@ use Rattle.verify.proofs.Bounds.{records-small}
 use Rattle.verify.proofs.Periods.{periods-told}
 use Rattle.verify.proofs.Rates.{value-reports}
 use Rattle.verify.proofs.AsBefore.{plain-mode}
+use Rattle.verify.proofs.Variable.{variable-rate}
 use Rattle.layers.proofs.Declaring.{headers-declare}
 use Rattle.layers.proofs.Telling.{layer-tells}
 use Rattle.rate_control.proofs.Demand.{owed}
@@ -68,6 +72,9 @@ theorems = record {
   model-numbers = model-numbers;
   rates = rates;
   model-stays = model-stays;
+  arrives = arrival-owed;
+  variable-numbers = variable-numbers;
+  variable-stays = variable-stays;
   scans = scans-owed;
   walk-gives-pictures = walk-gives;
   pictures-in-order = in-order;
@@ -92,6 +99,7 @@ theorems = record {
   records-small = records-small;
   value-reports = value-reports;
   plain-mode = plain-mode;
+  variable-rate = variable-rate;
   headers-declare = headers-declare;
   layer-tells = layer-tells;
   plain-writer = plain-writer;
@@ -106,6 +114,7 @@ theorems = record {
   reports = reports;
   entry-numbers = numbers;
   writer-figures = writer-figures;
+  variable-figures = variable-figures;
   target-figures = target-figures;
   value-targets = value-targets;
   rules = rules;

@@ -8,6 +8,9 @@ use Rattle.writers.specs.RoundTrips.{GroupWrittenReads, TimeCodeWrites}
 use Rattle.vbv.specs.Fractions.{FractionsOwed as InFractions}
 use Rattle.vbv.specs.Numbers.{ModelNumbers, ModelStays}
 use Rattle.vbv.specs.Rates.{RatesOwed}
+use Rattle.vbv.specs.Arrival.{ArrivalOwed}
+use Rattle.vbr.specs.Numbers.{VariableNumbers, VariableStays}
+use Rattle.vbr.specs.Figures.{VariableFigures}
 use Rattle.scan.specs.Scanned.{OwedOfScans}
 use Rattle.scan.specs.Order.{WalkGivesPictures, PicturesInOrder}
 use Rattle.verify.specs.Accepted.{AcceptedExactly, NothingCut}
@@ -21,6 +24,7 @@ use Rattle.cadence.specs.History.{ByHistory}
 use Rattle.cadence.specs.Plain.{OutsideFilm, WithoutFlag}
 use Rattle.verify.specs.Periods.{PeriodsTold}
 use Rattle.verify.specs.Plain.{PlainMode}
+use Rattle.verify.specs.Variable.{VariableRate}
 use Rattle.verify.specs.Rates.{ValueReports}
 use Rattle.verify.specs.Sizes.{RecordsSmall}
 use Rattle.layers.specs.Headers.{HeadersDeclare}
@@ -72,8 +76,13 @@ pub record Theorems : Type 0 where
   pub model-numbers : ModelNumbers
   -- The lookup of a frame rate is answered as it is due, with figures; and only its value counts: with the same R, B and value all that Annex C tells is the same, whatever units it is counted in.
   pub rates : RatesOwed
-  -- A model that `new` and calls left is in its ranges.
+  -- A model that `new`, starts and removals left is in its ranges.
   pub model-stays : ModelStays
+  -- At a variable rate (request 06) the buffer is full at the first removal, gains R times the period after each, and stays at B once full; no delay tells a time, and 12 does not ask the ratio.
+  pub arrives : ArrivalOwed
+  -- The variable model refuses with 12, 13 and 14 by number alone, and with 10 by number and picture; what `new` and calls left is in its ranges.
+  pub variable-numbers : VariableNumbers
+  pub variable-stays : VariableStays
   -- ---- the start codes of a stream
   -- The scan by places goes on as request 03 says and finds the stream's codes; over n bytes all above 01 it looks at n / 3 places at most.
   pub scans : OwedOfScans
@@ -104,14 +113,14 @@ pub record Theorems : Type 0 where
   pub outside-film : OutsideFilm
   pub without-flag : WithoutFlag
   -- ---- the check
-  -- A stream is accepted, with these records, exactly when it passes the tests before the run and at every removal the start code has come, the coded delay is within one tick of the
-  -- expected, which is at most 65,534, and the buffer holds at most B bits, all bits of the picture among them.
+  -- A stream is accepted, with these records, exactly when it passes the tests before the run and at every removal the buffer holds at most B bits, all bits of the picture among them, and at a
+  -- constant rate the start code has come and the coded delay is within one tick of the expected, which is at most 65,534.
   pub accepted-exactly : AcceptedExactly
   -- The verdict is the one that is due: accepted, or refused by the first test that fails, with that picture's number, coded and expected delay.
   pub check-due : CheckDue
   -- In the records of an accepted stream no difference is cut off at 0.
   pub nothing-cut : NothingCut
-  -- A refusal is one of paper 01's numbers; only 9 to 11 carry picture, coded and expected.
+  -- A refusal is one of the papers' numbers, at a variable rate of 7 to 11 only 10; 9 to 11 alone carry picture, coded and expected.
   pub check-numbers : CheckNumbers
   -- A record tells the field periods up to the next removal: outside film 1 for a field picture, 2 for a frame, so 2 throughout MPEG-1; in film mode what the pictures before tell.
   pub periods-told : PeriodsTold
@@ -121,6 +130,8 @@ pub record Theorems : Type 0 where
   pub value-reports : ValueReports
   -- Plain mode is as before (request 05); and where no picture has repeat_first_field film is plain.
   pub plain-mode : PlainMode
+  -- At a variable rate every coded and expected delay is 65,535, in records and in 10, and every accepted stream sees a full buffer (request 06).
+  pub variable-rate : VariableRate
   -- ---- the writer
   -- The first headers declare a writer's parameters exactly when they show its R, its B and a frame rate of its value, by whatever code, n and d.
   pub headers-declare : HeadersDeclare
@@ -128,9 +139,9 @@ pub record Theorems : Type 0 where
   pub layer-tells : LayerTells
   -- A plain writer is as before: a picture lasts as its offer says, and no cadence is kept.
   pub plain-writer : PlainWriter
-  -- Demand 3, of a film writer with the film check and of a plain one with the plain check: of every creation, and of every list of offers and withdrawals on a writer that was created.
+  -- Demand 3, of a film writer with the film check and of a plain one with the plain check, of a variable writer with the variable check: of every creation, and of every list of offers and withdrawals on a writer that was created.
   pub demand-3 : Demand3
-  -- A writer's calls are refused with paper 01's numbers, whatever its state; an offer's 9 names its picture.
+  -- A writer's calls are refused with paper 01's numbers, whatever its state; an offer's 9 names its picture; a variable writer never says 7, 9 or 22.
   pub writer-numbers : WriterNumbers
   -- Demand 3 of lists of calls from C on the bytes of a state.
   pub from-c : OwedFromC
@@ -139,7 +150,7 @@ pub record Theorems : Type 0 where
   pub from-config : OwedFromConfig
   -- From C a refusal leaves state and output part as they were, but that 21 closes the pending picture.
   pub refusals : OwedOfRefusals
-  -- The modes and their numbers; 1, 2 and 6 in the check, and no other.
+  -- The modes and their numbers; 1, 2, 6, 10 and 14 in the check, and no other.
   pub modes-numbered : ModesNumbered
   pub modes : OwedOfModes
   -- The report alone is that of the check with a record place for each picture, and its count says how many that are.
@@ -149,6 +160,8 @@ pub record Theorems : Type 0 where
   -- ---- figures
   -- The figures of paper 01 that are marked P.
   pub writer-figures : WriterFigures
+  -- The figures of a variable rate (request 06).
+  pub variable-figures : VariableFigures
   -- The target of each kind; targets at 50/2; and where a picture's bits are no whole number.
   pub target-figures : TargetFigures
   -- Of a frame rate only the value counts (request 02): the same targets and first delay.

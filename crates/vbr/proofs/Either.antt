@@ -1,11 +1,12 @@
 -- The model at a variable rate or a constant one: what is the same of both, for callers that have the choice as a flag.
 -- Assumes nothing.
-use mathlib.Core.Path.{_≡_}
+use mathlib.Core.Path.{_≡_, refl, sym, subst, _∙_}
 use mathlib.Core.Bool.{Bool, true, false}
 use mathlib.Core.List.{[], _∷_}
 use Prim.Native.Nat.{ℕ}
 use Rattle.bits.specs.Numbers.{Numbered}
-use Rattle.bits.specs.Refusals.{value, refused}
+use Rattle.bits.specs.Refusals.{Answer, value, refused}
+use Rattle.bits.proofs.Following.{same-value}
 use Rattle.vbv.specs.Annex.{overflows, beyond, arrived}
 use Rattle.vbv.specs.Model.{paramsFitAt, modelInRange, afterRemoval, periods}
 use Rattle.vbv.specs.Steps.{EndFits, modelOf}
@@ -15,6 +16,7 @@ use Rattle.vbv.specs.declared.VbvCbrModel.{VbvCbrModel}
 use Rattle.vbv.specs.declared.VbvError.the-variants.{Params}
 use Rattle.vbv.specs.declared.VbvModel.the-variants.{Model, Refused}
 use Rattle.vbv.proofs.After as after
+use Rattle.vbv.proofs.Cases.{modelAt, zero-model}
 use Rattle.vbv.proofs.Fitting.{fits-model-range}
 use Rattle.vbv.proofs.Laws.{fits-params, model-made}
 use Rattle.vbv.proofs.Named.{unmade-named, makes-named}
@@ -87,6 +89,21 @@ makes-named-at false p h = makes-named p h
 pub new-numbered-at : (v : Bool) (p : VbvParams) → Numbered (12 ∷ []) [] [] (newModelAt v p)
 new-numbered-at true p = variable-numbers .new p
 new-numbered-at false p = model-numbers .new p
+
+-- a new model, or parameters that do not fit
+pub data NewModelAt (v : Bool) (p : VbvParams) : Answer VbvCbrModel → Type 0 where
+  made : paramsFitAt v p ≡ true → NewModelAt v p (value (modelAt p 0 0 0 false))
+  unfit : paramsFitAt v p ≡ false → NewModelAt v p (refused 12 0 0 0)
+
+pub new-model-at : (v : Bool) (p : VbvParams) → NewModelAt v p (newModelAt v p)
+new-model-at v p = go (paramsFitAt v p) refl
+  where
+    go : (t : Bool) → paramsFitAt v p ≡ t → NewModelAt v p (newModelAt v p)
+    go true h = rw (makes-at v p h) (subst (λ (m : VbvCbrModel). NewModelAt v p (value m)) (zero-model p) (made h))
+    go false h = rw (unmade-at v p h) (unfit h)
+
+pub made-at-is : (v : Bool) (p : VbvParams) (m : VbvCbrModel) → newModelAt v p ≡ value m → m ≡ modelAt p 0 0 0 false
+made-at-is v p m h = same-value (sym h ∙ makes-at v p (made-at v p m h .params-fit)) ∙ sym (zero-model p)
 
 -- validity is kept by a removal with d units delivered, whatever the model itself said
 pub after-fits-at : (v : Bool) (m : VbvCbrModel) (d : ℕ) → modelFitsAt v m ≡ true → overflows (m .params) (m .«prev_end_bits») d ≡ false

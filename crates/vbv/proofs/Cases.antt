@@ -33,7 +33,7 @@ pub delivered-of : (p : VbvParams) (d end removed : ℕ) (started : Bool) → de
 unfolding delivered
 delivered-of p d end removed started = div-add-mod' d (unit p)
 
-zero-model : (p : VbvParams)
+pub zero-model : (p : VbvParams)
     → modelAt p 0 0 0 false ≡ record { params = p; whole = 0; rest = 0; «prev_end_bits» = 0; removed = 0; started = false }
 zero-model p = rw (zero-div, zero-mod)
 

@@ -1,9 +1,10 @@
 -- What the tests of parameters and of a state say: bounds, and back.
 -- Assumes nothing.
-use mathlib.Core.Path.{_≡_, refl}
-use mathlib.Core.Bool.{Bool, true, false, _&&_, and-assoc}
+use mathlib.Core.Path.{_≡_, refl, sym, _∙_}
+use mathlib.Core.Bool.{Bool, true, false, _&&_, and-assoc, true≢false}
 use Prim.Native.Nat.{ℕ, _+_, _*_, _/_, _≤_, _<_, max}
 use native.Mathlib.Omega.{arith}
+use native.Mathlib.Decide.{decLt}
 use lib.Arith.{digits-div}
 use lib.Dec.{leb, ltb}
 use borrow.Author.Tests.{leb-true, leb-false, ltb-true, le-leb, lt-leb, lt-ltb}
@@ -221,6 +222,58 @@ fit-in p h = and-left (paramsInRange p) (ratioFits p) h
 pub fit-in-at : (v : Bool) (p : VbvParams) → paramsFitAt v p ≡ true → paramsInRange p ≡ true
 fit-in-at true p h = h
 fit-in-at false p h = fit-in p h
+
+-- the ranges as bounds; with the ratio, which is asked at a constant rate alone, they fit
+pub record ParamsIn (p : VbvParams) : Type 0 where
+  pub rate-low : 1 ≤ p .«bit_rate»
+  pub rate-high : p .«bit_rate» ≤ 429496729200
+  pub size-low : 1 ≤ p .«buffer_size_bits»
+  pub size-high : p .«buffer_size_bits» ≤ 4294950912
+  pub frn-low : 1 ≤ p .frn
+  pub frn-high : p .frn ≤ 240000
+  pub frd-low : 1 ≤ p .frd
+  pub frd-high : p .frd ≤ 32032
+
+module _ (p : VbvParams) where
+  pub fitting-at : (v : Bool) → ParamsIn p → (v ≡ false → 90000 * p .«buffer_size_bits» ≤ 65534 * p .«bit_rate») → paramsFitAt v p ≡ true
+  unfolding paramsInRange
+  fitting-at true i z =
+      simp (
+        le-leb _ _ (i .rate-low),
+        le-leb _ _ (i .rate-high),
+        le-leb _ _ (i .size-low),
+        le-leb _ _ (i .size-high),
+        le-leb _ _ (i .frn-low),
+        le-leb _ _ (i .frn-high),
+        le-leb _ _ (i .frd-low),
+        le-leb _ _ (i .frd-high),
+      )
+  fitting-at false i z =
+      fitting-params p
+      (record {
+        rate-low = i .rate-low;
+        rate-high = i .rate-high;
+        size-low = i .size-low;
+        size-high = i .size-high;
+        frn-low = i .frn-low;
+        frn-high = i .frn-high;
+        frd-low = i .frd-low;
+        frd-high = i .frd-high;
+        full = z refl;
+      })
+
+  pub ratio-at : (v : Bool) → paramsFitAt v p ≡ true → v ≡ false → 90000 * p .«buffer_size_bits» ≤ 65534 * p .«bit_rate»
+  ratio-at true f e = absurd (true≢false e)
+  ratio-at false f e = params-fit f .full
+
+  -- in their ranges they are unfit by the ratio alone
+  pub unfit-ratio : (v : Bool) → ParamsIn p → paramsFitAt v p ≡ false → (v ≡ false) × (65534 * p .«bit_rate» < 90000 * p .«buffer_size_bits»)
+  unfit-ratio true i f = absurd (true≢false (sym (fitting-at true i (λ e. absurd (true≢false e))) ∙ f))
+  unfit-ratio false i f = (refl, go (decLt (65534 * p .«bit_rate») (90000 * p .«buffer_size_bits»)))
+    where
+      go : Dec (65534 * p .«bit_rate» < 90000 * p .«buffer_size_bits») → 65534 * p .«bit_rate» < 90000 * p .«buffer_size_bits»
+      go (yes z) = z
+      go (no z) = absurd (true≢false (sym (fitting-at false i (λ e. omega (arith, z))) ∙ f))
 
 pub unit-pos : (p : VbvParams) → paramsFit p ≡ true → 0 < unit p
 unit-pos p h = unit-pos-in p (fit-in p h)

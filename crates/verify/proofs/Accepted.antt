@@ -3,24 +3,22 @@
 use mathlib.Core.Path.{_≡_, refl, sym, _∙_}
 use mathlib.Core.Bool.{Bool, true, false}
 use mathlib.Core.List.{List, [], _∷_}
-use Prim.Native.Nat.{ℕ, suc, _+_, _*_, _≤_}
+use Prim.Native.Nat.{ℕ, suc, _*_, _≤_}
 use native.Mathlib.Omega.{arith}
 use native.Mathlib.Nat.{mul-le-mul-right}
-use lib.Dec.{eqb}
 use lib.ListN.{length}
-use borrow.Author.Tests.{ltb-false, le-ltb, eqb-true, eqb-false, ne-eqb}
+use borrow.Author.Tests.{ltb-false, le-ltb}
 use Rattle.bits.specs.Bits.{pick}
 use Rattle.bits.specs.Refusals.{Answer, value, refused, andThen}
 use Rattle.vbv.specs.Annex.{unit, firstArrived, arrived}
 use Rattle.vbv.specs.Model.{paramsInRange, paramsFitAt, periods}
 use Rattle.vbv.specs.declared.VbvParams.{VbvParams}
-use Rattle.bits.proofs.Flags.{both-true, no, held, was-no, was-held}
+use Rattle.bits.proofs.Flags.{was-no, was-held}
 use Rattle.bits.proofs.Following.{refused-value, same-value, then-value}
 use Rattle.vbv.proofs.Laws.{units-beyond, occupancy-least-in}
 use Rattle.vbv.proofs.Fitting.{fit-in-at}
 use Rattle.pictures.specs.Front.{Front, front}
 use Rattle.pictures.specs.Cadence.{cadenceOf}
-use Rattle.cadence.specs.Cadence.{after}
 use Rattle.cadence.specs.declared.VbvCadence.{VbvCadence}
 use Rattle.pictures.specs.Due as fr
 use Rattle.pictures.specs.Due.{Read, FrontDue}
@@ -35,9 +33,10 @@ use Rattle.verify.specs.Mode.{modeFits}
 use Rattle.verify.specs.Coded.{timed}
 use Rattle.verify.specs.declared.VbvMode.{VbvMode}
 use Rattle.verify.specs.Run.{recordOf, removal, run}
-use Rattle.verify.specs.Check.{Accepted, accepted, modelled, allVariable, withPictures, verdictBy, verdict}
+use Rattle.verify.specs.Check.{Accepted, accepted, modelled, withPictures, verdictBy, verdict}
 use Rattle.verify.specs.Accepted.{Conforms, Along, none, more, DelaysFit, Passes, AcceptedExactly, Uncut, NothingCut}
 use Rattle.verify.proofs.Rising.{Rising, last, next, timed-rising, timed-length}
+use Rattle.verify.proofs.Delays.{pictures-are, fit-delays, delays-fit}
 use Rattle.verify.proofs.Conforming.{Bounded, first-bounded, next-bounded, conforms, conforming}
 use Rattle.verify.proofs.Modes.{mode-exists, existing, verdict-in, verdict-none}
 
@@ -59,32 +58,6 @@ unfolding run
 along-run n none = refl
 along-run n (more h t) = rw (conforming n h, along-run (suc n) t)
 
--- ---- the delays: 5 or 25, both ways
-
-all-fit : (k : VbvCadence) (xs : List SeenPicture) → DelaysFit true xs → allVariable (timed k xs) ≡ true
-unfolding allVariable timed
-all-fit k [] h = refl
-all-fit k (x ∷ xs) h = let e = h .0 in rw (e, all-fit (after k (x .facts)) xs (h .1)) refl
-
-fit-all : (k : VbvCadence) (xs : List SeenPicture) → allVariable (timed k xs) ≡ true → DelaysFit true xs
-unfolding allVariable timed
-fit-all k [] h = tt
-fit-all k (x ∷ xs) h =
-    let a = both-true (eqb (x .«vbv_delay») 0xFFFF) (allVariable (timed (after k (x .facts)) xs)) h in
-    (eqb-true (x .«vbv_delay») 0xFFFF (a .0), fit-all (after k (x .facts)) xs (a .1))
-
-module _ (places : ℕ) (p : VbvParams) (k : VbvCadence) (x : SeenPicture) (xs : List SeenPicture) where
-  pub past-delays : (v : Bool) → DelaysFit v (x ∷ xs) → withPictures v places p x (timed k (x ∷ xs)) ≡ modelled v places p x (timed k (x ∷ xs))
-  unfolding withPictures
-  past-delays true h = sym (held _ _ _ (all-fit k (x ∷ xs) h) refl)
-  past-delays false h = sym (no _ _ _ (ne-eqb (x .«vbv_delay») 0xFFFF h) refl)
-
-  delays-passed : (v : Bool) {a : Accepted} → withPictures v places p x (timed k (x ∷ xs)) ≡ value a
-      → DelaysFit v (x ∷ xs) × (modelled v places p x (timed k (x ∷ xs)) ≡ value a)
-  unfolding withPictures
-  delays-passed true h = let a = was-held (allVariable (timed k (x ∷ xs))) _ _ refused-value h in (fit-all k (x ∷ xs) (a .0), a .1)
-  delays-passed false h = let a = was-no _ _ _ refused-value h in (eqb-false (x .«vbv_delay») 0xFFFF (a .0), a .1)
-
 -- ---- a stream that passes, by a cadence before its first picture
 
 pub record PassesBy (standard : VbvStandard) (variable : Bool) (k : VbvCadence) (s : List ℕ) (places : ℕ) (p : VbvParams) (rs : List VbvPictureRecord) : Type 0 where
@@ -103,7 +76,8 @@ module _ {standard : VbvStandard} {v : Bool} {k : VbvCadence} {s : List ℕ} {pl
   judged-is =
       let l : length (timed k (a .first ∷ a .others)) ≤ places = omega (arith, timed-length k (a .first ∷ a .others), a .places-suffice) in
       rw (
-        past-delays places p k (a .first) (a .others) v (a .delays-fit),
+        pictures-are v places p (a .first) (timed k (a .first ∷ a .others)),
+        fit-delays k (a .first) (a .others) v (a .delays-fit),
         a .params-fit,
         le-ltb places (length (timed k (a .first ∷ a .others))) l,
         along-run 0 (a .removals),
@@ -126,7 +100,7 @@ module _ (standard : VbvStandard) (variable : Bool) (k : VbvCadence) (s : List �
       → withPictures variable places q x (timed k (x ∷ xs)) ≡ value v → PassesBy standard variable k s places (v .params) (v .first ∷ v .others)
   unfolding modelled
   by-pictures {q} {x} {xs} g h =
-      let a = delays-passed places q k x xs variable h in
+      let a = was-no _ _ _ refused-value (sym (pictures-are variable places q x (timed k (x ∷ xs))) ∙ h) in
       let b = was-held (paramsFitAt variable q) _ _ refused-value (a .1) in
       let e = was-no _ _ _ refused-value (b .1) in
       let f = was-ran (run variable q 0 0 (firstArrived variable q (x .«pos_bits») (x .«vbv_delay»)) (timed k (x ∷ xs))) (e .1) in
@@ -135,7 +109,7 @@ module _ (standard : VbvStandard) (variable : Bool) (k : VbvCadence) (s : List �
         first = x;
         others = xs;
         is-read = g;
-        delays-fit = a .0;
+        delays-fit = delays-fit k x xs variable (a .0);
         params-fit = b .0;
         places-suffice = omega (arith, timed-length k (x ∷ xs), ltb-false places (length (timed k (x ∷ xs))) (e .0));
         removals = run-along variable q 0 0 _ (timed k (x ∷ xs)) (v .first ∷ v .others) (first-bounded variable q (x .«pos_bits») (x .«vbv_delay»)) (f .1);

@@ -18,7 +18,7 @@ use Rattle.verify.specs.Run.{apart, recordOf, takenOut, removal}
 use Rattle.verify.specs.Accepted.{Conforms}
 
 -- delays that are not apart, both ways
-near : (coded expected : ℕ) → apart coded expected ≡ false → (coded ≤ expected + 1) × (expected ≤ coded + 1)
+pub near : (coded expected : ℕ) → apart coded expected ≡ false → (coded ≤ expected + 1) × (expected ≤ coded + 1)
 unfolding apart
 near coded expected h = (
   ltb-false _ _ (or-right (ltb (coded + 1) expected) (ltb (expected + 1) coded) h),

@@ -3,6 +3,7 @@ pub mod Rising
 pub mod Walking
 pub mod Removal
 pub mod Conforming
+pub mod Delays
 pub mod Course
 pub mod Verdict
 pub mod Accepted
@@ -18,3 +19,4 @@ pub mod Numbering
 pub mod Rates
 pub mod AsBefore
 pub mod Due
+pub mod Variable

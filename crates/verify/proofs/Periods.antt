@@ -3,8 +3,8 @@
 use mathlib.Core.Path.{_≡_, sym, ap, subst, _∙_}
 use mathlib.Core.Bool.{Bool, true, false}
 use mathlib.Core.List.{List, [], _∷_}
-use Prim.Native.Nat.{ℕ, _+_}
-use Rattle.vbv.specs.Annex.{firstDelivered, gain}
+use Prim.Native.Nat.{ℕ}
+use Rattle.vbv.specs.Annex.{firstArrived, arrived}
 use Rattle.bits.specs.Refusals.{value}
 use Rattle.vbv.specs.Model.{periods, intervalOf}
 use Rattle.vbv.specs.declared.VbvParams.{VbvParams}
@@ -31,11 +31,11 @@ use Rattle.verify.specs.Periods.{Counted, no-more, one-more, Lasts, Pair
 use Rattle.verify.specs.declared.CodedPicture.{CodedPicture}
 use Rattle.verify.specs.declared.VbvPictureRecord.{VbvPictureRecord}
 
-periods-are : {p : VbvParams} {previous d : ℕ} {c : CodedPicture} {r : VbvPictureRecord} → Conforms p previous d c r → r .periods ≡ periods (c .interval)
+periods-are : {v : Bool} {p : VbvParams} {previous d : ℕ} {c : CodedPicture} {r : VbvPictureRecord} → Conforms v p previous d c r → r .periods ≡ periods (c .interval)
 unfolding recordOf
 periods-are w = ap (λ (q : VbvPictureRecord). q .periods) (w .record-is)
 
-counted : {p : VbvParams} {previous d : ℕ} {cs : List CodedPicture} {rs : List VbvPictureRecord} → Along p (Conforms p) previous d cs rs → Counted p previous d cs rs
+counted : {v : Bool} {p : VbvParams} {previous d : ℕ} {cs : List CodedPicture} {rs : List VbvPictureRecord} → Along v p (Conforms v p) previous d cs rs → Counted v p previous d cs rs
 counted ac.none = no-more
 counted (ac.more {cs = cs} {rs = rs} w t) = one-more {cs = cs} {rs = rs} w (rw (periods-are w) (counted t))
 
@@ -43,8 +43,8 @@ lasts : {standard : VbvStandard} {x : SeenPicture} {r : VbvPictureRecord} → (s
     → r .periods ≡ periods (intervalOf (x .facts .field)) → Lasts standard x r
 lasts f h = record { a-field = λ e. h ∙ rw e field-lasts; a-frame = λ e. h ∙ rw e frame-lasts; in-mpeg-1 = λ e. h ∙ rw (f e) frame-lasts }
 
-paired : {p : VbvParams} {previous d : ℕ} {standard : VbvStandard} (k : VbvCadence) (xs : List SeenPicture) {rs : List VbvPictureRecord} → k .film ≡ false → (standard ≡ Mpeg1 → Frames xs)
-    → Along p (Conforms p) previous d (timed k xs) rs → Paired standard xs rs
+paired : {v : Bool} {p : VbvParams} {previous d : ℕ} {standard : VbvStandard} (k : VbvCadence) (xs : List SeenPicture) {rs : List VbvPictureRecord} → k .film ≡ false → (standard ≡ Mpeg1 → Frames xs)
+    → Along v p (Conforms v p) previous d (timed k xs) rs → Paired standard xs rs
 unfolding timed
 paired k [] z f ac.none = none
 paired k (x ∷ xs) z f (ac.more w t) =
@@ -55,13 +55,13 @@ frames-in : (standard : VbvStandard) (s : List ℕ) (xs : List SeenPicture) → 
 frames-in standard s xs h e = all-frames s xs (rw e at h)
 
 -- in film mode, by the pictures before
-film-paired : {p : VbvParams} {previous d : ℕ} (progressive low : Bool) (before : List PictureFacts) (xs : List SeenPicture) {rs : List VbvPictureRecord}
-    → Along p (Conforms p) previous d (timed (cadenceAfter progressive low before) xs) rs → FilmPaired progressive low before xs rs
+film-paired : {v : Bool} {p : VbvParams} {previous d : ℕ} (progressive low : Bool) (before : List PictureFacts) (xs : List SeenPicture) {rs : List VbvPictureRecord}
+    → Along v p (Conforms v p) previous d (timed (cadenceAfter progressive low before) xs) rs → FilmPaired progressive low before xs rs
 unfolding timed
 film-paired progressive low before [] ac.none = no-picture
-film-paired {p} progressive low before (x ∷ xs) (ac.more {previous = previous} {d = d} {c = c} {rs = rs} w t) =
+film-paired {v} {p} progressive low before (x ∷ xs) (ac.more {previous = previous} {d = d} {c = c} {rs = rs} w t) =
     picture-then {rs = rs} (periods-are w ∙ by-history progressive low before (x .facts))
-    (film-paired {p = p} {previous = c .«end_bits»} {d = d + gain p (periods (c .interval))} progressive low (x .facts ∷ before) xs (rw (after-more progressive low before (x .facts)) t))
+    (film-paired {v = v} {p = p} {previous = c .«end_bits»} {d = arrived v p (c .«end_bits») d (periods (c .interval))} progressive low (x .facts ∷ before) xs (rw (after-more progressive low before (x .facts)) t))
 
 film-timed : (progressive low : Bool) (before : List PictureFacts) (xs : List SeenPicture)
     → FilmTimed progressive low before xs (timed (cadenceAfter progressive low before) xs)
@@ -82,7 +82,7 @@ periods-told = record {
       paired (cadenceOf (m .film) s) (a .first ∷ a .others) (rw (of-film (m .film) s) z) (frames-in (m .standard) s (a .first ∷ a .others) (a .is-read .is-read .pictures-are)) (a .removals);
   by-film = λ m s places p rs a z.
       film-paired (cadenceOf true s .progressive) (cadenceOf true s .«low_delay») [] (a .first ∷ a .others)
-      (subst (λ (k : VbvCadence). Along p (Conforms p) 0 (firstDelivered p (a .first .«pos_bits») (a .first .«vbv_delay»)) (timed k (a .first ∷ a .others)) rs) (ap (λ (b : Bool). cadenceOf b s) z ∙ none-seen s) (a .removals));
+      (subst (λ (k : VbvCadence). Along (m .variable) p (Conforms (m .variable) p) 0 (firstArrived (m .variable) p (a .first .«pos_bits») (a .first .«vbv_delay»)) (timed k (a .first ∷ a .others)) rs) (ap (λ (b : Bool). cadenceOf b s) z ∙ none-seen s) (a .removals));
   film-timed = λ s xs.
       subst (λ (k : VbvCadence). FilmTimed (cadenceOf true s .progressive) (cadenceOf true s .«low_delay») [] xs (timed k xs)) (sym (none-seen s))
       (film-timed (cadenceOf true s .progressive) (cadenceOf true s .«low_delay») [] xs);

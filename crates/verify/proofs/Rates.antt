@@ -3,11 +3,11 @@
 use mathlib.Core.Path.{_≡_, refl}
 use mathlib.Core.Bool.{Bool, true, false}
 use mathlib.Core.List.{List, [], _∷_}
-use Prim.Native.Nat.{ℕ, suc, _+_}
+use Prim.Native.Nat.{ℕ, suc}
 use Rattle.bits.specs.Bits.{pick}
 use Rattle.bits.specs.Refusals.{Answer, value, refused, andThen}
 use Rattle.bits.proofs.Flags.{pick-alike}
-use Rattle.vbv.specs.Annex.{firstArrived, arrived}
+use Rattle.vbv.specs.Annex.{firstArrived}
 use Rattle.vbv.specs.Model.{periods}
 use Rattle.vbv.specs.Params.{sameParams}
 use Rattle.vbv.specs.Rates.{SameBits, SameTold}
@@ -22,6 +22,7 @@ use Rattle.verify.specs.Rates.{SameAnswer, ValueReports}
 use Rattle.verify.specs.declared.VbvMode.{VbvMode}
 use Rattle.verify.specs.declared.CodedPicture.{CodedPicture}
 use Rattle.verify.specs.declared.VbvPictureRecord.{VbvPictureRecord}
+use Rattle.verify.proofs.Delays.{pictures-are}
 
 module _ {p q : VbvParams} (t : SameTold p q) where
   same-taken : (v : Bool) (n previous d e : ℕ) → SameBits p q d e → (c : CodedPicture) → takenOut v p n previous d c ≡ takenOut v q n previous e c
@@ -69,25 +70,14 @@ module _ (p q : VbvParams) (h : sameParams p q ≡ true) (v : Bool) (places : �
   same-ran = same-run told v 0 0 _ _ (told .first-arrived v (x .«pos_bits») (x .«vbv_delay»)) cs
 
   through : {Y : Type 0} (g : Answer Accepted → Y) → ((a : Answer (List VbvPictureRecord)) → g (andThen a (accepted p)) ≡ g (andThen a (accepted q)))
-      → g (modelled v places p x cs) ≡ g (modelled v places q x cs)
+      → g (withPictures v places p x cs) ≡ g (withPictures v places q x cs)
   unfolding modelled
-  through g k = rw (told .fits-at v, same-ran) (past g _ _ (past g _ _ (k (ran q))))
-
--- the delays are those of the pictures
-through-delays : (p q : VbvParams) (v : Bool) (places : ℕ) (x : SeenPicture) (cs : List CodedPicture) {Y : Type 0} (g : Answer Accepted → Y)
-    → g (modelled v places p x cs) ≡ g (modelled v places q x cs) → g (withPictures v places p x cs) ≡ g (withPictures v places q x cs)
-unfolding withPictures
-through-delays p q true places x cs g e = past g _ _ e
-through-delays p q false places x cs g e = past g _ _ e
+  through g k = rw (pictures-are v places p x cs, pictures-are v places q x cs, told .fits-at v, same-ran) (past g _ _ (past g _ _ (past g _ _ (k (ran q)))))
 
 same-pictures : (p q : VbvParams) → sameParams p q ≡ true → (v : Bool) (places : ℕ) (x : SeenPicture) (cs : List CodedPicture)
     → SameAnswer (withPictures v places p x cs) (withPictures v places q x cs)
 same-pictures p q h v places x cs =
-    let w = same-value p q h in
-    (
-      through-delays p q v places x cs reported (through p q h v places x cs reported (same-reported w)),
-      through-delays p q v places x cs records (through p q h v places x cs records (same-records w)),
-    )
+    (through p q h v places x cs reported (same-reported (same-value p q h)), through p q h v places x cs records (same-records (same-value p q h)))
 
 same-streams : (m : VbvMode) (s t : List ℕ) (places : ℕ) (f g : Front) → front (m .standard) s ≡ value f → front (m .standard) t ≡ value g
     → sameParams (f .params) (g .params) ≡ true → f .first ≡ g .first → f .others ≡ g .others → cadenceOf (m .film) s ≡ cadenceOf (m .film) t

@@ -9,8 +9,8 @@ cast-buffer c = search needs
 params-of-requires : tie.Need-params-of-requires
 params-of-requires c κs = search needs
 
-new-requires : tie.Need-new-requires
-new-requires c κs = search needs
+new-model-requires : tie.Need-new-model-requires
+new-model-requires c κs = search needs
 
 enum-known-model : tie.Need-enum-known-model
 enum-known-model c = search needs
@@ -36,7 +36,7 @@ with-rate-spec =
     (tie.spec
     cast-buffer
     params-of-requires
-    new-requires
+    new-model-requires
     enum-known-model
     fresh-requires
     enum-known-error

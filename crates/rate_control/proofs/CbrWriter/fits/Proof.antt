@@ -3,8 +3,8 @@ use borrow.Author.Needs.{needs}
 use Rattle.rate_control.proofs.CbrWriter.fits.Statement.{statement}
 use Rattle.rate_control.proofs.CbrWriter.fits.Tie as tie
 
-fits-requires : tie.Need-fits-requires
-fits-requires c κs = search needs
+model-fits-requires : tie.Need-model-fits-requires
+model-fits-requires c κs = search needs
 
 greater-requires : tie.Need-greater-requires
 greater-requires c κs = search needs
@@ -18,8 +18,8 @@ all-quantisers-requires c κs = search needs
 pending-fits-requires : tie.Need-pending-fits-requires
 pending-fits-requires c κs = search needs
 
-fits-requires-2 : tie.Need-fits-requires-2
-fits-requires-2 c κs = search needs
+fits-requires : tie.Need-fits-requires
+fits-requires c κs = search needs
 
 returns : tie.Need-returns
 returns c = search (needs, writer-tested)
@@ -28,10 +28,10 @@ pub fits-spec : {M : Type 1} → statement M
 fits-spec =
     tie.close
     (tie.spec
-    fits-requires
+    model-fits-requires
     greater-requires
     all-targets-requires
     all-quantisers-requires
     pending-fits-requires
-    fits-requires-2
+    fits-requires
     returns)

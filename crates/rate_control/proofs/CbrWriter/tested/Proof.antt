@@ -1,4 +1,4 @@
-use Rattle.rate_control.proofs.Offering.{model-of, way-unfit, way-17, way-18, way-20, way-on}
+use Rattle.rate_control.proofs.Offering.{end-of, params-of, way-unfit, way-17, way-18, way-20, way-on}
 use borrow.Author.Needs.{needs}
 use Rattle.rate_control.proofs.CbrWriter.tested.Statement.{statement}
 use Rattle.rate_control.proofs.CbrWriter.tested.Tie as tie
@@ -19,7 +19,7 @@ layer-fits-requires : tie.Need-layer-fits-requires
 layer-fits-requires c κs = search needs
 
 measured-requires : tie.Need-measured-requires
-measured-requires c κs = search (needs, model-of)
+measured-requires c κs = search (needs, end-of, params-of)
 
 returns-2 : tie.Need-returns-2
 returns-2 c = search (needs, way-on)

@@ -1,4 +1,4 @@
-use Rattle.rate_control.proofs.Ways.{far-bytes, far-position, not-started, is-started}
+use Rattle.rate_control.proofs.Ways.{far-bytes, far-position, ratio-known, flows, not-started, is-started}
 use borrow.Author.Needs.{needs}
 use Rattle.rate_control.proofs.measure.measured.Statement.{statement}
 use Rattle.rate_control.proofs.measure.measured.Tie as tie
@@ -39,8 +39,14 @@ greater-requires-2 c κs = search needs
 returns-2 : tie.Need-returns-2
 returns-2 c = search (needs, far-position)
 
+flowed-requires : tie.Need-flowed-requires
+flowed-requires c κs = search needs
+
+returns-3 : tie.Need-returns-3
+returns-3 c = search (needs, flows)
+
 started-requires : tie.Need-started-requires
-started-requires c κs = search needs
+started-requires c κs = search (needs, ratio-known)
 
 enum-known-error : tie.Need-enum-known-error
 enum-known-error c = search needs
@@ -51,11 +57,11 @@ enum-known-begun c = search needs
 ended-requires : tie.Need-ended-requires
 ended-requires c κs = search needs
 
-returns-3 : tie.Need-returns-3
-returns-3 c = search (needs, not-started)
-
 returns-4 : tie.Need-returns-4
-returns-4 c = search (needs, is-started)
+returns-4 c = search (needs, not-started)
+
+returns-5 : tie.Need-returns-5
+returns-5 c = search (needs, is-started)
 
 pub measured-spec : {M : Type 1} → statement M
 measured-spec =
@@ -73,9 +79,11 @@ measured-spec =
     add-content
     greater-requires-2
     returns-2
+    flowed-requires
+    returns-3
     started-requires
     enum-known-error
     enum-known-begun
     ended-requires
-    returns-3
-    returns-4)
+    returns-4
+    returns-5)

@@ -10,7 +10,6 @@ flow-on-requires : tie.Need-flow-on-requires
 flow-on-requires c κs = search needs
 
 returns : tie.Need-returns
-unfolding advanced
 returns c = rw (c .before .if1 .taken, ← c .before .before .coded-picture .ensures) (c .flow-on .ensures)
 
 before-removal-requires : tie.Need-before-removal-requires

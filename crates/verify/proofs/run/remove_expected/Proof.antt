@@ -26,7 +26,7 @@ returns c = rw (model-bits-case (c .before .error .given .1) (c .before .before 
 
 returns-2 : tie.Need-returns-2
 unfolding removedFrom
-returns-2 c = rw (model-bits-case (c .before .before .before .before2 .given .1) (c .before .before .before .before .before .occupancy-before-removal-bits .ensures), removal-case refl (c .before .remove-picture .ensures)) (c .recorded .ensures)
+returns-2 c = rw (model-bits-case (c .before .before .before .before2 .given .1) (c .before .before .before .before .before .occupancy-before-removal-bits .ensures), removal-case {r = c .before .remove-picture .result} refl (c .before .remove-picture .ensures)) (c .recorded .ensures)
 
 pub remove-expected-spec : {M : Type 1} → statement M
 remove-expected-spec =
