@@ -1,7 +1,7 @@
 -- The walk's judgement is the verdict, and the last records on the way are the verdict's.
 -- Assumes nothing.
 use mathlib.Core.Path.{_≡_, refl, sym, ap, subst, _∙_}
-use mathlib.Core.Bool.{Bool, true, false, not, _&&_, true≢false}
+use mathlib.Core.Bool.{Bool, true, false, _&&_, true≢false}
 use Prim.Native.Nat.{ℕ, suc, _+_, _*_, _/_, _^_, _≤_, _<_, min, max}
 use mathlib.Core.List.{List, [], _∷_}
 use native.Mathlib.Omega.{arith}
@@ -54,6 +54,7 @@ use Rattle.verify.specs.Steps.{progressed, firstStarted, firstMade, firs
 use Rattle.pictures.specs.Order.{Placed}
 use Rattle.pictures.proofs.Order.{seen-rising}
 use Rattle.verify.proofs.Rising.{Rising, next, timed-rising, timed-first, timed-length}
+use Rattle.verify.proofs.Delays.{otherRate, pictures-are}
 use Rattle.verify.proofs.Removal.{removedAt}
 use Rattle.verify.proofs.Course.{Ready, Course, ended, ceased, went, halted, course}
 
@@ -78,6 +79,9 @@ data Flows : Bool → List CodedPicture → Type 0 where
 flows-others : {v : Bool} {c : CodedPicture} {cs : List CodedPicture} → Flows v (c ∷ cs) → Flows v cs
 flows-others constant = constant
 flows-others (more e f) = f
+
+flows-first : {c : CodedPicture} {cs : List CodedPicture} → Flows true (c ∷ cs) → eqb (c .«vbv_delay») 0xFFFF ≡ true
+flows-first (more e f) = e
 
 all-flow : (cs : List CodedPicture) → allVariable cs ≡ true → Flows true cs
 unfolding allVariable
@@ -215,64 +219,60 @@ record Begun (v : Bool) (p : VbvParams) (c : CodedPicture) : Type 0 where
   goes : advanced v p Fresh c ≡ progressed (p .«buffer_size_bits») 0 (removedAt v model c)
 
 -- 5, or 25
-abbrev otherRate : Bool → CodedPicture → List CodedPicture → Bool
-otherRate false c cs = eqb (c .«vbv_delay») 0xFFFF
-otherRate true c cs = not (allVariable (c ∷ cs))
-
 abbrev rateError : Bool → VbvVerifyError
 rateError false = VariableRate
 rateError true = ConstantRate
 
-flows : (v : Bool) (c : CodedPicture) (cs : List CodedPicture) → otherRate v c cs ≡ false → Flows v (c ∷ cs)
-flows true c cs o = all-flow (c ∷ cs) (not-false (allVariable (c ∷ cs)) o)
-flows false c cs o = constant
+module _ (p : VbvParams) (j : RemovalInterval) (pic : SeenPicture) (cs : List CodedPicture) where
+  abbrev c : CodedPicture
+  c = codedOf j pic
 
-first-flows : (c : CodedPicture) (cs : List CodedPicture) → otherRate true c cs ≡ false → eqb (c .«vbv_delay») 0xFFFF ≡ true
-first-flows c cs o = go (flows true c cs o)
-  where
-    go : Flows true (c ∷ cs) → eqb (c .«vbv_delay») 0xFFFF ≡ true
-    go (more h f) = h
+  -- which is not refused so
+  flows : (v : Bool) → otherRate v pic (c ∷ cs) ≡ false → Flows v (c ∷ cs)
+  flows true o = all-flow (c ∷ cs) (not-false (allVariable (c ∷ cs)) o)
+  flows false o = constant
 
-begins : (v : Bool) (p : VbvParams) (c : CodedPicture) (cs : List CodedPicture) → otherRate v c cs ≡ false → paramsFitAt v p ≡ true
-    → Placed 0 (c .«pos_bits») (c .«end_bits») (c .«vbv_delay») → Begun v p c
-unfolding advanced goneOnFrom firstRemoved firstMade firstStarted flowedFrom firstTaken firstFilled firstFull pick
-begins true p c cs o f q =
-    let m : VbvCbrModel = record { params = p; whole = 0; rest = 0; «prev_end_bits» = 0; removed = 0; started = false } in
-    let a = variable-made p m (variable-makes p f) in
-    let b = variable-started m _ (variable-starts m (a .fits) (a .unstarted)) in
-    record {
-      model = atDelivered m (full p 0);
-      ready = record { fits = b .fits; on = b .is-started; kept = b .params-kept; few = omega (arith, b .count-kept, b .end-kept) };
-      at-zero = b .end-kept;
-      none-removed = b .count-kept;
-      delivers = b .delivered-is;
-      goes = rw (first-flows c cs o, variable-makes-named p f, variable-starts-named m (a .fits) (a .unstarted));
-    }
-begins false p c cs o f q =
-    let m : VbvCbrModel = record { params = p; whole = 0; rest = 0; «prev_end_bits» = 0; removed = 0; started = false } in
-    let a = model-made p m (makes p f) in
-    let e = model-starts m (c .«vbv_delay») (c .«pos_bits») (a .fits) (a .unstarted) (omega (arith, q .ends, q .end-near)) in
-    let b = started m (c .«vbv_delay») (c .«pos_bits») _ e in
-    record {
-      model = atDelivered m (firstDelivered p (c .«pos_bits») (c .«vbv_delay»));
-      ready = record { fits = b .fits (q .delay-small); on = b .is-started; kept = b .params-kept; few = omega (arith, b .count-kept, b .end-kept) };
-      at-zero = b .end-kept;
-      none-removed = b .count-kept;
-      delivers = b .delivered-is;
-      goes = rw (o, makes-named p f, starts-named m (c .«vbv_delay») (c .«pos_bits») (a .fits) (a .unstarted) (omega (arith, q .ends, q .end-near)));
-    }
+  first-flows : otherRate true pic (c ∷ cs) ≡ false → eqb (pic .«vbv_delay») 0xFFFF ≡ true
+  first-flows o = flows-first (flows true o)
 
--- or there is none
-other-rate : (v : Bool) (p : VbvParams) (c : CodedPicture) (cs : List CodedPicture) → otherRate v c cs ≡ true → advancedAll v p Fresh (c ∷ cs) ≡ Unmodelled (rateError v)
-unfolding advancedAll advanced goneOnFrom firstRemoved pick
-other-rate true p c cs o = comes-25 p Fresh (c ∷ cs) (not-true (allVariable (c ∷ cs)) o)
-other-rate false p c cs o = rw o (stays-unmodelled p VariableRate cs constant)
+  begins : (v : Bool) → otherRate v pic (c ∷ cs) ≡ false → paramsFitAt v p ≡ true → Placed 0 (pic .«pos_bits») (pic .«end_bits») (pic .«vbv_delay») → Begun v p c
+  unfolding advanced goneOnFrom firstRemoved firstMade firstStarted flowedFrom firstTaken firstFilled firstFull pick
+  begins true o f q =
+      let m : VbvCbrModel = record { params = p; whole = 0; rest = 0; «prev_end_bits» = 0; removed = 0; started = false } in
+      let a = variable-made p m (variable-makes p f) in
+      let b = variable-started m _ (variable-starts m (a .fits) (a .unstarted)) in
+      record {
+        model = atDelivered m (full p 0);
+        ready = record { fits = b .fits; on = b .is-started; kept = b .params-kept; few = omega (arith, b .count-kept, b .end-kept) };
+        at-zero = b .end-kept;
+        none-removed = b .count-kept;
+        delivers = b .delivered-is;
+        goes = rw (first-flows o, variable-makes-named p f, variable-starts-named m (a .fits) (a .unstarted));
+      }
+  begins false o f q =
+      let m : VbvCbrModel = record { params = p; whole = 0; rest = 0; «prev_end_bits» = 0; removed = 0; started = false } in
+      let a = model-made p m (makes p f) in
+      let e = model-starts m (pic .«vbv_delay») (pic .«pos_bits») (a .fits) (a .unstarted) (omega (arith, q .ends, q .end-near)) in
+      let b = started m (pic .«vbv_delay») (pic .«pos_bits») _ e in
+      record {
+        model = atDelivered m (firstDelivered p (pic .«pos_bits») (pic .«vbv_delay»));
+        ready = record { fits = b .fits (q .delay-small); on = b .is-started; kept = b .params-kept; few = omega (arith, b .count-kept, b .end-kept) };
+        at-zero = b .end-kept;
+        none-removed = b .count-kept;
+        delivers = b .delivered-is;
+        goes = rw (o, makes-named p f, starts-named m (pic .«vbv_delay») (pic .«pos_bits») (a .fits) (a .unstarted) (omega (arith, q .ends, q .end-near)));
+      }
 
-unfit : (v : Bool) (p : VbvParams) (c : CodedPicture) (cs : List CodedPicture) → otherRate v c cs ≡ false → paramsFitAt v p ≡ false
-    → advancedAll v p Fresh (c ∷ cs) ≡ Unmodelled (Model ParamsError)
-unfolding advancedAll advanced goneOnFrom firstRemoved firstMade flowedFrom firstTaken firstFilled pick
-unfit true p c cs o f = rw (first-flows c cs o, variable-unmade-named p f) (stays-unmodelled p (Model ParamsError) cs (flows-others (flows true c cs o)))
-unfit false p c cs o f = rw (o, unmade-named p f) (stays-unmodelled p (Model ParamsError) cs constant)
+  -- or there is no model
+  other-rate : (v : Bool) → otherRate v pic (c ∷ cs) ≡ true → advancedAll v p Fresh (c ∷ cs) ≡ Unmodelled (rateError v)
+  unfolding advancedAll advanced goneOnFrom firstRemoved pick
+  other-rate true o = comes-25 p Fresh (c ∷ cs) (not-true (allVariable (c ∷ cs)) o)
+  other-rate false o = rw o (stays-unmodelled p VariableRate cs constant)
+
+  unfit : (v : Bool) → otherRate v pic (c ∷ cs) ≡ false → paramsFitAt v p ≡ false → advancedAll v p Fresh (c ∷ cs) ≡ Unmodelled (Model ParamsError)
+  unfolding advancedAll advanced goneOnFrom firstRemoved firstMade flowedFrom firstTaken firstFilled pick
+  unfit true o f = rw (first-flows o, variable-unmade-named p f) (stays-unmodelled p (Model ParamsError) cs (flows-others (flows true o)))
+  unfit false o f = rw (o, unmade-named p f) (stays-unmodelled p (Model ParamsError) cs constant)
 
 -- ---- a list of coded pictures
 
@@ -358,15 +358,14 @@ runs p places j pic cs b f (value (r ∷ rs)) w k false l =
 
 -- the verdict in each case
 module _ (p : VbvParams) (places : ℕ) (j : RemovalInterval) (pic : SeenPicture) (cs : List CodedPicture) where
-  verdict-other : (v : Bool) → otherRate v (codedOf j pic) cs ≡ true → withPictures v places p pic (codedOf j pic ∷ cs) ≡ refusal (rateError v)
-  unfolding withPictures pick
-  verdict-other true o = rw o
-  verdict-other false o = rw o
+  verdict-other : (v : Bool) → otherRate v pic (codedOf j pic ∷ cs) ≡ true → withPictures v places p pic (codedOf j pic ∷ cs) ≡ refusal (rateError v)
+  unfolding pick
+  verdict-other true o = pictures-are true places p pic (codedOf j pic ∷ cs) ∙ rw o
+  verdict-other false o = pictures-are false places p pic (codedOf j pic ∷ cs) ∙ rw o
 
-  verdict-modelled : (v : Bool) → otherRate v (codedOf j pic) cs ≡ false → withPictures v places p pic (codedOf j pic ∷ cs) ≡ modelled v places p pic (codedOf j pic ∷ cs)
-  unfolding withPictures pick
-  verdict-modelled true o = rw o
-  verdict-modelled false o = rw o
+  verdict-modelled : (v : Bool) → otherRate v pic (codedOf j pic ∷ cs) ≡ false → withPictures v places p pic (codedOf j pic ∷ cs) ≡ modelled v places p pic (codedOf j pic ∷ cs)
+  unfolding pick
+  verdict-modelled v o = pictures-are v places p pic (codedOf j pic ∷ cs) ∙ rw o
 
   modelled-unfit : (v : Bool) → paramsFitAt v p ≡ false → modelled v places p pic (codedOf j pic ∷ cs) ≡ refused 12 0 0 0
   unfolding modelled pick
@@ -379,20 +378,20 @@ module _ (p : VbvParams) (places : ℕ) (j : RemovalInterval) (pic : SeenPicture
   modelled-run v f = rw f
 
 pub judges : (v : Bool) (p : VbvParams) (places : ℕ) (j : RemovalInterval) (pic : SeenPicture) (cs : List CodedPicture) → Rising 0 (codedOf j pic ∷ cs) → Judged v p places j pic cs
-judges v p places j pic cs (next q t) = by-rate (otherRate v (codedOf j pic) cs) refl
+judges v p places j pic cs (next q t) = by-rate (otherRate v pic (codedOf j pic ∷ cs)) refl
   where
-    by-params : otherRate v (codedOf j pic) cs ≡ false → (b : Bool) → paramsFitAt v p ≡ b → Judged v p places j pic cs
+    by-params : otherRate v pic (codedOf j pic ∷ cs) ≡ false → (b : Bool) → paramsFitAt v p ≡ b → Judged v p places j pic cs
     by-params o false f =
-        refusing (Model ParamsError) (unmodelled p places _ (unfit v p (codedOf j pic) cs o f)) (verdict-modelled p places j pic cs v o ∙ modelled-unfit p places j pic cs v f)
+        refusing (Model ParamsError) (unmodelled p places _ (unfit p j pic cs v o f)) (verdict-modelled p places j pic cs v o ∙ modelled-unfit p places j pic cs v f)
     by-params o true f =
-        let b = begins v p (codedOf j pic) cs o f q in
-        runs p places j pic cs b (flows v (codedOf j pic) cs o) _ (verdict-modelled p places j pic cs v o ∙ modelled-run p places j pic cs v f)
+        let b = begins p j pic cs v o f q in
+        runs p places j pic cs b (flows p j pic cs v o) _ (verdict-modelled p places j pic cs v o ∙ modelled-run p places j pic cs v f)
         (first-course b (next q t))
         (ltb places (length (codedOf j pic ∷ cs)))
         refl
 
-    by-rate : (b : Bool) → otherRate v (codedOf j pic) cs ≡ b → Judged v p places j pic cs
-    by-rate true o = refusing (rateError v) (unmodelled p places _ (other-rate v p (codedOf j pic) cs o)) (verdict-other p places j pic cs v o)
+    by-rate : (b : Bool) → otherRate v pic (codedOf j pic ∷ cs) ≡ b → Judged v p places j pic cs
+    by-rate true o = refusing (rateError v) (unmodelled p places _ (other-rate p j pic cs v o)) (verdict-other p places j pic cs v o)
     by-rate false o = by-params o (paramsFitAt v p) refl
 
 -- ---- a stream
