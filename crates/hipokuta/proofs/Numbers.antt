@@ -11,7 +11,7 @@ use Rattle.bits.proofs.Numbering.{and-then, wider}
 use Rattle.vbv.proofs.Numbering.{model-numbers}
 use Rattle.verify.specs.Check.{Accepted}
 use Rattle.layout.specs.Mode.{modeFor}
-use Rattle.verify.proofs.Numbering.{check-numbers, enough-numbers}
+use Rattle.verify.proofs.Numbering.{all-numbers, enough-numbers}
 use Rattle.rate_control.specs.declared.CbrConfig.{CbrConfig}
 use Rattle.rate_control.proofs.Refusing.{writer-numbers}
 use Rattle.layout.specs.Config.{configIn}
@@ -27,7 +27,7 @@ unfolding checked
 vbv-check-numbered s mode report recs refusal =
     pick-elim Checks _ (λ e. by-number refl) λ e.
     pick-elim Checks _ (λ e. by-number refl) λ e.
-    wider refl refl refl (check-numbers (modeFor mode) s _)
+    wider refl refl refl (all-numbers (modeFor mode) s _)
 
 abbrev Reports : {X : Type 0} → Answer X → Type 0
 Reports a = Numbered (19 ∷ 12 ∷ 14 ∷ 3 ∷ 1 ∷ 2 ∷ 6 ∷ 4 ∷ 5 ∷ 25 ∷ 7 ∷ 8 ∷ []) [] (11 ∷ 9 ∷ 10 ∷ []) a

@@ -89,10 +89,13 @@ mpeg2-number true false = (is-six, for-six)
 mpeg2-number false true = (is-ten, for-ten)
 mpeg2-number false false = (is-two, for-two)
 
-numbered-back : (m : VbvMode) (st : VbvStandard) → m .standard ≡ st → (st ≡ Mpeg1 → (m .film ≡ false) × (m .variable ≡ false))
-    → (isMode (modeNumber m) ≡ true) × (modeFor (modeNumber m) ≡ m)
-numbered-back m Mpeg1 e h = let a = h refl .0 in let b = h refl .1 in let z : m ≡ plain Mpeg1 = cc in rw z (is-one, for-one)
-numbered-back m Mpeg2 e h = let z : m ≡ mpeg2 (m .film) (m .variable) = cc in rw z (mpeg2-number (m .film) (m .variable))
+numbered-back : (st : VbvStandard) (b v : Bool) → (st ≡ Mpeg1 → (b ≡ false) × (v ≡ false))
+    → (isMode (modeNumber (record { standard = st; film = b; variable = v })) ≡ true)
+    × (modeFor (modeNumber (record { standard = st; film = b; variable = v })) ≡ record { standard = st; film = b; variable = v })
+numbered-back Mpeg1 true v h = absurd (true≢false (h refl .0))
+numbered-back Mpeg1 false true h = absurd (true≢false (h refl .1))
+numbered-back Mpeg1 false false h = (is-one, for-one)
+numbered-back Mpeg2 b v h = mpeg2-number b v
 
 mode-of : {n : ℕ} → Numbered n → (modeFits (modeFor n) ≡ true) × (modeNumber (modeFor n) ≡ n)
 mode-of one = rw for-one (plain-fits Mpeg1, refl)
@@ -135,6 +138,6 @@ mode-back n h = let b = both-true (isMode n) (not (eqb n 1)) h in go (one-of n (
 
 pub modes-numbered : ModesNumbered
 modes-numbered = record {
-  has-number = λ m h. numbered-back m (m .standard) refl (mode-exists m h);
+  has-number = λ m h. numbered-back (m .standard) (m .film) (m .variable) (mode-exists m h);
   is-a-mode = λ n h. mode-of (one-of n h);
 }

@@ -126,5 +126,5 @@ module _ (c : CbrConfig) where
       go : {a : Answer CbrWriter} → CreationDue (narrowed c) a → a ≡ create c
       go (bad-range n) = creation-only c _ (bad-range (λ r. n (narrow-ranges r)))
       go (bad-code r n) = creation-only c _ (bad-code (widened r) (no-code n))
-      go (bad-ratio r l h e z) = creation-only (narrowed c) _ (bad-ratio r l h e z) ∙ ap create (all-kept r l h)
+      go (bad-ratio v r l h e z) = creation-only (narrowed c) _ (bad-ratio v r l h e z) ∙ ap create (all-kept r l h)
       go (created r l h e z) = creation-only (narrowed c) _ (created r l h e z) ∙ ap create (all-kept r l h)

@@ -22,6 +22,7 @@ use Rattle.rate_control.proofs.Fitting.{all-fit-at, quantiser-is, writer-fits}
 use Rattle.rate_control.proofs.States.{pending-some}
 use Rattle.cadence.specs.declared.VbvCadence.{VbvCadence}
 use Rattle.words.specs.Words.{wordAt}
+use Rattle.verify.specs.declared.VbvMode.{VbvMode}
 use Rattle.layout.specs.Mode.{modeFor}
 use Rattle.layout.specs.State.{stateSize, cadenceCodesFit, codesFit, pendingOf, cadenceIn, writerAt, stateFits, stateAt}
 use Rattle.layout.specs.Steps.{Narrow, narrow}
@@ -87,15 +88,15 @@ module _ (s : List ℕ) where
   unfolding narrow
   is-narrow h n = simp (h, le-leb _ _ (n .i), le-leb _ _ (n .p), le-leb _ _ (n .b), le-leb _ _ (n .waits))
 
-  pub writer-told : (m : VbvCbrModel) (a b c i p q code waits n f : ℕ) (x : Pending) (k : VbvCadence) (v : Bool) → m ≡ writerAt s .model
+  pub writer-told : (m : VbvCbrModel) (a b c i p q code waits n f : ℕ) (x : Pending) (k : VbvCadence) (o : VbvMode) (y : ℕ) → m ≡ writerAt s .model
       → a ≡ wordAt s 9 → b ≡ wordAt s 10 → c ≡ wordAt s 11 → i ≡ wordAt s 12 → p ≡ wordAt s 13 → q ≡ wordAt s 14
-      → code ≡ wordAt s 15 → waits ≡ wordAt s 16 → x ≡ pendingOf code waits → n ≡ wordAt s 17 → f ≡ wordAt s 18 → k ≡ cadenceIn s → v ≡ modeFor (wordAt s 19) .variable
+      → code ≡ wordAt s 15 → waits ≡ wordAt s 16 → x ≡ pendingOf code waits → n ≡ wordAt s 17 → f ≡ wordAt s 18 → k ≡ cadenceIn s → o ≡ modeFor y → y ≡ wordAt s 19
       → _≡_ {A = CbrWriter}
-      (record { model = m; «target_bits» = a ∷ b ∷ c ∷ []; q = i ∷ p ∷ q ∷ []; pending = x; «stuffing_bytes» = n; finished = eqb f 1; cadence = k; variable = v })
+      (record { model = m; «target_bits» = a ∷ b ∷ c ∷ []; q = i ∷ p ∷ q ∷ []; pending = x; «stuffing_bytes» = n; finished = eqb f 1; cadence = k; variable = o .variable })
       (writerAt s)
   unfolding writerAt
-  writer-told m a b c i p q code waits n f x k v m′ a′ b′ c′ i′ p′ q′ code′ waits′ x′ n′ f′ k′ v′ =
-      rw (m′, a′, b′, c′, i′, p′, q′, x′, code′, waits′, n′, f′, k′, v′)
+  writer-told m a b c i p q code waits n f x k o y m′ a′ b′ c′ i′ p′ q′ code′ waits′ x′ n′ f′ k′ o′ y′ =
+      rw (m′, a′, b′, c′, i′, p′, q′, x′, code′, waits′, n′, f′, k′, o′, y′)
 
   -- so has a writer in its ranges
   fits-narrow : codesFit s ≡ true → writerFits (writerAt s) ≡ true → Narrow s

@@ -70,7 +70,23 @@ same-length : tie.Need-same-length
 same-length c = search needs
 
 returns : tie.Need-returns
-returns c = search (needs, state-told)
+returns c =
+    state-told _ _ _ _ _ _
+    (search needs)
+    (search needs)
+    (c .before .before .before .before .before .before .before .before .before .before .before .before .before .before .flag .ensures)
+    (c .before .before .before .before .before .before .before .before .before .before .before .before .before .pending-code .ensures)
+    (c .before .before .before .before .before .before .before .before .before .before .before .before .pending-quantiser .ensures)
+    (c .before .before .before .before .before .before .before .before .before .before .before .flag2 .ensures)
+    _ _ _ _ _ _
+    (c .before .before .before .before .before .before .before .before .before .before .mode-word .ensures)
+    (c .before .before .before .before .before .before .before .before .before .flag3 .ensures)
+    (c .before .before .before .before .before .before .before .before .flag4 .ensures)
+    (c .before .before .before .before .before .before .before .flag5 .ensures)
+    (c .before .before .before .before .before .before .flag6 .ensures)
+    (c .before .before .before .before .before .open-code .ensures)
+    _
+    (c .before .before .put-words .ensures)
 
 pub put-state-spec : {M : Type 1} → statement M
 put-state-spec =
