@@ -57,7 +57,7 @@ module _ (p : VbvParams) (t : List ℕ) where
 
 -- ---- at a variable rate
 
--- an answer has no number that is in no list, nor is it accepted
+-- an answer carries no number but 0 and those of its list
 unnumbered : {X : Type 0} {ns : List ℕ} {a : Answer X} (k : ℕ) → oneOf (0 ∷ ns) k ≡ false → Numbered ns [] [] a → number a ≡ k → ⊥
 unnumbered k z a-value e = eqb-false k 0 (or-left _ _ z) (sym e)
 unnumbered {ns = ns} k z (by-number i) e = true≢false (sym i ∙ ap (oneOf ns) e ∙ or-right (eqb k 0) _ z)

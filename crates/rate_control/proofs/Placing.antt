@@ -75,7 +75,7 @@ module _ (w : CbrWriter) (o : Offer) where
   unfolding stuffing pick
   stuffing-other v e = rw (v, e)
 
-  -- at a variable rate an end is its content's
+  -- at a variable rate the picture ends with its content
   pub end-variable : w .variable ≡ true → end w o ≡ content w o
   unfolding end
   end-variable e = omega (arith, stuffing-variable e)
@@ -115,7 +115,7 @@ module _ (w : CbrWriter) (o : Offer) where
     unfolding end deliveredNext
     next-room = units-over p _ _ (stuffing-least (stuffing w o) .0 (omega arith))
 
--- ---- at a variable rate no removal overflows, and what was asked of the content is not asked of the end
+-- ---- 9 and 22 arise at a constant rate alone
 
 pub never-overflows : (w : CbrWriter) (o : Offer) → writerFits w ≡ true → w .variable ≡ true
     → overflows (w .model .params) (w .model .«prev_end_bits») (deliveredAt w o) ≡ false

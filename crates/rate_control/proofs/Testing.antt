@@ -2,7 +2,7 @@
 -- Assumes nothing.
 use mathlib.Core.Path.{_≡_, refl, sym, ap, _∙_}
 use mathlib.Core.Bool.{Bool, true, false, not, _||_, _&&_}
-use Prim.Native.Nat.{ℕ, _+_, _-_, _*_, _≤_, _<_, max, _/_}
+use Prim.Native.Nat.{ℕ, _+_, _*_, _≤_, _<_, max, _/_}
 use native.Mathlib.Omega.{arith}
 use lib.Dec.{ltb}
 use lib.ListN.{length}
@@ -201,6 +201,10 @@ module _ (w : CbrWriter) (o : Offer) where
       let g = writer-fits f in
       record { end-far = h; end-low = omega (arith, b .same-end); count = omega (arith, b .same-count, g .few, end-far w g) }
 
+  next-at : {v : Bool} → w .variable ≡ v → deliveredNext w o ≡ arrived v (w .model .params) (end w o) (deliveredAt w o) (periods (intervalAt w o))
+  unfolding deliveredNext
+  next-at c = ap (λ (v : Bool). arrived v (w .model .params) (end w o) (deliveredAt w o) (periods (intervalAt w o))) c
+
   sizes : extent w o .bytes + stuffing w o ≡ length (placedBytes w o)
   sizes = omega (arith, placed-size w o)
 
@@ -229,8 +233,8 @@ module _ (w : CbrWriter) (o : Offer) (f : writerFits w ≡ true) (c : w .variabl
   brought = next-delivered-is n (intervalAt w o) ∙ rw (b .delivered-is, b .same-params)
 
   next-same : nextDelivered n (intervalAt w o) ≡ deliveredNext w o
-  unfolding broughtNext deliveredNext
-  next-same = brought ∙ ap (λ (v : Bool). arrived v p (end w o) (deliveredAt w o) (periods (intervalAt w o))) (sym c)
+  unfolding broughtNext
+  next-same = brought ∙ sym (next-at w o c)
 
   pub least-told : bitsOf (minEndBits n (intervalAt w o)) ≡ bt.Bits (leastEnd p (broughtNext w o))
   least-told = min-named n (b .fits) (b .is-started) (intervalAt w o) ∙ rw (brought, b .same-params)
@@ -295,7 +299,7 @@ module _ (w : CbrWriter) (o : Offer) (f : writerFits w ≡ true) (c : w .variabl
 
 -- ---- at a variable rate
 
-module _ (x : Extent) (i : RemovalInterval) where
+module _ (x : Extent) where
   flow-under : (k c e : ℕ) → flowedBy x (rm.Violation (Underflow k c e)) ≡ TooLarge
   unfolding flowedBy violated
   flow-under k c e = refl
@@ -304,27 +308,18 @@ module _ (x : Extent) (i : RemovalInterval) where
   unfolding flowedBy
   flow-model next = refl
 
-  fill-case : (m : VbvCbrModel) → byFilled x i (md.Model m) ≡ flowedBy x (removalOf (removeVariable m (x .content) i))
+  fill-case : (i : RemovalInterval) (m : VbvCbrModel) → byFilled x i (md.Model m) ≡ flowedBy x (removalOf (removeVariable m (x .content) i))
   unfolding byFilled
-  fill-case m = refl
+  fill-case i m = refl
 
 module _ (w : CbrWriter) (o : Offer) (f : writerFits w ≡ true) (c : w .variable ≡ true) (n : VbvCbrModel) (b : StartedFor true w o n) where
-  abbrev p′ : VbvParams
-  p′ = w .model .params
-
-  flowed-next : deliveredNext w o ≡ arrived true p′ (content w o) (deliveredAt w o) (periods (intervalAt w o))
-  unfolding deliveredNext
-  flowed-next =
-      rw (end-variable w o c)
-      (ap (λ (v : Bool). arrived v p′ (content w o) (deliveredAt w o) (periods (intervalAt w o))) c)
-
   flowed-removal : content w o ≤ farthest
       → removalOf (removeVariable n (content w o) (intervalAt w o))
-      ≡ pick (beyond p′ (content w o) (deliveredAt w o)) (rm.Violation (Underflow (w .model .removed) 0 0))
+      ≡ pick (beyond (w .model .params) (content w o) (deliveredAt w o)) (rm.Violation (Underflow (w .model .removed) 0 0))
       (rm.Model (afterRemoval (w .model) (end w o) (deliveredNext w o)))
   flowed-removal h =
       variable-removal-named n (b .fits) (b .is-started) (content w o) (intervalAt w o) (ends w o f b (content w o) (inside w o) h)
-      ∙ rw (flowed-next, end-variable w o c, b .delivered-is, after-same (w .model) n (content w o) _ (b .same-params) (b .same-count), b .same-params, b .same-count)
+      ∙ rw (next-at w o c, end-variable w o c, b .delivered-is, after-same (w .model) n (content w o) _ (b .same-params) (b .same-count), b .same-params, b .same-count)
 
   flowed-ready : Ready (record { model = afterRemoval (w .model) (end w o) (deliveredNext w o); «vbv_delay» = 0xFFFF; bytes = extent w o .bytes; «stuffing_bytes» = 0 })
       ≡ Ready (placement w o)
@@ -341,8 +336,8 @@ module _ (w : CbrWriter) (o : Offer) (f : writerFits w ≡ true) (c : w .variabl
       (no _ _ _ (never-overflows w o f c)
       (fill-case (extent w o) (intervalAt w o) n
       ∙ ap (flowedBy (extent w o)) (flowed-removal far)
-      ∙ pick-alike (λ (r : VbvRemoval) (j : Tested). flowedBy (extent w o) r ≡ j) _ (flow-under (extent w o) (intervalAt w o) _ _ _)
-      (λ size. flow-model (extent w o) (intervalAt w o) _ ∙ flowed-ready ∙ no _ _ _ (rw (end-variable w o c) size) refl))))
+      ∙ pick-alike (λ (r : VbvRemoval) (j : Tested). flowedBy (extent w o) r ≡ j) _ (flow-under (extent w o) _ _ _)
+      (λ size. flow-model (extent w o) _ ∙ flowed-ready ∙ no _ _ _ (rw (end-variable w o c) size) refl))))
 
 -- ---- 14
 
@@ -364,7 +359,7 @@ module _ (w : CbrWriter) (o : Offer) where
 
     stuffing-is : w .variable ≡ false → stuffingUpTo (leastEnd (w .model .params) (broughtNext w o)) (content w o) (o .last) ≡ stuffing w o
     unfolding stuffingUpTo stuffing
-    stuffing-is c = ap (λ (v : Bool). pick (v || o .last) 0 ((leastEnd (w .model .params) (broughtNext w o) - content w o + 7) / 8)) (sym c)
+    stuffing-is c = rw c
 
     start-told : w .variable ≡ false → position w o ≤ farthest
         → byStart (extent w o) (intervalAt w o) (o .last) (startedAt (w .model) (position w o)) ≡ measuredFor w o
