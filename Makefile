@@ -33,6 +33,7 @@ writing = tests/c/channel.c tests/c/rules.c tests/c/places.c tools/cadence.c c/r
 sender = tests/c/sender.c $(writing)
 configs = tests/c/configs.c $(writing)
 film = tests/c/film.c $(writing)
+variable = tests/c/variable.c $(writing)
 texts = tests/c/texts.c c/refusal_text.c
 structs = tests/c/structs.c
 stamp = tests/c/stamp.c
@@ -43,7 +44,7 @@ fuzz-vbvreport = tests/c/fuzz.c $(vbvreport)
 fuzz-cbrsend = tests/c/fuzz.c $(cbrsend)
 
 TOOLS = tools/vbvreport tools/cbrsend
-PROGRAMS = entries sender configs film texts structs stamp drawings readme_check readme_send
+PROGRAMS = entries sender configs film variable texts structs stamp drawings readme_check readme_send
 TESTS = $(addprefix target/tests/,$(PROGRAMS) vbvreport)
 SANITIZED_TOOLS = $(addprefix target/sanitized/,$(notdir $(TOOLS)) fuzz-vbvreport fuzz-cbrsend)
 SANITIZED = $(SANITIZED_TOOLS) $(addprefix target/sanitized/,$(PROGRAMS))

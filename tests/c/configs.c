@@ -102,6 +102,17 @@ static const struct creation creations[] = {
     { "film at 24000 / 1001 x 2 / 5", { 6, 2500, 20, 1, 1, 4, 10, 2, 4 }, 0, 48000, 5005, { 308070, 123228, 69315 } },
     { "film, code 9", { 6, 2500, 20, 9, 3, 31, 10, 2, 4 }, 6, 0, 0, { 0 } },
     { "film, a buffer that lasts too long", { 6, 56, 1, 3, 0, 0, 1, 0, 1 }, 12, 0, 0, { 0 } },
+    { "variable", { 10, 2500, 20, 3, 0, 0, 10, 2, 4 }, 0, 25, 1, { 118181, 47272, 26590 } },
+    { "variable film", { 14, 2500, 20, 3, 0, 0, 10, 2, 4 }, 0, 25, 1, { 118181, 47272, 26590 } },
+    { "variable, code 9", { 10, 2500, 20, 9, 3, 31, 10, 2, 4 }, 6, 0, 0, { 0 } },
+    { "variable, however long the buffer lasts", { 10, 56, 1, 3, 0, 0, 29, 2, 4 }, 0, 25, 1, { 2647, 1058, 595 } },
+    { "variable film, the same", { 14, 56, 1, 3, 0, 0, 29, 2, 4 }, 0, 25, 1, { 2647, 1058, 595 } },
+    { "not variable, the same", { 2, 56, 1, 3, 0, 0, 29, 2, 4 }, 12, 0, 0, { 0 } },
+    { "film, the same", { 6, 56, 1, 3, 0, 0, 29, 2, 4 }, 12, 0, 0, { 0 } },
+    { "variable, the longest buffer", { 10, 1, 1023, 3, 0, 0, 29, 2, 4 }, 0, 25, 1, { 47, 18, 10 } },
+    { "MPEG-1 and variable", { 9, 2500, 20, 3, 0, 0, 10, 2, 4 }, 12, 0, 0, { 0 } },
+    { "MPEG-1, film and variable", { 13, 2500, 20, 3, 0, 0, 10, 2, 4 }, 12, 0, 0, { 0 } },
+    { "variable alone", { 8, 2500, 20, 3, 0, 0, 10, 2, 4 }, 12, 0, 0, { 0 } },
     { "2^32 + 2500, which is not cut to 2500", { 2, 4294969796, 20, 3, 0, 0, 10, 2, 4 }, 12, 0, 0, { 0 } },
     { "anchors 256", { 2, 2500, 20, 3, 0, 0, 10, 2, 256 }, 12, 0, 0, { 0 } },
     { "all zeros", { 0 }, 12, 0, 0, { 0 } },
@@ -135,8 +146,13 @@ static void check_creation(const struct creation *k)
         check_figures(k);
 }
 
-/* The least and the greatest of each word; of the modes between these there is none. */
-static const uint64_t ranges[CONFIG_WORDS][2] = { { 2, 6 }, { 1, 262143 }, { 1, 1023 }, { 1, 8 }, { 0, 3 }, { 0, 31 },
+static int is_mode(uint64_t value)
+{
+    return value == 2 || value == 6 || value == 10 || value == 14;
+}
+
+/* The least and the greatest of each word; of the modes between these there are two. */
+static const uint64_t ranges[CONFIG_WORDS][2] = { { 2, 14 }, { 1, 262143 }, { 1, 1023 }, { 1, 8 }, { 0, 3 }, { 0, 31 },
                                                   { 1, 31 }, { 0, 15 }, { 1, 255 } };
 
 /* A word's value. With a code that is none it is 12 out of its range and 6 in it: so the range comes before the code, and the
@@ -144,7 +160,7 @@ static const uint64_t ranges[CONFIG_WORDS][2] = { { 2, 6 }, { 1, 262143 }, { 1, 
 static void check_value(size_t word, uint64_t value)
 {
     uint64_t words[CONFIG_WORDS];
-    int fits = word == WANTED_MODE ? value == 2 || value == 6 : ranges[word][0] <= value && value <= ranges[word][1];
+    int fits = word == WANTED_MODE ? is_mode(value) : ranges[word][0] <= value && value <= ranges[word][1];
     copy(words, usual);
     words[word] = value;
     if (!fits)
@@ -176,7 +192,7 @@ static void check_ranges(void)
 static void check_modes(void)
 {
     for (uint64_t mode = 0; mode < 300; mode++)
-        made_with("a mode", WANTED_MODE, mode, mode == 2 || mode == 6 ? 0 : 12);
+        made_with("a mode", WANTED_MODE, mode, is_mode(mode) ? 0 : 12);
 }
 
 static void check_rates(void)

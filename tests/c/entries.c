@@ -273,6 +273,19 @@ static void check_refusal(const struct known *k)
         check_refused(k, 15, VBV_REPORT_BYTES, 0, VBV_REFUSAL_BYTES);
 }
 
+/* At a variable rate a delay that is not 0xFFFF is 25, whatever the buffer does, but after what comes up to 4. */
+static void check_variable(const struct known *k)
+{
+    for (uint8_t mode = 10; mode <= 14; mode += 4) {
+        struct known other = *k;
+        other.mode = mode;
+        if (k->mode == 2 && k->refusal[0] != 5 && (k->refusal[0] < 1 || k->refusal[0] > 4) && k->refusal[0] != 6)
+            check_refused(&other, 25, VBV_REPORT_BYTES, 0, VBV_REFUSAL_BYTES);
+        else if (k->mode == 2 && k->refusal[0] != 5)
+            check_refusal(&other);
+    }
+}
+
 /* Film mode says the same of a stream without repeated fields. */
 static void check_film(const struct known *k)
 {
@@ -295,7 +308,7 @@ static void check_places(const struct known *k)
     for (int mode = 0; mode < 256; mode++) {
         struct known other = *k;
         other.mode = (uint8_t)mode;
-        if (mode != 1 && mode != 2 && mode != 6) {
+        if (mode != 1 && mode != 2 && mode != 6 && mode != 10 && mode != 14) {
             check_refused(&other, 12, VBV_REPORT_BYTES, RECORDS, VBV_REFUSAL_BYTES);
             check_refused(&other, 19, VBV_REPORT_BYTES - 1, RECORDS, VBV_REFUSAL_BYTES);
         }
@@ -370,10 +383,11 @@ static void check_delays(void)
 
 int main(void)
 {
-    static const uint8_t needed[] = { 0, 1, 2, 3, 4, 5, 6, 7, 8, 9, 10, 11, 12, 15, 19, 20 };
+    static const uint8_t needed[] = { 0, 1, 2, 3, 4, 5, 6, 7, 8, 9, 10, 11, 12, 15, 19, 20, 25 };
     for (size_t i = 0; i < COUNT(accepted); i++) {
         check_accepted(accepted + i);
         check_film(accepted + i);
+        check_variable(accepted + i);
     }
     for (size_t i = 0; i < COUNT(film); i++)
         check_accepted(film + i);
@@ -381,6 +395,7 @@ int main(void)
     for (size_t i = 0; i < COUNT(refused); i++) {
         check_refusal(refused + i);
         check_film(refused + i);
+        check_variable(refused + i);
     }
     check_places(accepted);
     check_places(film);

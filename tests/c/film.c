@@ -253,15 +253,15 @@ static void check_ranges(struct channel *c)
         for (int i = 0; i < 6; i++) {
             words[i] = rest % counts[i];
             rest /= counts[i];
-            above += i > 0 && words[i] > (words[0] == 6 ? counts[i] - 2 : 0);
+            above += i > 0 && words[i] > (words[0] == 6 || words[0] == 14 ? counts[i] - 2 : 0);
         }
-        check_words(c, words, (words[0] == 2 || words[0] == 6) && above == 0);
+        check_words(c, words, (words[0] == 2 || words[0] == 6 || words[0] == 10 || words[0] == 14) && above == 0);
     }
     for (int i = 0; i < 6; i++)
         for (int bit = 3; bit < 64; bit++) {
             uint64_t words[6] = { 6, 1, 0, 1, 0, 2 };
             words[i] += (uint64_t)1 << bit;
-            check_words(c, words, 0);
+            check_words(c, words, i == 0 && bit == 3); /* 14 */
         }
 }
 

@@ -14,18 +14,42 @@ static int within(uint64_t low, uint64_t high, uint64_t value)
     return low <= value && value <= high;
 }
 
+int is_film(uint64_t mode)
+{
+    return mode == 6 || mode == 14;
+}
+
+int is_variable(uint64_t mode)
+{
+    return mode == 10 || mode == 14;
+}
+
+static int is_mode(uint64_t mode)
+{
+    return mode == 2 || is_film(mode) || is_variable(mode);
+}
+
+/* Of a constant rate the buffer's time; of a variable one what is delivered, once a picture is placed: no more than fills the
+ * buffer. */
+static int rate_fits(const uint64_t *s)
+{
+    wide unit = (wide)180000 * s[FRN], full = ((wide)s[END] + s[BUFFER]) * unit;
+    return is_variable(s[MODE]) ? !s[STARTED] || s[WHOLE] * unit + s[REST] <= full
+                                : (wide)90000 * s[BUFFER] <= (wide)65534 * s[RATE];
+}
+
 static int model_fits(const uint64_t *s)
 {
     return within(1, 429496729200, s[RATE]) && within(1, 4294950912, s[BUFFER]) && within(1, 240000, s[FRN])
-        && within(1, 32032, s[FRD]) && (wide)90000 * s[BUFFER] <= (wide)65534 * s[RATE] && s[WHOLE] <= (uint64_t)1 << 57
-        && s[REST] < 180000 * s[FRN] && s[END] <= FAR && s[REMOVED] <= FAR && s[STARTED] <= 1;
+        && within(1, 32032, s[FRD]) && s[WHOLE] <= (uint64_t)1 << 57 && s[REST] < 180000 * s[FRN] && s[END] <= FAR
+        && s[REMOVED] <= FAR && s[STARTED] <= 1 && rate_fits(s);
 }
 
-/* The words of film are 0 in the other mode. */
+/* The words of film are 0 in the other modes. */
 static int cadence_fits(const uint64_t *s)
 {
-    uint64_t most = s[MODE] == 6 ? 1 : 0;
-    return (s[MODE] == 2 || s[MODE] == 6) && s[PROGRESSIVE] <= most && s[LOW_DELAY] <= most && s[ANCHOR_REPEATS] <= most
+    uint64_t most = is_film(s[MODE]) ? 1 : 0;
+    return is_mode(s[MODE]) && s[PROGRESSIVE] <= most && s[LOW_DELAY] <= most && s[ANCHOR_REPEATS] <= most
         && s[ANCHOR_TOP] <= most && s[OPEN_FIELD] <= 2 * most;
 }
 
@@ -47,7 +71,7 @@ static int config_fits(const uint64_t *c)
 uint64_t rules_create(const uint64_t *c, uint64_t *s)
 {
     static const uint64_t weights[3] = { 40, 16, 9 };
-    if ((c[WANTED_MODE] != 2 && c[WANTED_MODE] != 6) || !config_fits(c))
+    if (!is_mode(c[WANTED_MODE]) || !config_fits(c))
         return 12;
     if (!within(1, 8, c[WANTED_CODE]))
         return 6;
@@ -62,13 +86,23 @@ uint64_t rules_create(const uint64_t *c, uint64_t *s)
         s[TARGETS + kind] = s[RATE] * s[FRD] / s[FRN] * (1 + p + b) * weights[kind] / (40 + 16 * p + 9 * b);
         s[QUANTISERS + kind] = c[WANTED_QUANTISER];
     }
-    return 90000 * s[BUFFER] > 65534 * s[RATE] ? 12 : 0;
+    return !is_variable(s[MODE]) && 90000 * s[BUFFER] > 65534 * s[RATE] ? 12 : 0;
 }
 
 /* Bits from the stream's first; those delivered in units of 1 / (180,000 x frn) bit. */
 struct places {
     wide unit, position, content, end, delivered, next;
 };
+
+/* Of a variable rate: a full buffer at first, never more than one, and no stuffing. */
+static void vary(struct places *p, const uint64_t *s)
+{
+    wide gain = p->next - p->delivered, full = (p->content + s[BUFFER]) * p->unit;
+    if (!s[STARTED])
+        p->delivered = s[BUFFER] * p->unit;
+    p->next = p->delivered + gain < full ? p->delivered + gain : full;
+    p->end = p->content;
+}
 
 static struct places places_of(const uint64_t *s, const struct offer *o, uint64_t periods)
 {
@@ -81,13 +115,15 @@ static struct places places_of(const uint64_t *s, const struct offer *o, uint64_
     p.next = p.delivered + (wide)s[RATE] * s[FRD] * 90000 * periods;
     wide arrived = (p.next + p.unit - 1) / p.unit, held = p.content + s[BUFFER];
     p.end = p.content + (!o->last && arrived > held ? (arrived - held + 7) / 8 * 8 : 0);
+    if (is_variable(s[MODE]))
+        vary(&p, s);
     return p;
 }
 
 /* Until a picture is placed, what the offer's own headers open. */
 static struct cadence cadence_at(const uint64_t *s, const struct offer *o)
 {
-    if (s[MODE] != 6)
+    if (!is_film(s[MODE]))
         return (struct cadence){ .film = 0 };
     if (!s[STARTED])
         return (struct cadence){ .film = 1, .progressive = o->progressive, .low_delay = o->low_delay };
@@ -117,8 +153,9 @@ static uint64_t refused_before(const uint64_t *s, const struct offer *o, const s
     return o->kind > 2 || !within(1, 2, o->interval) || o->last > 1                ? 12
         : s[FINISHED] || (s[PENDING] != 0 && s[PENDING] != (uint64_t)o->kind + 1) ? 17
         : !headers_fit(s, o)                                                      ? 18
-        : !o->layer_fits || (o->repeats && s[MODE] != 6)                          ? 20
+        : !o->layer_fits || (o->repeats && !is_film(s[MODE]))                     ? 20
         : p->position > FAR || p->end > FAR                                       ? 14
+        : is_variable(s[MODE])                                                    ? 0
         : p->position * p->unit > p->delivered                                    ? 7
         : p->delivered > ((wide)s[END] + s[BUFFER]) * p->unit                     ? 9
                                                                                   : 0;
@@ -141,7 +178,7 @@ static void place(struct told *t, const struct offer *o, const struct places *p,
     uint64_t *s = t->state;
     wide tick = (wide)2 * s[FRN] * s[RATE];
     t->answer[QUANTISER] = q;
-    t->answer[DELAY] = (uint64_t)((p->delivered - p->position * p->unit + tick / 2) / tick);
+    t->answer[DELAY] = is_variable(s[MODE]) ? 65535 : (uint64_t)((p->delivered - p->position * p->unit + tick / 2) / tick);
     t->answer[BYTES] = (uint64_t)((p->end - s[END]) / 8);
     t->answer[ZEROS] = (uint64_t)((p->end - p->content) / 8);
     s[WHOLE] = (uint64_t)(p->next / p->unit);

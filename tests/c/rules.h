@@ -2,8 +2,9 @@
  * call must answer and leave. Whether headers and layer are such as a writer takes is said by who made them. How long a picture
  * lasts is by tools/cadence.h, which film.c holds to worked lists.
  *
- * Here, in sender.c, configs.c, film.c and entries.c ranges, units, refusals by number and their order stand once more, and by
- * figures where the header has names: a test that took them from the library or its header would not see them change. */
+ * Here, in sender.c, configs.c, film.c, variable.c and entries.c ranges, units, refusals by number and their order stand once
+ * more, and by figures where the header has names: a test that took them from the library or its header would not see them
+ * change. */
 #ifndef RULES_H
 #define RULES_H
 
@@ -22,6 +23,10 @@ enum { OUTCOME, NUMBER, PICTURE, CODED, EXPECTED, QUANTISER, DELAY, BYTES, ZEROS
 
 /* Frames a second by frame_rate_code, as numerator and denominator; zeros for 0, which is none. */
 extern const uint64_t frame_rates[9][2];
+
+/* Of a mode: whether repeated fields count, and whether it is of a variable rate. */
+int is_film(uint64_t mode);
+int is_variable(uint64_t mode);
 
 /* Headers that fit at no time, after the first picture, and before it. */
 enum headers { UNFIT, PLAIN, FIRST };
