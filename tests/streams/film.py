@@ -1,7 +1,8 @@
 #!/usr/bin/env python3
-"""The answer in film mode of a whole MPEG-2 stream, in the lines of vbvcheck: film.py FILE.
+"""The answer in film mode of a whole MPEG-2 stream, in the lines of vbvcheck: film.py [--plain] [--variable] FILE.
 
-A model apart from the library and the tools, after paper 02, request 05, in fractions. Headers are taken to be sound."""
+With --plain repeated fields are not counted; with --variable it is the answer at a variable rate. A model apart from the library and
+the tools, after paper 02, requests 05 and 06, in fractions. Headers are taken to be sound."""
 import sys
 from fractions import Fraction
 
@@ -76,17 +77,8 @@ def periods(pictures, progressive, low_delay):
     return told
 
 
-def judge(data):
-    codes = list(start_codes(data))
-    header = next(at for at, code in codes if code == 0xB3)
-    extension = next(at for at, code in codes if code == 0xB5 and at > header)
-    rate = 400 * (bits(data, extension, 51, 12) << 18 | bits(data, header, 64, 18))
-    buffer = 16384 * (bits(data, extension, 64, 8) << 10 | bits(data, header, 83, 10))
-    frames = RATES[bits(data, header, 60, 4)] * Fraction(bits(data, extension, 73, 2) + 1, bits(data, extension, 75, 5) + 1)
-    pictures = [Picture(data, at, end) for at, end in find_pictures(data, codes)]
-    if pictures[0].delay == 0xFFFF:
-        return (5, 0, 0, 0), []
-    lasting = periods(pictures, bits(data, extension, 44, 1), bits(data, extension, 72, 1))
+def check(pictures, lasting, rate, buffer, frames):
+    """At a constant rate."""
     delivered, before, records = pictures[0].position + Fraction(pictures[0].delay * rate, 90000), 0, []
     for n, (p, count) in enumerate(zip(pictures, lasting)):
         expected = ((delivered - p.position) * 180000 / rate + 1) // 2
@@ -96,11 +88,44 @@ def judge(data):
             return (number, n, p.delay, expected) if number >= 9 else (number, 0, 0, 0), []
         records.append((p.delay, expected, p.end - before, (delivered - before) // 1, count))
         delivered, before = delivered + rate * count / frames / 2, p.end
+    return None, records
+
+
+def check_variable(pictures, lasting, rate, buffer, frames):
+    """By what the buffer holds: full, less each picture, and filled again up to full."""
+    held, before, records = Fraction(buffer), 0, []
+    for n, (p, count) in enumerate(zip(pictures, lasting)):
+        data_bits = p.end - before
+        if data_bits > held:
+            return (10, n, 0xFFFF, 0xFFFF), []
+        records.append((0xFFFF, 0xFFFF, data_bits, held // 1, count))
+        held, before = min(held - data_bits + rate * count / frames / 2, Fraction(buffer)), p.end
+    return None, records
+
+
+def judge(data, film, variable):
+    codes = list(start_codes(data))
+    header = next(at for at, code in codes if code == 0xB3)
+    extension = next(at for at, code in codes if code == 0xB5 and at > header)
+    rate = 400 * (bits(data, extension, 51, 12) << 18 | bits(data, header, 64, 18))
+    buffer = 16384 * (bits(data, extension, 64, 8) << 10 | bits(data, header, 83, 10))
+    frames = RATES[bits(data, header, 60, 4)] * Fraction(bits(data, extension, 73, 2) + 1, bits(data, extension, 75, 5) + 1)
+    pictures = [Picture(data, at, end) for at, end in find_pictures(data, codes)]
+    if variable and any(p.delay != 0xFFFF for p in pictures):
+        return (25, 0, 0, 0), []
+    if not variable and pictures[0].delay == 0xFFFF:
+        return (5, 0, 0, 0), []
+    lasting = periods(pictures, bits(data, extension, 44, 1), bits(data, extension, 72, 1)) if film else \
+        [1 if p.field else 2 for p in pictures]
+    refusal, records = (check_variable if variable else check)(pictures, lasting, rate, buffer, frames)
+    if refusal:
+        return refusal, []
     after = min(held - data_bits for _, _, data_bits, held, _ in records)
     return (rate, buffer, len(records), after, max(held for _, _, _, held, _ in records)), records
 
 
-answer, listed = judge(open(sys.argv[1], "rb").read())
+words = sys.argv[1:-1]
+answer, listed = judge(open(sys.argv[-1], "rb").read(), "--plain" not in words, "--variable" in words)
 print("bit_rate buffer_bits pictures min_after max_before" if listed else "refused picture coded expected")
 print(*answer)
 if listed:
