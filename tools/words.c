@@ -141,8 +141,8 @@ static int may_be_film(const struct answer *a)
 static void print_constant(const struct told *t)
 {
     if (t->answer->place.in_picture && t->answer->place.picture > 0) {
-        printf("  The delays before it are 0xFFFF, as at a variable rate, and this one is not, as at a constant rate: the stream is\n"
-               "  neither. At a constant rate it is refused too, with 5. Was another stream joined on here?\n");
+        printf("  The delays before it are 0xFFFF, as at a variable rate; this one is not, as at a constant rate. The stream is neither:\n"
+               "  at a constant rate it is refused with 5. Was another stream joined on here?\n");
     } else {
         printf("  Its first delay claims a constant rate. The check of that: ");
         print_command(t, counts_repeats(t->answer->mode) ? "--film --constant" : "--constant");
