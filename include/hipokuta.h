@@ -20,9 +20,9 @@ extern "C" {
 
 #define HIPOKUTA_VERSION "3.1"
 
-/* Modes: MPEG-1; MPEG-2, a picture lasting a frame's time or a field's; VBV_MPEG2 + VBV_FILM, where repeat_first_field counts too
- * (13818-2, C.9 to C.12); VBV_MPEG2 + VBV_VARIABLE, of a variable rate (C.3.2), where the first two are of a constant one; and
- * VBV_MPEG2 + VBV_FILM + VBV_VARIABLE. So 1, 2, 6, 10 and 14; there is no other. See vbv_check. */
+/* Modes. Of a constant rate: MPEG-1; MPEG-2, a picture lasting a frame's time or a field's; and VBV_MPEG2 + VBV_FILM, where
+ * repeat_first_field counts too (13818-2, C.9 to C.12). Of a variable rate (C.3.2): VBV_MPEG2 + VBV_VARIABLE, and VBV_MPEG2 +
+ * VBV_FILM + VBV_VARIABLE. So 1, 2, 6, 10 and 14; there is no other. See vbv_check. */
 #define VBV_MPEG1 1
 #define VBV_MPEG2 2
 #define VBV_FILM 4
@@ -101,9 +101,9 @@ struct vbv_refusal {
  * larger number (262 is 6).
  *
  * With VBV_VARIABLE (13818-2, C.3.2) every picture's delay is 0xFFFF, else 25, tested of all pictures after 4, where 5 stands in
- * the other modes, and so before 12, 15 and any 10. The buffer is full at the first removal, gains what the rate brings from each
- * removal to the next, and stays full once it is. So of 7 to 11 only 10 can be, and of 12 only the ranges: how long the buffer
- * takes to fill does not matter. In an accepted stream max_before is buffer_bits.
+ * the other modes, and so before 12, 15 and any 10. The buffer is full at the first removal, and gains what the rate brings from
+ * each removal to the next, but no more than fills it. So of 7 to 11 only 10 can be, and of 12 only the ranges: how long the
+ * buffer takes to fill does not matter. In an accepted stream max_before is buffer_bits.
  *
  * With VBV_FILM the next removal waits for repeated fields, by progressive_sequence and low_delay of the first sequence header's
  * extension:

@@ -283,9 +283,9 @@ static void take_records(const struct question *q)
     a->records = calloc(pictures, sizeof *a->records);
     if (a->records == NULL || cut_after(q, pictures, &c) != 0)
         return;
-    if (vbv_check(c.s.bytes, c.s.length, q->mode, &report, sizeof report, a->records, pictures * sizeof *a->records,
-                  &refusal, sizeof refusal) == 0)
-        a->recorded = pictures;
+    a->before = vbv_check(c.s.bytes, c.s.length, q->mode, &report, sizeof report, a->records, pictures * sizeof *a->records,
+                          &refusal, sizeof refusal);
+    a->recorded = a->before == 0 ? pictures : 0;
     free(c.joined);
 }
 

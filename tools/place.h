@@ -36,6 +36,7 @@ struct answer {
     struct shown *shown; /* the pictures, where records were wanted or the stream is refused */
     struct vbv_record *records;
     size_t recorded; /* records: all, or those of the accepted pictures before the refusal */
+    uint64_t before; /* the verdict about the pictures before the refusal, where that was asked for; else 0 */
     struct place place;
 };
 

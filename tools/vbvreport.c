@@ -224,6 +224,13 @@ static int no_answer(const char *name, const char *why, const struct options *o)
     return TROUBLE;
 }
 
+/* Whether the first delay is 0xFFFF, by the library: it tests that after all headers, and tells it of what stands before a bad
+ * one. */
+static int begins_variable(const struct answer *a)
+{
+    return a->number == VBV_VARIABLE_RATE || a->before == VBV_VARIABLE_RATE;
+}
+
 /* Asks in the mode that is wanted; where the delays are to tell, and the first is 0xFFFF, once more at a variable rate. Returns
  * 0, or 1 where memory does not suffice. */
 static int ask_wanted(const struct input *in, uint8_t standard, const struct options *o, struct answer *a)
@@ -231,7 +238,7 @@ static int ask_wanted(const struct input *in, uint8_t standard, const struct opt
     int records = o->records || o->picture != NULL || o->form == CSV;
     uint8_t mode = (uint8_t)(standard + (o->film ? VBV_FILM : 0)), variable = (uint8_t)(mode + VBV_VARIABLE);
     int bad = ask(&in->stream, o->rate == VARIABLE ? variable : mode, records, a);
-    if (bad || o->rate != BY_DELAYS || standard == VBV_MPEG1 || a->number != VBV_VARIABLE_RATE)
+    if (bad || o->rate != BY_DELAYS || standard == VBV_MPEG1 || !begins_variable(a))
         return bad;
     forget(a);
     return ask(&in->stream, variable, records, a);

@@ -137,16 +137,32 @@ static int may_be_film(const struct answer *a)
     return is_late && spoils_model(a);
 }
 
-/* A stream that is of neither kind, or of the other. */
-static void print_constant(const struct told *t)
+/* Whether delays of both kinds are in the stream, 0xFFFF first. */
+static int is_neither(const struct answer *a)
 {
-    if (t->answer->place.in_picture && t->answer->place.picture > 0) {
+    return a->number == VBV_CONSTANT_RATE && a->place.in_picture && a->place.picture > 0;
+}
+
+/* What a refusal means and what to do. */
+static void print_meaning(const struct told *t)
+{
+    const struct answer *a = t->answer;
+    int film = may_be_film(a);
+    if (film)
+        print_film(t);
+    if (is_neither(a)) {
         printf("  The delays before it are 0xFFFF, as at a variable rate; this one is not, as at a constant rate. The stream is neither:\n"
-               "  at a constant rate it is refused with 5. Was another stream joined on here?\n");
-    } else {
-        printf("  Its first delay claims a constant rate. The check of that: ");
-        print_command(t, counts_repeats(t->answer->mode) ? "--film --constant" : "--constant");
+               "  at a constant rate it is refused with 5. Was another stream joined on here? cbrsend writes the right delays into all,\n"
+               "  cbrsend --variable 0xFFFF.\n");
+        return;
     }
+    if (a->number == VBV_CONSTANT_RATE) {
+        printf("  Its first delay claims a constant rate. The check of that: ");
+        print_command(t, counts_repeats(a->mode) ? "--film --constant" : "--constant");
+    }
+    printf("  %s%s\n", film ? "If that refuses it too: " : "", vbv_refusal_text(a->number));
+    if (a->number == VBV_VARIABLE_RATE)
+        print_remedy(t);
 }
 
 static void print_refusal(const struct told *t)
@@ -160,14 +176,15 @@ static void print_refusal(const struct told *t)
         print_sequence(t);
     if (a->number >= VBV_EARLY && a->number <= VBV_DELAY_MISMATCH)
         print_frame_rate(&a->declared);
-    int film = may_be_film(a);
-    if (film)
-        print_film(t);
-    if (a->number == VBV_CONSTANT_RATE)
-        print_constant(t);
-    printf("  %s%s\n", film ? "If that refuses it too: " : "", vbv_refusal_text(a->number));
-    if (a->number == VBV_VARIABLE_RATE)
-        print_remedy(t);
+    print_meaning(t);
+}
+
+/* What the delays have told. */
+static void print_why_variable(const struct answer *a)
+{
+    int every = a->number == 0 || a->number == VBV_UNDERFLOW || a->number == VBV_PARAMETER; /* tested after the delays */
+    printf("  %s delay is 0xFFFF, so this is the check of a variable rate. For a line of constant rate: vbvreport --constant\n",
+           every ? "Every" : "The first");
 }
 
 static void print_verdict(const struct told *t)
@@ -180,8 +197,7 @@ static void print_verdict(const struct told *t)
     printf(": MPEG-%d%s%s, %s\n", t->standard, counts_repeats(t->answer->mode) ? " film" : "",
            is_variable(t->answer->mode) ? " at a variable rate" : "", t->answer->number == 0 ? "accepted" : "refused");
     if (is_variable(t->answer->mode) && t->by_delays)
-        printf("  %s delay is 0xFFFF, so this is the check of a variable rate. For a line of constant rate: vbvreport --constant\n",
-               t->answer->number == VBV_CONSTANT_RATE ? "The first" : "Every");
+        print_why_variable(t->answer);
 }
 
 void print_words(const struct told *t, int records)
