@@ -17,7 +17,7 @@ use libc::STDOUT_FILENO;
 use names::print_name;
 
 // The kinds of cases, and kind 0 for those that are malformed.
-const KINDS: usize = 24;
+const KINDS: usize = 28;
 
 // How many counts there are: of each kind its cases, and after these of each kind those that differ.
 pub const COUNTS: usize = 2 * KINDS;
@@ -149,7 +149,7 @@ pub fn get(counts: &[u64], at: usize) -> u64
 
 // All kinds together, the first of them counted at `from`.
 fn sum(counts: &[u64], from: usize) -> u64
-    requires { ⌜ from ≤ 24 ⌝ }
+    requires { ⌜ from ≤ 28 ⌝ }
 {
     let mut total: u64 = 0;
     let mut kind: usize = 0;

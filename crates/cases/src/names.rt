@@ -6,6 +6,7 @@ pub(crate) fn print_name(kind: usize) -> bool {
         1..=7 => print_parser(kind),
         8..=13 => print_writer(kind),
         20..=23 => print_mode(kind),
+        24..=27 => print_variable(kind),
         _ => print_buffer(kind),
     }
 }
@@ -50,5 +51,14 @@ fn print_mode(kind: usize) -> bool {
         21 => io::write_all(STDOUT_FILENO, b"verify_in_mode, MPEG-2"),
         22 => io::write_all(STDOUT_FILENO, b"verify_in_mode, MPEG-1"),
         _ => io::write_all(STDOUT_FILENO, b"verify_in_mode, MPEG-1 film"),
+    }
+}
+
+fn print_variable(kind: usize) -> bool {
+    match kind {
+        24 => io::write_all(STDOUT_FILENO, b"verify_in_mode, MPEG-2 variable"),
+        25 => io::write_all(STDOUT_FILENO, b"verify_in_mode, MPEG-2 film variable"),
+        26 => io::write_all(STDOUT_FILENO, b"verify_in_mode, MPEG-1 variable"),
+        _ => io::write_all(STDOUT_FILENO, b"verify_in_mode, MPEG-1 film variable"),
     }
 }

@@ -9,7 +9,7 @@ abbrev Inv-loop : tie.InvT-loop
 Inv-loop counts from total₀ kind₀ total kind = Unit {0}
 
 abbrev μ-loop : tie.MeasureT-loop
-μ-loop counts from total₀ kind₀ total kind = 24 - kind
+μ-loop counts from total₀ kind₀ total kind = 28 - kind
 
 loop-holds : tie.Need-loop-holds Inv-loop μ-loop
 loop-holds c = search needs
