@@ -346,6 +346,7 @@ fn set(writer: CbrWriter, far: &[u8], at: usize, out: &mut [u8], next: usize) ->
         stuffing_bytes: writer.stuffing_bytes,
         finished: writer.finished,
         cadence,
+        variable: writer.variable,
     };
     let told = Told {
         number: SET,

@@ -7,16 +7,17 @@ use Prim.Native.Nat.{ℕ, suc, _≤_}
 use native.Mathlib.Omega.{arith}
 use native.Mathlib.Numerals.{add-one}
 use Rattle.bits.specs.Refusals.{Answer, value, refused, andThen}
-use Rattle.vbv.specs.Annex.{overflows, beyond, arrived}
+use Rattle.vbv.specs.Annex.{arrived}
 use Rattle.vbv.specs.Model.{paramsInRange, delivered, periods}
 use Rattle.vbv.specs.Steps.{EndFits}
 use Rattle.vbv.specs.declared.VbvParams.{VbvParams}
 use Rattle.vbv.specs.declared.VbvCbrModel.{VbvCbrModel}
-use Rattle.vbv.proofs.Fitting.{fit-in}
-use Rattle.vbv.proofs.Laws.{fits-params, occupancy-most-in, over-units, units-over, units-beyond}
-use Rattle.vbv.proofs.After.{model-after, after-fits as constant-after}
+use Rattle.vbv.proofs.Fitting.{fit-in-at}
+use Rattle.vbv.proofs.Laws.{occupancy-most-in, over-units, units-over, units-beyond}
+use Rattle.vbv.proofs.After.{model-after}
 use Rattle.vbr.specs.Variable.{modelFitsAt}
-use Rattle.vbr.proofs.Laws.{variable-params, no-overflow, after-fits as variable-after}
+use Rattle.vbr.proofs.Laws.{no-overflow}
+use Rattle.vbr.proofs.Either.{fits-params-at, after-fits-at}
 use Rattle.verify.specs.declared.CodedPicture.{CodedPicture}
 use Rattle.verify.specs.declared.VbvPictureRecord.{VbvPictureRecord}
 use Rattle.verify.specs.declared.Removed.the-variants.{Recorded}
@@ -34,19 +35,10 @@ pub record Ready (v : Bool) (p : VbvParams) (m : VbvCbrModel) : Type 0 where
   pub kept : m .params ≡ p
   pub few : m .removed ≤ m .«prev_end_bits»
 
--- its parameters are in their ranges; at a variable rate no more has come than fills the buffer; and it fits after a removal
-in-range : (v : Bool) (m : VbvCbrModel) → modelFitsAt v m ≡ true → paramsInRange (m .params) ≡ true
-in-range true m f = variable-params m f
-in-range false m f = fit-in (m .params) (fits-params m f)
-
+-- at a variable rate no more has come than fills the buffer
 bounded : (v : Bool) {p : VbvParams} {m : VbvCbrModel} → Ready v p m → Bounded v p (m .«prev_end_bits») (delivered m)
 bounded true {m = m} y h = rw (← y .kept) (over-units (m .params) (m .«prev_end_bits») (delivered m) (no-overflow m (y .fits) (y .on)))
 bounded false y h = absurd (true≢false (sym h))
-
-fits-after : (v : Bool) (m : VbvCbrModel) (c : CodedPicture) → modelFitsAt v m ≡ true → EndFits m (c .«end_bits»)
-    → overflows (m .params) (m .«prev_end_bits») (delivered m) ≡ false → beyond (m .params) (c .«end_bits») (delivered m) ≡ false → modelFitsAt v (modelAfter v m c) ≡ true
-fits-after true m c f g o u = variable-after m (c .«end_bits») (delivered m) (periods (c .interval)) f g
-fits-after false m c f g o u = constant-after m f (delivered m) o (c .«end_bits») (c .interval) g u
 
 module _ {v : Bool} {p : VbvParams} {m : VbvCbrModel} (y : Ready v p m) (c : CodedPicture) (q : Placed (m .«prev_end_bits») (c .«pos_bits») (c .«end_bits») (c .«vbv_delay»)) where
   end-fits : EndFits m (c .«end_bits»)
@@ -67,7 +59,7 @@ module _ {v : Bool} {p : VbvParams} {m : VbvCbrModel} (y : Ready v p m) (c : Cod
         let u = units-beyond p (c .«end_bits») (delivered m) (in-model .no-underflow) in
         let w = model-after m (c .«end_bits») (arrived v (m .params) (c .«end_bits») (delivered m) (periods (c .interval))) in
         record {
-          fits = fits-after v m c (y .fits) end-fits (rw (← y .kept) at o) (rw (← y .kept) at u);
+          fits = after-fits-at v m (delivered m) (y .fits) (rw (← y .kept) at o) (c .«end_bits») (c .interval) end-fits (rw (← y .kept) at u);
           on = w .is-started;
           kept = w .params-kept ∙ y .kept;
           few = rw (w .count-is, w .end-is) (omega (arith, q .begins, q .ends, y .few));
@@ -76,7 +68,7 @@ module _ {v : Bool} {p : VbvParams} {m : VbvCbrModel} (y : Ready v p m) (c : Cod
     within : r .«occupancy_before_bits» ≤ p .«buffer_size_bits»
     unfolding recordOf
     within =
-        let f : paramsInRange p ≡ true = rw (y .kept) at (in-range v m (y .fits)) in
+        let f : paramsInRange p ≡ true = rw (y .kept) at (fit-in-at v (m .params) (fits-params-at v m (y .fits))) in
         rw (in-model .record-is) (occupancy-most-in p f (m .«prev_end_bits») (delivered m) (units-over p _ _ (in-model .no-overflow)))
 
 -- the course: each removal's record and the model after it, up to the end or a refusal
