@@ -9,7 +9,7 @@ use Rattle.compare_lists.proofs.main.Statement.{statement}
 use Rattle.compare_lists.proofs.main.Tie as tie
 
 abbrev Inv-loop : tie.InvT-loop
-Inv-loop buf₀ out₀ counts₀ given₀ case₀ buf out counts given case = (length buf ≡ 65536) × (length out ≡ 65536) × (length counts ≡ 48) × (length given ≡ 132) × (case .input ≤ length buf)
+Inv-loop buf₀ out₀ counts₀ given₀ case₀ buf out counts given case = (length buf ≡ 65536) × (length out ≡ 65536) × (length counts ≡ 56) × (length given ≡ 132) × (case .input ≤ length buf)
 
 abbrev μ-loop : tie.MeasureT-loop
 μ-loop buf₀ out₀ counts₀ given₀ case₀ buf out counts given case = case .left
