@@ -29,7 +29,7 @@ static const struct {
         "Stuff the pictures before it: cbrsend does. When offered: shorten its headers." },
     [VBV_UNDERFLOW] = { "underflow",
         "This picture is not whole in the set's buffer when it is due: it freezes or breaks up. "
-        "Encode it smaller, or raise the rate or the buffer: cbrsend says to what." },
+        "Encode it smaller, or raise the buffer or the rate: cbrsend, with --variable for such a rate, says to what." },
     [VBV_DELAY_MISMATCH] = { "delay mismatch",
         "The picture's delay is not the time at which it is due: a set that tunes in there overflows or runs dry later. "
         "Write the right delays: cbrsend does, for film cbrsend --film, or vbv_patch_delay." },
