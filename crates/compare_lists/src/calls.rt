@@ -425,7 +425,10 @@ fn put_cadence(out: &mut [u8], at: usize, variable: bool, k: VbvCadence) -> usiz
 }
 
 fn mode_number(film: bool, variable: bool) -> u8 {
-    2 + 4 * (film as u8) + 8 * (variable as u8)
+    if variable {
+        return if film { 14 } else { 10 };
+    }
+    if film { 6 } else { 2 }
 }
 
 fn open_code(waiting: OpenField) -> u8 {
