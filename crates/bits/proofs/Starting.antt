@@ -1,7 +1,7 @@
 -- Bytes that a list begins with, compared one after another.
 -- Assumes nothing.
 use mathlib.Core.Path.{◌≡◌, refl, sym, ◌∙◌}
-use mathlib.Core.Bool.{Bool, true, false, ◌&&◌, and_false}
+use mathlib.Core.Bool.{Bool, true, false, ◌&&◌, and-false}
 use mathlib.Core.List.{List, [], ◌∷◌}
 use Prim.Native.Nat.{ℕ, suc, ◌+◌, ◌-◌, ◌≤◌, ◌<◌}
 use native.Mathlib.Omega.{arith}
@@ -47,4 +47,4 @@ pub starts-few : (s b : List ℕ) → length s < length b → same_bytes (take (
 unfolding same_bytes
 starts-few s [] h = absurd (omega arith)
 starts-few [] (y ∷ b) h = refl
-starts-few (x ∷ s) (y ∷ b) h = rw (starts-few s b (omega arith)) (and_false (eqb x y))
+starts-few (x ∷ s) (y ∷ b) h = rw (starts-few s b (omega arith)) (and-false (eqb x y))

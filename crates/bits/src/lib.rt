@@ -1,4 +1,6 @@
 // Bit fields in byte slices, high bit first.
+#![tactic(auto)]
+
 ghost use Rattle.std.specs.Prelude.{◌≡◌, true, ◌+◌, ◌<◌, ◌≤◌, ◌*◌, ◌/◌, ◌%◌, ◌^◌, length, take};
 ghost use Rattle.bits.specs.Bits.{bits_at, there, append_bits};
 ghost use Rattle.bits.specs.Fields.{field, read_fields, same_bytes, read_header, fits_field, fits_all, field_bits, total};
@@ -8,7 +10,7 @@ ghost use Rattle.bits.specs.Answers.{over, read_bits, bits_answer, wrote_bits, g
 pub mod start_codes; // Table 6-1
 
 // A refusal as paper 01 writes it.
-#[derive(Drop)]
+#[derive(Clone, Copy)]
 pub struct VbvRefusal {
     pub number: u8,
     pub picture: u64,

@@ -1,5 +1,7 @@
 // How long a picture lasts (paper 02, request 05): field periods up to the next removal, outside film by the picture's structure, in film mode
 // by Annex C.
+#![tactic(auto)]
+
 ghost use Rattle.std.specs.Prelude.{◌≡◌};
 ghost use Rattle.cadence.specs.Cadence.{lasting as lasting_of, led_by_anchor, is_closed, interval as interval_of, after as after_of, opened as opened_of, with as with_of, cadence_fits};
 
@@ -7,7 +9,7 @@ use picture_header::PictureFacts;
 use vbv::RemovalInterval;
 
 // A field that waits for the second of its pair.
-#[derive(Drop)]
+#[derive(Clone, Copy)]
 pub enum OpenField {
     Closed,
     LedByAnchor,
@@ -16,7 +18,7 @@ pub enum OpenField {
 
 // Film mode or not; progressive_sequence and low_delay; the flags of the previous anchor, false where there is none; the field
 // that waits.
-#[derive(Drop)]
+#[derive(Clone, Copy)]
 pub struct VbvCadence {
     pub film: bool,
     pub progressive: bool,

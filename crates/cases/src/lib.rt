@@ -4,6 +4,8 @@
 //     while 0 < case.left { .. case = cases::next(case, ..); }
 // No contract can say what is read or printed. Promised is what this loop rests on, which numbers are taken from an input and
 // which bytes are put one by one (specs/Bytes); of the others that they are safe, and that they end.
+#![tactic(auto)]
+
 mod names; // the kinds' names
 pub mod put; // an answer's bytes
 pub mod take; // an input's numbers

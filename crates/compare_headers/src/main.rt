@@ -1,5 +1,7 @@
 // Compares the headers: reads cases with the original's answers (oracle/FORMAT.md, kinds 1 to 13), works each answer out with
 // the functions of `headers`, `picture_header` and `writers`, and prints how many cases there were and how many differ.
+#![tactic(auto)]
+
 mod parsed; // kinds 1 to 7
 mod written; // kinds 8 to 13
 

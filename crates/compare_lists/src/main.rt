@@ -1,5 +1,7 @@
 // Compares the writer: reads lists of calls with their answers (oracle/FORMAT.md, kind 19), works each answer out with the
 // writer of `rate_control`, and prints how often each answer was given, how many lists there were and how many differ.
+#![tactic(auto)]
+
 mod calls; // the writer's answers to a list
 
 use calls::{AGAIN, MISSING, PASSED, SET, WITHDRAWN};

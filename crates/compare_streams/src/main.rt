@@ -1,6 +1,8 @@
 // Compares the buffer model and the check of streams: reads cases with the original's answers (oracle/FORMAT.md, kinds 14 to
 // 18 and 20 to 27), works each answer out with the functions of `vbv` and `verify`, and prints how many cases there were and how
 // many differ.
+#![tactic(auto)]
+
 mod checked; // kinds 17, 18 and 20 to 27
 mod model; // kinds 14 to 16
 

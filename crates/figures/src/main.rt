@@ -1,5 +1,7 @@
 // Prints the figures of paper 01 that are not proved: the bytes of three headers, and an end that the model accepts; and those of
 // requests 02 and 05.
+#![tactic(auto)]
+
 mod channel; // request 05: a channel that a film writer sends
 mod film; // request 05: how long pictures last
 mod rates; // request 02

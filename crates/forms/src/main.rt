@@ -1,4 +1,6 @@
 // Runs the forms by reference beside those by value, on the same streams and calls, and counts what they answer.
+#![tactic(auto)]
+
 mod bridge; // the forms by reference
 mod checks; // streams
 mod steps; // calls of the model

@@ -1,5 +1,7 @@
 // The sequence headers of MPEG-1 and MPEG-2 video (ISO/IEC 13818-2 6.2.2, 11172-2 2.4.2.3), read from byte slices, and what all
 // headers share; the crate `picture_header` reads those of pictures, `writers` writes.
+#![tactic(auto)]
+
 ghost use Rattle.std.specs.Prelude.{◌≡◌, ◌+◌, ◌*◌, ◌≤◌, drop};
 ghost use Rattle.headers.specs.Answers.{error_number, next_answer, flag_of};
 ghost use Rattle.headers.specs.StartCode.{leading_zeros, prefix_at, next_start_code};
@@ -13,7 +15,7 @@ pub mod stream_writer; // what the writer of a sequence header is given
 use bits::start_codes::START_CODE_PREFIX;
 
 // Why a header is refused, or not written.
-#[derive(Drop)]
+#[derive(Clone, Copy)]
 pub enum Error {
     // The bytes end inside the header.
     ShortHeader,

@@ -8,7 +8,7 @@ use bits::Bits;
 
 // A matrix in zigzag order, where its flag loads one. Where it does not, a parser gives 64 zeros and a writer looks at no
 // byte.
-#[derive(Drop)]
+#[derive(Clone, Copy)]
 pub struct QuantiserMatrix {
     pub load: bool,
     pub bytes: [u8; 64],

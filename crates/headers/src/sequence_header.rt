@@ -15,7 +15,7 @@ pub const SEQUENCE_HEADER_TABLE: [u8; 24] =
     *b"\x0C\x01\x00\x0C\x01\x00\x04\x01\x00\x04\x01\x00\x12\x01\x00\x01\x01\x01\x0A\x00\x00\x01\x00\x00";
 
 // aspect_ratio_information (Table 6-3).
-#[derive(Drop)]
+#[derive(Clone, Copy)]
 pub enum AspectRatio {
     Square,
     Dar3x4,
@@ -24,7 +24,7 @@ pub enum AspectRatio {
     Reserved(u8),
 }
 
-#[derive(Drop)]
+#[derive(Clone, Copy)]
 pub struct Mpeg2SequenceHeader {
     pub width: u16,
     pub height: u16,

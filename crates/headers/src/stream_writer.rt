@@ -1,7 +1,7 @@
 // What the writer of sequence_header() (6.2.2.1) is given.
 use crate::quant_matrix_extension::QuantiserMatrix;
 
-#[derive(Drop)]
+#[derive(Clone, Copy)]
 pub struct SequenceHeaderParams {
     pub horizontal_size: u16,
     pub vertical_size: u16,

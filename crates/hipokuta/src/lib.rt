@@ -1,4 +1,6 @@
 // The entries that C calls (include/hipokuta.h): numbers and byte slices, laid out as docs/LAYOUT.md says.
+#![tactic(auto)]
+
 mod check; // the check of a stream
 mod report; // the report alone
 mod patch; // the delay of a picture header

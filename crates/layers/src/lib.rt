@@ -1,4 +1,6 @@
 // Headers and picture layers that an encoder offers: whether they fit (paper 01, 'A placed picture').
+#![tactic(auto)]
+
 ghost use Rattle.std.specs.Prelude.{◌≡◌, ◌&&◌, eqb, leb, drop};
 ghost use Rattle.bits.specs.Refusals.{value};
 ghost use Rattle.headers.specs.StartCode.{leading_zeros};
@@ -22,7 +24,7 @@ use scan::Found;
 use vbv::{RemovalInterval, VbvParams};
 
 // Which kind of picture is offered.
-#[derive(Drop)]
+#[derive(Clone, Copy)]
 pub enum PictureKind {
     I,
     P,
@@ -30,7 +32,7 @@ pub enum PictureKind {
 }
 
 // Start codes that may stand in a part.
-#[derive(Drop)]
+#[derive(Clone, Copy)]
 enum CodeSet {
     // B2, B3, B5 and B8.
     Headers,

@@ -1,4 +1,6 @@
 // Report, refusal, answer, a configuration and a writer's state as bytes, laid out as docs/LAYOUT.md says.
+#![tactic(auto)]
+
 mod mode; // the numbers of the modes
 mod config; // a configuration
 mod state; // a writer's state

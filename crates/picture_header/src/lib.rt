@@ -1,4 +1,6 @@
 // picture_header() (ISO/IEC 13818-2 6.2.3, 11172-2 2.4.2.5) and picture_coding_extension() (6.2.3.1).
+#![tactic(auto)]
+
 ghost use Rattle.std.specs.Prelude.{◌≡◌, ℕ, ◌+◌, ◌*◌, ◌/◌, ◌%◌, ◌^◌, ◌≤◌, ◌<◌, length, get_or};
 ghost use Rattle.bits.specs.Bits.{bits_at};
 ghost use Rattle.bits.specs.Fields.{read_fields};
@@ -43,7 +45,7 @@ const CODING_TABLE: [u8; 36] =
     *b"\x02\x00\x00\x02\x01\x00\x01\x00\x00\x01\x00\x00\x01\x00\x00\x01\x00\x00\x01\x00\x00\x01\x00\x00\x01\x00\x00\x01\x00\x00\x01\x00\x00\x01\x00\x00";
 
 // picture_coding_type (Table 6-12; D pictures are of 11172-2).
-#[derive(Drop)]
+#[derive(Clone, Copy)]
 pub enum PictureCodingType {
     Intra,
     Predictive,
@@ -52,19 +54,19 @@ pub enum PictureCodingType {
 }
 
 // A flag, or a code, that only some picture types have.
-#[derive(Drop)]
+#[derive(Clone, Copy)]
 pub enum OptionFlag {
     Some(bool),
     None,
 }
 
-#[derive(Drop)]
+#[derive(Clone, Copy)]
 pub enum OptionCode {
     Some(u8),
     None,
 }
 
-#[derive(Drop)]
+#[derive(Clone, Copy)]
 pub struct Mpeg2PictureHeader {
     pub temporal_reference: u16,
     pub picture_coding_type: PictureCodingType,
@@ -115,7 +117,7 @@ pub struct PictureCodingExtension {
 
 // What both tell of how long a picture lasts: whether it is an I or P picture, whether a field, repeat_first_field and
 // top_field_first.
-#[derive(Drop)]
+#[derive(Clone, Copy)]
 pub struct PictureFacts {
     pub anchor: bool,
     pub field: bool,

@@ -1,4 +1,6 @@
 // What the headers of a stream show: what its first sequence header declares, and its pictures in stream order.
+#![tactic(auto)]
+
 mod cadence_opened; // the cadence that a sequence header opens
 mod seen; // the pictures, one after another
 mod sequence; // what the first sequence header declares
@@ -10,7 +12,7 @@ use headers::Error;
 use picture_header::PictureFacts;
 use vbv::{VbvError, VbvParams};
 
-#[derive(Drop)]
+#[derive(Clone, Copy)]
 pub enum VbvStandard {
     Mpeg1,
     Mpeg2,

@@ -1,4 +1,6 @@
 // The writer, at a constant or a variable rate: creation, offers of pictures and withdrawals (paper 01, 'A placed picture').
+#![tactic(auto)]
+
 ghost use Rattle.std.specs.Prelude.{◌≡◌};
 ghost use Rattle.rate_control.specs.Answers.{offer_refusal};
 
@@ -20,7 +22,7 @@ use verify::VbvMode;
 
 // What a writer is created with: MPEG-2, plain or film, at a constant or a variable rate; the sequence header's fields, the
 // quantiser that every kind starts from, B pictures between anchors and anchors in a group.
-#[derive(Drop)]
+#[derive(Clone, Copy)]
 pub struct CbrConfig {
     pub mode: VbvMode,
     pub bit_rate_value: u32,
@@ -34,7 +36,7 @@ pub struct CbrConfig {
 }
 
 // The picture that is to be offered again, and the quantiser to encode it with.
-#[derive(Drop)]
+#[derive(Clone, Copy)]
 pub enum Pending {
     Nothing,
     Waits(PictureKind, u8),
@@ -42,7 +44,7 @@ pub enum Pending {
 
 // The model is started once a picture is placed; its previous end is the end of what was handed out. Targets and quantisers are
 // those of I, P and B. The cadence is that of the pictures placed; the rate is constant or variable.
-#[derive(Drop)]
+#[derive(Clone, Copy)]
 pub struct CbrWriter {
     pub model: VbvCbrModel,
     pub target_bits: [u64; 3],
@@ -68,7 +70,7 @@ pub struct CbrCreated {
 }
 
 // Why an offer is refused.
-#[derive(Drop)]
+#[derive(Clone, Copy)]
 pub enum CbrError {
     // The writer's state, a position or an end out of range, or a position beyond the bits delivered.
     Model(VbvError),
@@ -86,7 +88,7 @@ pub enum CbrError {
     Output,
 }
 
-#[derive(Drop)]
+#[derive(Clone, Copy)]
 pub enum CbrAnswer {
     Placed {
         q: u8,

@@ -1,4 +1,6 @@
 // Start codes of a stream, and the walk from picture to picture.
+#![tactic(auto)]
+
 ghost use Rattle.std.specs.Prelude.{◌≡◌, eqb, length, ◌+◌, ◌-◌, ◌≤◌};
 ghost use Rattle.bits.specs.Bits.{pick};
 ghost use Rattle.bits.specs.StartCodes.{sequence_end_code};
@@ -38,7 +40,7 @@ pub enum Next {
 }
 
 // Which start code a search stops at.
-#[derive(Drop)]
+#[derive(Clone, Copy)]
 enum Stop {
     AtSequence,
     AtPicture,

@@ -1,4 +1,6 @@
 // The two searches for a start code as C calls them, for the benchmark and for the comparison with the original.
+#![tactic(auto)]
+
 ghost use Rattle.std.specs.Prelude.{◌≡◌, length};
 ghost use Rattle.scan.specs.Codes.{next_code, codes};
 ghost use Rattle.scan.specs.Scanned.{scanned, looked_all};

@@ -1,5 +1,7 @@
 // The exact variable_rate buffer model of Annex C (C.3.2), in 64 bits, on the state of the constant_rate one: the buffer is full
 // at the first removal, gains R times the period after each, and stays at B once it is full.
+#![tactic(auto)]
+
 ghost use Rattle.std.specs.Prelude.{◌≡◌, true, not, min};
 ghost use Rattle.vbv.specs.Annex.{full, overflows};
 ghost use Rattle.vbv.specs.Answers.{model_answer, removal_answer, model_bits_answer};

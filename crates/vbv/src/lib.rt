@@ -1,5 +1,7 @@
 // The exact constant_rate buffer model of Annex C, in 64 bits, and the delay in a picture header. (The variable_rate model is
 // crates/vbr.)
+#![tactic(auto)]
+
 ghost use Rattle.std.specs.Prelude.{◌≡◌, true, ◌+◌, ◌-◌, ◌/◌, ◌^◌, ◌≤◌, ◌<◌, max};
 ghost use Rattle.vbv.specs.Annex.{unit, first_delivered};
 ghost use Rattle.vbv.specs.Answers.{model_number, model_answer, removal_answer, delay_answer, model_bits_answer, patch_answer, rate_answer, code_rate, frame_rate, violation_refusal};
@@ -14,7 +16,7 @@ use bits::VbvRefusal;
 use bits::start_codes::PICTURE_START;
 
 // Why a call is refused.
-#[derive(Drop)]
+#[derive(Clone, Copy)]
 pub enum VbvError {
     // A frame rate code other than 1 to 8.
     FrameRateCode,
@@ -32,7 +34,7 @@ pub enum VbvError {
 
 // A removal that Annex C forbids, or a coded delay unlike the expected one: the picture, counted from 0, and the delays,
 // 0 where they are not known.
-#[derive(Drop)]
+#[derive(Clone, Copy)]
 pub enum VbvViolation {
     Overflow {
         picture: u64,
@@ -59,7 +61,7 @@ pub enum FrameRate {
 
 // How long up to the next removal, whatever the picture's structure: a field period is half a frame period. Three fields and more
 // are for film alone.
-#[derive(Drop)]
+#[derive(Clone, Copy)]
 pub enum RemovalInterval {
     Frame,
     Field,
@@ -69,7 +71,7 @@ pub enum RemovalInterval {
 }
 
 // R in bits a second, B in bits, and frn / frd frames a second.
-#[derive(Drop)]
+#[derive(Clone, Copy)]
 pub struct VbvParams {
     pub bit_rate: u64,
     pub buffer_size_bits: u64,
@@ -78,7 +80,7 @@ pub struct VbvParams {
 }
 
 // Delivered at the pending removal: whole + rest / (180,000 * frn) bits.
-#[derive(Drop)]
+#[derive(Clone, Copy)]
 pub struct VbvCbrModel {
     pub params: VbvParams,
     pub whole: u64,

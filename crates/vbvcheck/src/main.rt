@@ -1,5 +1,7 @@
 // Prints the buffer report of an MPEG-2 stream that it reads on standard input, or why the stream is refused (paper 01).
 // What is printed is worked out in `text`; here it is read and written.
+#![tactic(auto)]
+
 mod text; // what is printed
 
 use libc::{STDIN_FILENO, STDOUT_FILENO};

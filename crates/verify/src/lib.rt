@@ -1,4 +1,6 @@
 // The buffer report of a stream: the check of Annex C, at a constant or a variable rate, over the pictures that its headers show.
+#![tactic(auto)]
+
 ghost use Rattle.std.specs.Prelude.{◌≡◌};
 ghost use Rattle.verify.specs.Answers.{refusal_of};
 ghost use Rattle.verify.specs.Mode.{plain as plain_of, has_modes, mode_fits};
@@ -18,7 +20,7 @@ pub use pictures::VbvStandard;
 use vbv::{RemovalInterval, VbvCbrModel, VbvError, VbvParams, VbvViolation};
 
 // What a stream is checked as, and a writer writes. Film and a variable rate are MPEG-2's alone.
-#[derive(Drop)]
+#[derive(Clone, Copy)]
 pub struct VbvMode {
     pub standard: VbvStandard,
     pub film: bool,
@@ -29,7 +31,7 @@ pub struct VbvMode {
 pub const RECORD_BYTES: usize = 40;
 
 // One removal. Occupancy is in whole bits, just before it; the periods are the field periods up to the next removal.
-#[derive(Drop)]
+#[derive(Clone, Copy)]
 pub struct VbvPictureRecord {
     pub vbv_delay: u16,
     pub expected_delay: u16,
@@ -38,7 +40,7 @@ pub struct VbvPictureRecord {
     pub periods: u8,
 }
 
-#[derive(Drop)]
+#[derive(Clone, Copy)]
 pub struct VbvStreamReport {
     pub bit_rate: u64,
     pub buffer_size_bits: u64,
@@ -48,7 +50,7 @@ pub struct VbvStreamReport {
 }
 
 // Why a stream is refused.
-#[derive(Drop)]
+#[derive(Clone, Copy)]
 pub enum VbvVerifyError {
     // A header.
     Parse(Error),
@@ -66,7 +68,7 @@ pub enum VbvVerifyError {
     Violation(VbvViolation),
 }
 
-#[derive(Drop)]
+#[derive(Clone, Copy)]
 pub enum VbvVerified {
     Report(VbvStreamReport),
     Refused(VbvVerifyError),
@@ -74,7 +76,7 @@ pub enum VbvVerified {
 
 // A picture as the model sees it: the end of its start code and the end of its data, in bits, its coded delay, and the
 // interval up to the next removal.
-#[derive(Drop)]
+#[derive(Clone, Copy)]
 pub struct CodedPicture {
     pub pos_bits: u64,
     pub end_bits: u64,
@@ -90,7 +92,7 @@ enum Removed {
 }
 
 // How far the model has come.
-#[derive(Drop)]
+#[derive(Clone, Copy)]
 enum Progress {
     // No picture yet.
     Fresh,

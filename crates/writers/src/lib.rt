@@ -1,4 +1,6 @@
 // The writers of sequence_header(), sequence_extension() and group_of_pictures_header() (ISO/IEC 13818-2 6.2.2).
+#![tactic(auto)]
+
 ghost use Rattle.std.specs.Prelude.{◌≡◌, ◌*◌, ◌≤◌};
 ghost use Rattle.bits.specs.Answers.{wrote_answer};
 ghost use Rattle.headers.specs.Answers.{written_answer, flag_of};

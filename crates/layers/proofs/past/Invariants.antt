@@ -1,0 +1,13 @@
+use mathlib.Core.Path.{◌≡◌}
+use Prim.Native.Nat.{◌-◌}
+use lib.ListN.{length}
+use Rattle.scan.specs.Codes.{codes_at, found}
+use Rattle.scan.specs.Pictures.{skip}
+use Rattle.layers.specs.Steps.{in_set}
+use Rattle.layers.proofs.past.Given as goal
+
+abbrev pub invariant-loop-offset : goal.invariant-loop-offset
+invariant-loop-offset l = found (skip (in_set l.set) (codes_at l.s l.i)) ≡ found (skip (in_set l.set) (codes_at l.s l.from))
+
+abbrev pub decreases-loop-offset : goal.decreases-loop-offset
+decreases-loop-offset l = length l.s - l.i

@@ -1,0 +1,12 @@
+use Rattle.scan.proofs.Search.{codes_from-zero}
+use Rattle.layers.specs.Headers.{sequence_fits}
+use Rattle.layers.specs.Steps.{in_set}
+use Rattle.layers.proofs.sequence_fits.Goals as goal
+
+pub returns-then-placed : goal.returns-then-placed
+unfolding sequence_fits in_set
+returns-then-placed c = rw (c.if-placed.true, codes_from-zero c.args.headers.now) c.all_in_set.ensures
+
+pub returns : goal.returns
+unfolding sequence_fits
+returns c = rw (c.if-placed.false, c.sequence_first_lem.ensures, c.declares.ensures)

@@ -1,0 +1,22 @@
+use borrow.Author.Tests.{ne_eqb}
+use Rattle.bits.specs.Bits.{pick}
+use Rattle.layout.specs.State.{pending_of}
+use Rattle.layout.proofs.state.pending_at.Goals as goal
+
+pub returns-in-0 : goal.returns-in-0
+unfolding pending_of pick
+returns-in-0 c = simp c.in-0.is
+
+pub returns-in-1 : goal.returns-in-1
+unfolding pending_of pick
+returns-in-1 c = simp c.in-1.is
+
+pub returns-in-2 : goal.returns-in-2
+unfolding pending_of pick
+returns-in-2 c = simp c.in-2.is
+
+pub returns-in_default : goal.returns-in_default
+unfolding pending_of pick
+returns-in_default c =
+    let r = c.in_default.in_default-own.rest in
+    simp (ne_eqb _ _ r.1, ne_eqb _ _ r.0.1, ne_eqb _ _ r.0.0.1)

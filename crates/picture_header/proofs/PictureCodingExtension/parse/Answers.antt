@@ -1,0 +1,26 @@
+use mathlib.Core.Path.{◌≡◌, sym, ◌∙◌}
+use mathlib.Core.Bool.{true, false}
+use Rattle.bits.proofs.Flags.{clash}
+use mathlib.Core.Logic.{⊎_elim}
+use native.Mathlib.Omega.{arith}
+use Rattle.picture_header.specs.CodingExtension.{coding_extension_of}
+use Rattle.picture_header.proofs.Straight.{coding_straight, coding_only, coding_nine}
+use Rattle.picture_header.proofs.PictureCodingExtension.parse.Goals as goal
+
+pub returns-then-usual_coding : goal.returns-then-usual_coding
+unfolding coding_extension_of
+returns-then-usual_coding c =
+    rw c.picture_structure_of.ensures
+    (coding_straight c.args.buf.now (omega arith) c.word.ensures.2 _ _ c.word.ensures.0 c.long_word-w.ensures.0
+    (sym c.usual_coding.ensures ∙ c.if-usual_coding.true))
+
+pub coding_refusal-requires : goal.coding_refusal-requires
+coding_refusal-requires c =
+    let s = c.args.buf.now in
+    ⊎_elim
+    (λ v.
+    let z : true ≡ false =
+    sym (coding_only s (omega arith) v.2.ensures.2 _ _ v.2.ensures.0 v.1.ensures.0 x a) ∙ sym v.3.ensures ∙ v.4.left in
+    clash cc)
+    (λ v. omega (arith, coding_nine s x a))
+    c.if-buf-ge9.branch

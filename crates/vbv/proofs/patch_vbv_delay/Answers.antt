@@ -1,0 +1,37 @@
+use mathlib.Core.Path.{sym, ◌∙◌}
+use lib.ListN.{length-set}
+use Rattle.bits.proofs.Flags.{told_by}
+use Rattle.vbv.proofs.Patching.{starts_picture_long, patch-done, patch-none}
+use native.Mathlib.Omega.{arith}
+use Rattle.vbv.proofs.patch_vbv_delay.Goals as goal
+
+pub bounds-picture-5 : goal.bounds-picture-5
+bounds-picture-5 c = let h = starts_picture_long _ (sym c.starts_picture.ensures ∙ c.if-starts_picture.true) in omega arith
+
+pub overflow_mul-picture : goal.overflow_mul-picture
+overflow_mul-picture c = omega (arith, c.slice_known-then-starts_picture-1.given 5)
+
+pub overflow_add-picture : goal.overflow_add-picture
+overflow_add-picture c = omega (arith, c.slice_known-then-starts_picture-1.given 5)
+
+pub bounds-picture-5-then-starts_picture : goal.bounds-picture-5-then-starts_picture
+bounds-picture-5-then-starts_picture c = let h = starts_picture_long _ (sym c.starts_picture.ensures ∙ c.if-starts_picture.true) in omega arith
+
+pub bounds-picture-6 : goal.bounds-picture-6
+bounds-picture-6 c = let h = starts_picture_long _ (sym c.starts_picture.ensures ∙ c.if-starts_picture.true) in simp length-set (omega arith)
+
+pub bounds-picture-7 : goal.bounds-picture-7
+bounds-picture-7 c = let h = starts_picture_long _ (sym c.starts_picture.ensures ∙ c.if-starts_picture.true) in simp length-set (omega arith)
+
+pub bounds-picture-7-then-starts_picture : goal.bounds-picture-7-then-starts_picture
+bounds-picture-7-then-starts_picture c = let h = starts_picture_long _ (sym c.starts_picture.ensures ∙ c.if-starts_picture.true) in simp length-set (omega arith)
+
+pub returns-then-starts_picture : goal.returns-then-starts_picture
+returns-then-starts_picture c =
+    let both = patch-done _ _ (search told_by) (λ k. (c.slice_known-then-starts_picture-1.given k).fits) (omega arith) in
+    record { result_value = both.0; picture_after = both.1 }
+
+pub returns : goal.returns
+returns c =
+    let both = patch-none _ _ (search told_by) in
+    record { result_value = both.0; picture_after = both.1 }
