@@ -64,7 +64,7 @@ pub model_fits_lem : {m : VbvCbrModel} → model_fits m ≡ true → ModelFits m
 unfolding model_fits counts_fit unit
 model_fits_lem h =
     record {
-      params_fit_lem = params_fit_lem (search (and_left, and_right) depth 8);
+      params_fit = params_fit_lem (search (and_left, and_right) depth 8);
       whole_high = leb-true _ _ (search (and_left, and_right) depth 8);
       rest_low = ltb-true _ _ (search (and_left, and_right) depth 8);
       end_high = leb-true _ _ (search (and_left, and_right) depth 8);

@@ -175,7 +175,7 @@ start-stays : (m : VbvCbrModel) (delay position : ℕ) → ModelFits m → delay
 unfolding at_delivered unit
 start-stays m delay position v l h =
     record {
-      params_fit_lem = v.params_fit;
+      params_fit = v.params_fit;
       whole_high = start-whole m delay position v l h;
       rest_low = mod-lt (first_delivered m.params position delay) (omega arith);
       end_high = omega arith;
@@ -190,7 +190,7 @@ removal-stays m end i v g o =
     let d = over_units m.params m.prev_end_bits (delivered m) o in
     let w : m.whole ≤ m.prev_end_bits + m.params.buffer_size_bits = le_of_mul-le-mul_right {k = u} (omega arith) (omega arith) in
     record {
-      params_fit_lem = v.params_fit;
+      params_fit = v.params_fit;
       whole_high = omega (arith, next-whole m i v);
       rest_low = mod-lt (next_delivered m i) (omega arith);
       end_high = omega arith;
@@ -213,14 +213,14 @@ model-made p m h =
     let e : m ≡ record { params = p; whole = 0; rest = 0; prev_end_bits = 0; removed = 0; started = false } = cc a.1 in
     rw e
     (record {
-      params_fit_lem = a.0;
+      params_fit = a.0;
       params_kept = refl;
       at_zero = refl;
       none_removed = refl;
       unstarted = refl;
       fits =
           fitting-model _
-          (record { params_fit_lem = params_fit_lem a.0; whole_high = omega arith; rest_low = omega (arith, params_fit_lem a.0); end_high = omega arith; removed_high = omega arith });
+          (record { params_fit = params_fit_lem a.0; whole_high = omega arith; rest_low = omega (arith, params_fit_lem a.0); end_high = omega arith; removed_high = omega arith });
     })
 
 -- a started model

@@ -1,7 +1,7 @@
 -- The figures of frame rates hold; and only the value of a frame rate counts.
 -- Assumes nothing.
 use mathlib.Core.Path.{◌≡◌, refl, sym, ◌∙◌}
-use mathlib.Core.Bool.{false, ◌&&◌, and_false}
+use mathlib.Core.Bool.{false, ◌&&◌, and-false}
 use Prim.Native.Nat.{ℕ, ◌+◌, ◌*◌, ◌≤◌}
 use native.Mathlib.Omega.{arith}
 use native.Mathlib.Nat.{mul-one}
@@ -33,7 +33,7 @@ own_rate c f e =
 lookup_due : LookupDue
 lookup_due = record {
   n_wide = λ c n d h. too_wide c n d (rw (lt-leb n 3 h));
-  d_wide = λ c n d h. too_wide c n d (rw (lt-leb d 31 h) (and_false (leb n 3)));
+  d_wide = λ c n d h. too_wide c n d (rw (lt-leb d 31 h) (and-false (leb n 3)));
   no_rate = λ c n d l h z. go c n d l h z (rate-code c n d l h);
   product = λ c n d f l h e. rw (in_width c n d l h, own_rate c f e);
 }

@@ -1,4 +1,4 @@
-// The exact constant_rate buffer model of Annex C, in 64 bits, and the delay in a picture header. (The variable_rate model is
+// The exact constant-rate buffer model of Annex C, in 64 bits, and the delay in a picture header. (The variable-rate model is
 // crates/vbr.)
 #![tactic(auto)]
 
@@ -179,6 +179,7 @@ impl VbvViolation {
 }
 
 // Table 6-4.
+#[tactic(auto, unfolding(bits::specs::Bits::pick, crate::specs::Answers::code_rate))]
 fn code_rate(frame_rate_code: u8) -> FrameRate
     ensures { rate_answer result ≡ code_rate frame_rate_code }
 {

@@ -7,7 +7,7 @@ use native.Mathlib.Omega.{arith}
 use Rattle.vbv.proofs.VbvCbrModel.delay_for_picture.Goals as goal
 
 pub delay_from-requires : goal.delay_from-requires
-delay_from-requires c = (model_fits_lem (search told_by), (search, omega arith))
+delay_from-requires c = record { model_fits = model_fits_lem (search told_by); started_value = search; position_le_farthest = omega arith }
 
 pub returns-else-pos_bits-le-FARTHEST : goal.returns-else-pos_bits-le-FARTHEST
 returns-else-pos_bits-le-FARTHEST c = delay_range _ (search told_by) (search) _ (omega arith)

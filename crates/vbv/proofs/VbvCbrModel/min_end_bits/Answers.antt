@@ -9,7 +9,9 @@ pub advanced-next-requires : goal.advanced-next-requires
 advanced-next-requires c = fits_in_range (model_fits_lem (search told_by))
 
 pub rounded_up-requires : goal.rounded_up-requires
-rounded_up-requires c = next_fits _ _ (model_fits_lem (search told_by)) _ c.advanced-next.ensures
+rounded_up-requires c =
+    let f = next_fits _ _ (model_fits_lem (search told_by)) _ c.advanced-next.ensures in
+    record { whole_bound = f.0; rest_bound = f.1 }
 
 pub returns-then-self : goal.returns-then-self
 unfolding min_end_bits

@@ -6,7 +6,7 @@ use Rattle.vbv.proofs.VbvCbrModel.remove.Goals as goal
 
 pub rounded_up-requires : goal.rounded_up-requires
 unfolding unit
-rounded_up-requires c = (omega arith, omega arith)
+rounded_up-requires c = record { whole_bound = omega arith; rest_bound = omega arith }
 
 pub returns-then-self-params : goal.returns-then-self-params
 returns-then-self-params c = remove-over _ (search) (search) _ (search) _ _ c.rounded_up.ensures (omega arith)

@@ -7,7 +7,7 @@ use Rattle.vbv.proofs.VbvCbrModel.remove_picture.Goals as goal
 
 pub remove-requires : goal.remove-requires
 unfolding end_fits
-remove-requires c = (model_fits_lem (search told_by), (search, end_fits_lem (search)))
+remove-requires c = record { model_fits = model_fits_lem (search told_by); started_value = search; end_fits = end_fits_lem (search) }
 
 pub returns-else-end_bits-self : goal.returns-else-end_bits-self
 unfolding end_fits
