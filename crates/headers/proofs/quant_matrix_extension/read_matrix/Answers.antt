@@ -9,11 +9,14 @@ returns-in_default c =
 
 pub returns-then-load-eq0 : goal.returns-then-load-eq0
 returns-then-load-eq0 c =
-    let both = rw c.no_matrix-then-load-eq0.ensures (told_there (flag_unset _ _ _ (bits_case c.in-Value.is c.read_bits-read.ensures) c.if-load-eq0.true)) in
+    let e = flag_unset _ _ _ (bits_case c.in-Value.is c.read_bits-read.ensures) c.if-load-eq0.true in
+    let both = told_there (rw (← c.no_matrix-then-load-eq0.ensures) at e) in
     record { result_value = both.0; matrix_value = both.1 }
 
-pub returns : goal.returns
-returns c =
-    let a = c.args in
-    let both = rw (flag_set a.buf.now a.at _ (bits_case c.in-Value.is c.read_bits-read.ensures) c.if-load-eq0.false) c.read_bytes.ensures in
-    record { result_value = both.0; matrix_value = both.1 }
+pub returns-clause-result_value : goal.returns-clause-result_value
+returns-clause-result_value c =
+    rw (flag_set c.args.buf.now c.args.at _ (bits_case c.in-Value.is c.read_bits-read.ensures) c.if-load-eq0.false) c.read_bytes.ensures.result_value
+
+pub returns-clause-matrix_value : goal.returns-clause-matrix_value
+returns-clause-matrix_value c =
+    rw (flag_set c.args.buf.now c.args.at _ (bits_case c.in-Value.is c.read_bits-read.ensures) c.if-load-eq0.false) c.read_bytes.ensures.matrix_value
