@@ -1,4 +1,4 @@
-// The exact variable_rate buffer model of Annex C (C.3.2), in 64 bits, on the state of the constant_rate one: the buffer is full
+// The exact variable-rate buffer model of Annex C (C.3.2), in 64 bits, on the state of the constant-rate one: the buffer is full
 // at the first removal, gains R times the period after each, and stays at B once it is full.
 #![tactic(auto)]
 

@@ -6,7 +6,8 @@ use Rattle.vbr.proofs.Ways.{remove_order, remove_range}
 use Rattle.vbr.proofs.remove_picture.Goals as goal
 
 pub remove-requires : goal.remove-requires
-remove-requires c = (search told_by, (search, end_fits_lem (end_tests _ _ ∙ c.if-end_bits-model.true)))
+remove-requires c =
+    record { model_value = search told_by; started_value = search; end_fits = end_fits_lem (end_tests _ _ ∙ c.if-end_bits-model.true) }
 
 pub returns-else-end_bits-model : goal.returns-else-end_bits-model
 returns-else-end_bits-model c = remove_range _ (search told_by) _ _ (search) (end_tests _ _ ∙ c.if-end_bits-model.false)
