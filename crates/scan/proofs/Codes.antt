@@ -3,7 +3,7 @@
 use mathlib.Core.Path.{◌≡◌, refl, sym, ap, ◌∙◌}
 use Prim.Native.Nat.{ℕ, zero, suc, ◌+◌, ◌≤◌}
 use mathlib.Core.List.{List, [], ◌∷◌, ◌++◌, map}
-use mathlib.Core.Bool.{Bool, true, false, not, ◌&&◌, and_false, false≢true}
+use mathlib.Core.Bool.{Bool, true, false, not, ◌&&◌, and-false, false≢true}
 use native.Mathlib.Omega.{arith}
 use native.Mathlib.Nat.{add-suc, add-zero, zero-add}
 use lib.ListN.{length, get_or, replicate}
@@ -40,11 +40,11 @@ starts-append : (b : ℕ) (x y : List ℕ) → ends_prefix (b ∷ x) ≡ false �
 unfolding starts
 starts-append b [] [] p f = refl
 starts-append b [] (q ∷ []) p f = refl
-starts-append b [] (q ∷ r ∷ y) p f = starts_is (b ∷ q ∷ r ∷ y) ∙ rw (fresh_2 q r y f, and_false, and_false)
+starts-append b [] (q ∷ r ∷ y) p f = starts_is (b ∷ q ∷ r ∷ y) ∙ rw (fresh_2 q r y f, and-false, and-false)
 starts-append b (c ∷ []) [] p f = refl
-starts-append b (c ∷ []) (q ∷ y) p f = starts_is (b ∷ c ∷ q ∷ y) ∙ rw (fresh_1 q y f, and_false, and_false, and_false)
+starts-append b (c ∷ []) (q ∷ y) p f = starts_is (b ∷ c ∷ q ∷ y) ∙ rw (fresh_1 q y f, and-false, and-false, and-false)
 starts-append b (c ∷ d ∷ []) [] p f = refl
-starts-append b (c ∷ d ∷ []) (q ∷ y) p f = rw (ends-here b (c ∷ d ∷ []) p, and_false)
+starts-append b (c ∷ d ∷ []) (q ∷ y) p f = rw (ends-here b (c ∷ d ∷ []) p, and-false)
 starts-append b (c ∷ d ∷ e ∷ x) y p f = starts_four b c d e (x ++ y) ∙ sym (starts_four b c d e x)
 
 fourth-append : (b : ℕ) (x y : List ℕ) → starts (b ∷ x) ≡ true → get_or (b ∷ (x ++ y)) 3 0 ≡ get_or (b ∷ x) 3 0

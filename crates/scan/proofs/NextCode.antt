@@ -3,7 +3,7 @@
 use mathlib.Core.Path.{◌≡◌, refl, sym, ap, ◌∙◌}
 use Prim.Native.Nat.{ℕ, suc, ◌+◌, ◌-◌, ◌≤◌, ◌<◌}
 use mathlib.Core.List.{List, [], ◌∷◌}
-use mathlib.Core.Bool.{Bool, true, false, ◌&&◌, and_false, and_true}
+use mathlib.Core.Bool.{Bool, true, false, ◌&&◌, and-false, and-true}
 use native.Mathlib.Omega.{arith}
 use native.Mathlib.Nat.{add-zero}
 use native.Mathlib.Numerals.{add-one}
@@ -80,7 +80,7 @@ three s i = get_or s i 0 ∷ get_or s (i + 1) 0 ∷ get_or s (i + 2) 0 ∷ []
 pub prefix_test : (s : List ℕ) (i : ℕ) → i + 4 ≤ length s → same_bytes (three s i) start_code_prefix ≡ starts (drop i s)
 prefix_test s i h =
     let l : 4 ≤ length s - i = omega arith in
-    sym (starts-at s i ∙ rw (le-leb 4 (length s - i) l, same_more, same_more, same_more, same_none, and_true))
+    sym (starts-at s i ∙ rw (le-leb 4 (length s - i) l, same_more, same_more, same_more, same_none, and-true))
 
 pub next_here : (s : List ℕ) (i : ℕ) → starts (drop i s) ≡ true → At i (get_or s (i + 3) 0) ≡ next_code s i
 next_here s i e = rw (next-first s i, ← get_or-drop i s 3 0) (first-here i (drop i s) e)
@@ -120,10 +120,10 @@ pub next_on : (s : List ℕ) (i : ℕ) → starts (drop i s) ≡ false → next_
 next_on s i e = rw (next-first s (i + 1), next-first s i, ← drop-drop 1 i s) (first_on i (drop i s) e)
 
 not_first : (s : List ℕ) (i : ℕ) → (get_or s i 0 ≡ 0 → ⊥) → next_code s (i + 1) ≡ next_code s i
-not_first s i n = next_on s i (starts-at s i ∙ rw (ne_eqb (get_or s i 0) 0 n, and_false))
+not_first s i n = next_on s i (starts-at s i ∙ rw (ne_eqb (get_or s i 0) 0 n, and-false))
 
 not_second : (s : List ℕ) (i : ℕ) → (get_or s (i + 1) 0 ≡ 0 → ⊥) → next_code s (i + 1) ≡ next_code s i
-not_second s i n = next_on s i (starts-at s i ∙ rw (ne_eqb (get_or s (i + 1) 0) 0 n, and_false, and_false))
+not_second s i n = next_on s i (starts-at s i ∙ rw (ne_eqb (get_or s (i + 1) 0) 0 n, and-false, and-false))
 
 pub no_third : (s : List ℕ) (i : ℕ) → (get_or s (i + 2) 0 ≡ 1 → ⊥) → starts (drop i s) ≡ false
 no_third s i n = starts_third (drop i s) (rw (get_or-drop i s 2 0) n)
@@ -132,7 +132,7 @@ pub not_third : (s : List ℕ) (i : ℕ) → (get_or s (i + 2) 0 ≡ 1 → ⊥) 
 not_third s i n = next_on s i (no_third s i n)
 
 pub no_pair : (s : List ℕ) (i : ℕ) → (eqb (get_or s (i + 1) 0) 0 && eqb (get_or s (i + 2) 0) 1) ≡ false → next_code s (i + 1) ≡ next_code s i
-no_pair s i e = next_on s i (starts-at s i ∙ rw (e, and_false, and_false))
+no_pair s i e = next_on s i (starts-at s i ∙ rw (e, and-false, and-false))
 
 -- a third byte that is not 00 is neither the second byte of a code nor its first
 two_on : (s : List ℕ) (i : ℕ) → (get_or s (i + 2) 0 ≡ 0 → ⊥) → next_code s (i + 3) ≡ next_code s (i + 1)
@@ -156,5 +156,5 @@ four_told s i c x h = go (starts (drop i s)) refl
         let r = both_true (leb 4 (length s - i)) (eqb (get_or s i 0) 0 && m) (sym (starts-at s i) ∙ e) in
         let p = both_true (eqb (get_or s i 0) 0) m r.1 in
         let q = both_true (eqb (get_or s (i + 1) 0) 0) (eqb (get_or s (i + 2) 0) 1) p.1 in
-        rw (same_more, same_more, same_more, same_more, same_none, p.0, q.0, q.1, and_true)
+        rw (same_more, same_more, same_more, same_more, same_none, p.0, q.0, q.1, and-true)
     go false e = absurd (omega (arith, (code_seen s (i + 1) i c (next_on s i e ∙ h)).from))

@@ -3,7 +3,7 @@
 use mathlib.Core.Path.{◌≡◌, refl, sym, ap, ◌∙◌}
 use Prim.Native.Nat.{ℕ, suc, ◌+◌, ◌-◌, ◌≤◌, ◌<◌}
 use mathlib.Core.List.{List, [], ◌∷◌}
-use mathlib.Core.Bool.{false, true, ◌&&◌, ◌||◌, and_false, and_true, or-false}
+use mathlib.Core.Bool.{false, true, ◌&&◌, ◌||◌, and-false, and-true, or-false}
 use native.Mathlib.Omega.{arith}
 use lib.Dec.{eqb, leb}
 use lib.ListN.{length, get_or, take, drop, length-drop}
@@ -21,7 +21,7 @@ pub starts_four : (a b c d : ℕ) (s : List ℕ) → starts (a ∷ b ∷ c ∷ d
 unfolding starts
 starts_four a b c d s =
     let h : 4 ≤ length (a ∷ b ∷ c ∷ d ∷ s) = omega arith in
-    rw (le-leb 4 (length (a ∷ b ∷ c ∷ d ∷ s)) h, same_more, same_more, same_more, same_none, and_true)
+    rw (le-leb 4 (length (a ∷ b ∷ c ∷ d ∷ s)) h, same_more, same_more, same_more, same_none, and-true)
 
 -- by index
 pub starts_is : (s : List ℕ) → starts s ≡ (leb 4 (length s) && (eqb (get_or s 0 0) 0 && (eqb (get_or s 1 0) 0 && eqb (get_or s 2 0) 1)))
@@ -30,7 +30,7 @@ starts_is [] = refl
 starts_is (a ∷ []) = refl
 starts_is (a ∷ b ∷ []) = refl
 starts_is (a ∷ b ∷ c ∷ []) = refl
-starts_is (a ∷ b ∷ c ∷ d ∷ s) = rw (same_more, same_more, same_more, same_none, and_true)
+starts_is (a ∷ b ∷ c ∷ d ∷ s) = rw (same_more, same_more, same_more, same_none, and-true)
 
 pub starts_long : (s : List ℕ) → starts s ≡ true → 4 ≤ length s
 unfolding starts
@@ -38,13 +38,13 @@ starts_long s h = leb-true 4 (length s) (and_left _ _ h)
 
 -- none begins at a byte that is not zero, at one whose next is not zero, where the third byte is not 01, or before two zero bytes
 pub starts_first : (a : ℕ) (s : List ℕ) → (a ≡ 0 → ⊥) → starts (a ∷ s) ≡ false
-starts_first a s n = starts_is (a ∷ s) ∙ rw (ne_eqb a 0 n, and_false)
+starts_first a s n = starts_is (a ∷ s) ∙ rw (ne_eqb a 0 n, and-false)
 
 pub starts_second : (a b : ℕ) (s : List ℕ) → (b ≡ 0 → ⊥) → starts (a ∷ b ∷ s) ≡ false
-starts_second a b s n = starts_is (a ∷ b ∷ s) ∙ rw (ne_eqb b 0 n, and_false, and_false)
+starts_second a b s n = starts_is (a ∷ b ∷ s) ∙ rw (ne_eqb b 0 n, and-false, and-false)
 
 pub starts_third : (s : List ℕ) → (get_or s 2 0 ≡ 1 → ⊥) → starts s ≡ false
-starts_third s n = starts_is s ∙ rw (ne_eqb (get_or s 2 0) 1 n, and_false, and_false, and_false)
+starts_third s n = starts_is s ∙ rw (ne_eqb (get_or s 2 0) 1 n, and-false, and-false, and-false)
 
 pub starts-before : (a b : ℕ) (s : List ℕ) → starts (a ∷ b ∷ 0 ∷ s) ≡ false
 starts-before a b s = starts_third (a ∷ b ∷ 0 ∷ s) (λ e. omega arith)

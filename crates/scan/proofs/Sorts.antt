@@ -3,7 +3,7 @@
 use mathlib.Core.Path.{◌≡◌, refl, ap}
 use Prim.Native.Nat.{ℕ, ◌<◌}
 use mathlib.Core.List.{List, [], ◌∷◌, ◌++◌}
-use mathlib.Core.Bool.{Bool, true, false, and_false}
+use mathlib.Core.Bool.{Bool, true, false, and-false}
 use borrow.Author.Tests.{lt-leb, ne_eqb}
 use Rattle.bits.specs.Bits.{pick}
 use Rattle.bits.specs.StartCodes.{picture_start_code, last_slice_code, sequence_header_code}
@@ -19,7 +19,7 @@ slice_zero = refl
 
 pub slice_above : (c : ℕ) → last_slice_code < c → is_slice c ≡ false
 unfolding is_slice
-slice_above c h = rw (lt-leb c last_slice_code h, and_false)
+slice_above c h = rw (lt-leb c last_slice_code h, and-false)
 
 pub not_slice_above : (c : ℕ) → last_slice_code < c → not_slice c ≡ true
 unfolding not_slice

@@ -6,6 +6,21 @@ use Rattle.scan.proofs.NextCode.{four_told}
 use Rattle.scan.proofs.Walk.{code_seen}
 use Rattle.scan.proofs.picture_end.Goals as goal
 
+pub bounds-s-offset : goal.bounds-s-offset
+bounds-s-offset c = omega (arith, (code_seen _ _ _ _ c.requires).room)
+
+pub overflow_add-four : goal.overflow_add-four
+overflow_add-four c = omega (arith, (code_seen _ _ _ _ c.requires).room)
+
+pub bounds-s-offset-then-code-eq-SEQUENCE_END_CODE : goal.bounds-s-offset-then-code-eq-SEQUENCE_END_CODE
+bounds-s-offset-then-code-eq-SEQUENCE_END_CODE c = omega (arith, (code_seen _ _ _ _ c.requires).room)
+
+pub overflow_add-four-then-code-eq-SEQUENCE_END_CODE : goal.overflow_add-four-then-code-eq-SEQUENCE_END_CODE
+overflow_add-four-then-code-eq-SEQUENCE_END_CODE c = omega (arith, (code_seen _ _ _ _ c.requires).room)
+
+pub bounds-s-offset-then-code-eq-SEQUENCE_END_CODE-2 : goal.bounds-s-offset-then-code-eq-SEQUENCE_END_CODE-2
+bounds-s-offset-then-code-eq-SEQUENCE_END_CODE-2 c = omega (arith, (code_seen _ _ _ _ c.requires).room)
+
 pub overflow_add-result : goal.overflow_add-result
 overflow_add-result c = omega (arith, (code_seen _ _ _ _ c.requires).room)
 
