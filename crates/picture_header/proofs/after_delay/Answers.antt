@@ -7,8 +7,7 @@ use Rattle.picture_header.proofs.after_delay.Goals as goal
 
 pub header_of-requires : goal.header_of-requires
 header_of-requires c =
-    let s = c.args in
-    let m = motion_codes c.read_motion-motion.result s.buf.now s.t2 c.read_motion-motion.ensures c.in-Done.is in
+    let m = motion_codes c.read_motion-motion.result c.args.buf.now c.args.h c.read_motion-motion.ensures c.in-Done.is in
     (c.requires.0, c.requires.1, m.0, m.1)
 
 pub returns-in-Short : goal.returns-in-Short

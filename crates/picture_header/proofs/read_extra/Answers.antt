@@ -6,18 +6,11 @@ use Rattle.bits.specs.Bits.{bit_at}
 use Rattle.bits.proofs.Reading.{bits_case}
 use Rattle.picture_header.proofs.ExtraInformation.{walk_none, walk_cut, walk_end, walk_more, flag_read, flag_missed}
 use Rattle.picture_header.proofs.read_extra.Goals as goal
+use Rattle.picture_header.proofs.read_extra.Goals.{In-Value}
 
 -- where a flag was read: it is there, and it is the bit that the definition has
-module _ (c : goal.In-Value) where
-  abbrev at_flag : goal.At-loop-n
-  at_flag = c.before.before.before.before.before.before
-
-  flag_told : let a = at_flag.before.before.args in
-      let p = a.first + 9 * at_flag.loop.n in
-      (p < 8 * length a.buf.now) × (c.in-Value.v ≡ bit_at a.buf.now p)
-  flag_told =
-      flag_read at_flag.before.before.args.buf.now _ at_flag.loop.n (omega arith) _
-      (bits_case c.in-Value.is c.read_bits-flag.ensures)
+flag_told : (c : In-Value) → let p = c.args.first + 9 * c.loop-n.n in (p < 8 * length c.args.buf.now) × (c.in-Value.v ≡ bit_at c.args.buf.now p)
+flag_told c = flag_read c.args.buf.now _ c.loop-n.n (omega arith) _ (bits_case c.in-Value.is c.read_bits-flag.ensures)
 
 pub loop-n-init : goal.loop-n-init
 loop-n-init c = walk_none _ _
@@ -33,10 +26,10 @@ returns-in_default c =
 
 pub returns-then-v-eq0 : goal.returns-then-v-eq0
 returns-then-v-eq0 c =
-    let f = flag_told c.before in
-    walk_end (at_flag c.before).loop.inv f.0 (sym f.1 ∙ c.if-v-eq0.true)
+    let f = flag_told (goal.at.returns-then-v-eq0 c).In-Value in
+    walk_end c.loop-n.invariant f.0 (sym f.1 ∙ c.if-v-eq0.true)
 
 pub loop-n-preserved : goal.loop-n-preserved
 loop-n-preserved c =
-    let f = flag_told c.before in
-    walk_more (at_flag c.before).loop.inv f.0 (λ z. c.if-v-eq0.false (f.1 ∙ z))
+    let f = flag_told (goal.at.loop-n-preserved c).In-Value in
+    walk_more c.loop-n.invariant f.0 (λ z. c.if-v-eq0.false (f.1 ∙ z))

@@ -1,5 +1,6 @@
 use Prim.Native.Nat.{◌*◌}
 use native.Mathlib.Omega.{arith}
+use borrow.Author.Rules.{rules}
 use Rattle.bits.proofs.Laws.{bits_bound}
 use Rattle.bits.proofs.Inside.{bits_four}
 use Rattle.picture_header.proofs.word.Goals as goal
@@ -9,4 +10,4 @@ returns c =
     let a = c.args in
     let s = a.s.now in
     let e = bits_four s a.at (omega arith) (omega arith) (omega arith) (omega arith) in
-    (omega (arith, e), omega (arith, e, bits_bound s (8 * a.at) 32), λ k. omega (arith, c.shared_slice_known-5-1.given k))
+    (omega (arith, e), omega (arith, e, bits_bound s (8 * a.at) 32), λ k. search rules)

@@ -1,11 +1,11 @@
 use mathlib.Core.Path.{◌≡◌, sym, ◌∙◌}
 use mathlib.Core.Bool.{true, false}
 use Rattle.bits.proofs.Flags.{clash}
-use mathlib.Core.Logic.{⊎_elim}
 use native.Mathlib.Omega.{arith}
 use Rattle.picture_header.specs.CodingExtension.{coding_extension_of}
 use Rattle.picture_header.proofs.Straight.{coding_straight, coding_only, coding_nine}
 use Rattle.picture_header.proofs.PictureCodingExtension.parse.Goals as goal
+use Rattle.picture_header.proofs.PictureCodingExtension.parse.Goals.{then-buf-ge9+else-usual_coding, else-buf-ge9}
 
 pub returns-then-usual_coding : goal.returns-then-usual_coding
 unfolding coding_extension_of
@@ -15,12 +15,13 @@ returns-then-usual_coding c =
     (sym c.usual_coding.ensures ∙ c.if-usual_coding.true))
 
 pub coding_refusal-requires : goal.coding_refusal-requires
-coding_refusal-requires c =
+coding_refusal-requires c = λ x a.
     let s = c.args.buf.now in
-    ⊎_elim
-    (λ v.
-    let z : true ≡ false =
-    sym (coding_only s (omega arith) v.2.ensures.2 _ _ v.2.ensures.0 v.1.ensures.0 x a) ∙ sym v.3.ensures ∙ v.4.left in
-    clash cc)
-    (λ v. omega (arith, coding_nine s x a))
-    c.if-buf-ge9.branch
+    elim c.if-buf-ge9.branch [
+      | then-buf-ge9+else-usual_coding w ↦
+          let z : true ≡ false =
+          sym (coding_only s (omega arith) w.word.ensures.2 _ _ w.word.ensures.0 w.long_word-w.ensures.0 x a)
+          ∙ sym w.usual_coding.ensures ∙ w.if-usual_coding.false in
+          clash cc
+      | else-buf-ge9 w ↦ omega (arith, coding_nine s x a)
+    ]

@@ -8,7 +8,7 @@ use Rattle.writers.proofs.stream_writer.append_matrix.Goals as goal
 pub append_bytes-requires : goal.append_bytes-requires
 append_bytes-requires c =
     let m = c.args.matrix in
-    (omega arith, omega (arith, matrix_loaded m c.if-load.true, c.append_bits.auto.0))
+    record { at_bound = omega arith; at_bound_2 = omega (arith, matrix_loaded m c.if-load.true) }
 
 pub returns-then-load : goal.returns-then-load
 returns-then-load c =

@@ -7,9 +7,10 @@ use lib.ListN.{get_or}
 use Rattle.bits.proofs.Checking.{checked_case, checked-width, checked_misfit}
 use Rattle.headers.proofs.StreamWriter.{Sized, params-unfit, params-bytes, params-full, params-written}
 use Rattle.writers.proofs.stream_writer.write_sequence_header.Goals as goal
+use Rattle.writers.proofs.stream_writer.write_sequence_header.Goals.{After-matrix_bytes-2}
 
 -- what the check found, and the count
-sized : (c : goal.After-matrix_bytes-2) → Sized c.args.p (12 + c.matrix_bytes.result + c.matrix_bytes-2.result)
+sized : (c : After-matrix_bytes-2) → Sized c.args.p (12 + c.matrix_bytes.result + c.matrix_bytes-2.result)
 sized c =
     let p = c.args.p in
     let told = checked_case c.in-Width.is c.check_fields-checked.ensures in
@@ -30,15 +31,15 @@ returns-in_default c =
 
 pub returns-then-out-bytes : goal.returns-then-out-bytes
 returns-then-out-bytes c =
-    let both = params-full (sized c.before) _ c.if-out-bytes.true in
+    let both = params-full (sized (goal.at.returns-then-out-bytes c).After-matrix_bytes-2) _ c.if-out-bytes.true in
     record { result_value = both.0; out_after = both.1 }
 
 pub put_header-requires : goal.put_header-requires
 put_header-requires c =
-    let d = sized c.before.before in
-    (d.fit, omega (arith, params-bytes d))
+    let d = sized (goal.at.put_header-requires c).After-matrix_bytes-2 in
+    record { p_value = d.fit; p_bound = omega (arith, params-bytes d) }
 
 pub returns : goal.returns
 returns c =
-    let both = params-written (sized c.before.before.before.before.before) _ c.if-out-bytes.false c.put_header.ensures in
+    let both = params-written (sized (goal.at.returns c).After-matrix_bytes-2) _ c.if-out-bytes.false c.put_header.ensures in
     record { result_value = both.0; out_after = both.1 }
