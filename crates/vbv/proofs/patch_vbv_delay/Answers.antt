@@ -1,5 +1,8 @@
 use mathlib.Core.Path.{sym, ◌∙◌}
-use lib.ListN.{length-set}
+use Prim.Native.Nat.{ℕ}
+use lib.ListN.{get_or, length-set}
+use mir.Syntax.{w8}
+use mir.Val.{Fits}
 use Rattle.bits.proofs.Flags.{told_by}
 use Rattle.vbv.proofs.Patching.{starts_picture_long, patch-done, patch-none}
 use native.Mathlib.Omega.{arith}
@@ -7,12 +10,6 @@ use Rattle.vbv.proofs.patch_vbv_delay.Goals as goal
 
 pub bounds-picture-5 : goal.bounds-picture-5
 bounds-picture-5 c = let h = starts_picture_long _ (sym c.starts_picture.ensures ∙ c.if-starts_picture.true) in omega arith
-
-pub overflow_mul-picture : goal.overflow_mul-picture
-overflow_mul-picture c = omega (arith, c.slice_known-then-starts_picture-1.given 5)
-
-pub overflow_add-picture : goal.overflow_add-picture
-overflow_add-picture c = omega (arith, c.slice_known-then-starts_picture-1.given 5)
 
 pub bounds-picture-5-then-starts_picture : goal.bounds-picture-5-then-starts_picture
 bounds-picture-5-then-starts_picture c = let h = starts_picture_long _ (sym c.starts_picture.ensures ∙ c.if-starts_picture.true) in omega arith
@@ -28,7 +25,8 @@ bounds-picture-7-then-starts_picture c = let h = starts_picture_long _ (sym c.st
 
 pub returns-then-starts_picture : goal.returns-then-starts_picture
 returns-then-starts_picture c =
-    let both = patch-done _ _ (search told_by) (λ k. (c.slice_known-then-starts_picture-1.given k).fits) (omega arith) in
+    let bytes : (k : ℕ) → Fits w8 (get_or c.args.picture.now k 0) = search in
+    let both = patch-done c.args.picture.now c.args.vbv_delay (search told_by) (λ k. (bytes k).fits) (omega arith) in
     record { result_value = both.0; picture_after = both.1 }
 
 pub returns : goal.returns
