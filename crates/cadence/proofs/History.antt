@@ -2,7 +2,7 @@
 -- Assumes nothing.
 use Prim.Native.Nat.{ℕ}
 use mathlib.Core.Path.{◌≡◌, refl, sym, subst}
-use mathlib.Core.Bool.{Bool, true, false, not, ◌&&◌, and_true, and_false}
+use mathlib.Core.Bool.{Bool, true, false, not, ◌&&◌, and-true, and-false}
 use mathlib.Core.List.{List, [], ◌∷◌}
 use Rattle.bits.specs.Bits.{pick}
 use Rattle.bits.proofs.Flags.{pick-alike}
@@ -45,8 +45,8 @@ module _ (p l : Bool) (xs : List PictureFacts) where
   unfolding odd_fields led_pair before_pair anchor_flags pick
   after_field_lem (closed R T e n f) true r t = moved (leaves_table.first_anchor p l R T r t) (led R T (rw e) (rw e) f (rw e))
   after_field_lem (closed R T e n f) false r t = moved (leaves_table.first_b p l R T r t) (other R T (rw e) (rw e) f)
-  after_field_lem (led R T e n g f) a r t = moved (leaves_table.pair_of_anchor p l R T a r t) (closed false false (rw e) (rw e) (rw (e, and_false a, f)))
-  after_field_lem (other R T e n f) a r t = moved (leaves_table.pair_of_b p l R T a r t) (closed R T (rw e) (rw e) (rw (e, and_false a, f)))
+  after_field_lem (led R T e n g f) a r t = moved (leaves_table.pair_of_anchor p l R T a r t) (closed false false (rw e) (rw e) (rw (e, and-false a, f)))
+  after_field_lem (other R T e n f) a r t = moved (leaves_table.pair_of_b p l R T a r t) (closed R T (rw e) (rw e) (rw (e, and-false a, f)))
 
   onward : {k : VbvCadence} → Told p l xs k → (x : PictureFacts) → Told p l (x ∷ xs) (after k x)
   onward h x = go x.anchor x.field x.repeat x.top h
@@ -76,9 +76,9 @@ module _ (p l : Bool) (xs : List PictureFacts) where
 
   tells : {k : VbvCadence} → Told p l xs k → (x : PictureFacts) → Lasts (interval k x) (lasts_after p l xs x)
   unfolding interval field_interval frame_interval lasting lasts_after frame_lasts led_by_anchor pick
-  tells (closed R T e n f) x = rw (n, f) (alike x _ _ refl (rw (and_true R) (frame_lasts_lem p R T)))
-  tells (led R T e n g f) x = rw (n, g, f) (alike x _ _ (pick-alike Lasts (R && (not p && not l)) refl (λ e. refl)) (rw (and_false R)))
-  tells (other R T e n f) x = rw (n, f) (alike x _ _ refl (rw (and_true R) (frame_lasts_lem p R T)))
+  tells (closed R T e n f) x = rw (n, f) (alike x _ _ refl (rw (and-true R) (frame_lasts_lem p R T)))
+  tells (led R T e n g f) x = rw (n, g, f) (alike x _ _ (pick-alike Lasts (R && (not p && not l)) refl (λ e. refl)) (rw (and-false R)))
+  tells (other R T e n f) x = rw (n, f) (alike x _ _ refl (rw (and-true R) (frame_lasts_lem p R T)))
 
 pub by_history : ByHistory
 by_history p l xs x = tells p l xs (told p l xs) x

@@ -1,7 +1,7 @@
 -- Outside film, and where no picture has the flag.
 -- Assumes nothing.
 use mathlib.Core.Path.{◌≡◌, refl, sym}
-use mathlib.Core.Bool.{Bool, true, false, and_false}
+use mathlib.Core.Bool.{Bool, true, false, and-false}
 use Rattle.bits.specs.Bits.{pick}
 use Rattle.bits.proofs.Flags.{pick_elim}
 use Rattle.vbv.specs.Model.{interval_of}
@@ -46,6 +46,6 @@ unset k x e f =
 pub without_flag : WithoutFlag
 unfolding interval field_interval frame_interval lasting pick
 without_flag = record {
-  the_same = λ k x e f. simp (e, f, and_false, same, as_plain);
+  the_same = λ k x e f. simp (e, f, and-false, same, as_plain);
   stays = unset;
 }

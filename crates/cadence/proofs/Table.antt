@@ -2,7 +2,7 @@
 -- Assumes nothing.
 use Prim.Native.Nat.{◌+◌}
 use mathlib.Core.Path.{◌≡◌, refl}
-use mathlib.Core.Bool.{Bool, true, false, not, ◌&&◌, and_true, and_false}
+use mathlib.Core.Bool.{Bool, true, false, not, ◌&&◌, and-true, and-false}
 use mathlib.Core.List.{List}
 use Rattle.bits.specs.Bits.{pick}
 use Rattle.headers.specs.Answers.{flag_of}
@@ -34,31 +34,31 @@ pub periods_table : Periods
 unfolding interval field_interval frame_interval led_by_anchor pick
 periods_table = record {
   b_frame = λ l R T o r t. interlaced r t;
-  anchor_frame = λ R T r t. rw and_true (interlaced R T);
-  anchor_after_b_field = λ R T r t. rw and_true (interlaced R T);
-  anchor_after_field = λ R T r t. rw and_false (interlaced false T);
+  anchor_frame = λ R T r t. rw and-true (interlaced R T);
+  anchor_after_b_field = λ R T r t. rw and-true (interlaced R T);
+  anchor_after_field = λ R T r t. rw and-false (interlaced false T);
   low_delay = λ R T o r t. interlaced r t;
   progressive_b = λ l R T o r t. progressive r t;
-  progressive_anchor = λ R T r t. rw and_true (progressive R T);
-  progressive_after_b_field = λ R T r t. rw and_true (progressive R T);
-  progressive_after_field = λ R T r t. rw and_false (progressive false T);
+  progressive_anchor = λ R T r t. rw and-true (progressive R T);
+  progressive_after_b_field = λ R T r t. rw and-true (progressive R T);
+  progressive_after_field = λ R T r t. rw and-false (progressive false T);
   progressive_low_delay = λ R T o r t. progressive r t;
   first_field = λ p l R T a r t. refl;
   second_after_b = λ p l R T a r t. refl;
   second_after_anchor = λ R T a r t. second R;
-  second_low_delay = λ p R T a r t. rw (and_false (not p), and_false R);
-  second_progressive = λ l R T a r t. rw (and_false R);
+  second_low_delay = λ p R T a r t. rw (and-false (not p), and-false R);
+  second_progressive = λ l R T a r t. rw (and-false R);
 }
 
 pub leaves_table : Leaves
 unfolding after after_field after_frame closed with led_by_anchor is_closed pick
 leaves_table = record {
   anchor_frame = λ p l R T o r t. refl;
-  b_frame = λ p l R T r t. simp and_true;
-  b_after_b_field = λ p l R T r t. simp and_true;
-  b_after_field = λ p l R T r t. simp and_false;
-  pair_of_anchor = λ p l R T a r t. simp and_false;
-  pair_of_b = λ p l R T a r t. simp and_true;
+  b_frame = λ p l R T r t. simp and-true;
+  b_after_b_field = λ p l R T r t. simp and-true;
+  b_after_field = λ p l R T r t. simp and-false;
+  pair_of_anchor = λ p l R T a r t. simp and-false;
+  pair_of_b = λ p l R T a r t. simp and-true;
   first_anchor = λ p l R T r t. refl;
   first_b = λ p l R T r t. refl;
 }

@@ -8,9 +8,8 @@ returns-then-near-places c =
     (c.past_quiet-near.ensures.0 ∙ quiet _ _ 16 (sym c.has_zero_one.ensures ∙ c.if-has_zero_one.false), omega arith)
 
 pub returns : goal.returns
-returns c =
-    (
-      c.past_quiet.ensures.0 ∙ c.past_quiet-far.ensures.0 ∙ c.past_quiet-near.ensures.0
-          ∙ quiet _ _ 16 (sym c.has_zero_one.ensures ∙ c.if-has_zero_one.false),
-      omega arith,
-    )
+returns c = (
+  c.past_quiet.ensures.0 ∙ c.past_quiet-far.ensures.0 ∙ c.past_quiet-near.ensures.0
+      ∙ quiet _ _ 16 (sym c.has_zero_one.ensures ∙ c.if-has_zero_one.false),
+  omega arith,
+)

@@ -22,13 +22,12 @@ overflow_add-value c =
     omega (arith, size_most _ _ c.loop-left-test.true c.loop-left.invariant.2 c.loop-left.invariant.1)
 
 pub loop-left-preserved : goal.loop-left-preserved
-loop-left-preserved c =
-    (
-      high-step _ _ _ _ _ c.loop-left-test.true c.loop-left.invariant.2 c.loop-left.invariant.3 c.loop-left.invariant.0 c.wide.ensures.0,
-      size_step _ _ _ (omega arith) c.loop-left.invariant.2 c.loop-left.invariant.1 (omega arith),
-      omega arith,
-      omega arith,
-    )
+loop-left-preserved c = (
+  high-step _ _ _ _ _ c.loop-left-test.true c.loop-left.invariant.2 c.loop-left.invariant.3 c.loop-left.invariant.0 c.wide.ensures.0,
+  size_step _ _ _ (omega arith) c.loop-left.invariant.2 c.loop-left.invariant.1 (omega arith),
+  omega arith,
+  omega arith,
+)
 
 pub returns : goal.returns
 returns c = high_all _ _ _ _ c.loop-left-test.false c.loop-left.invariant.0

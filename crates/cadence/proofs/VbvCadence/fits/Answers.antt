@@ -8,4 +8,4 @@ returns-then-self c = rw c.if-self.true
 
 pub returns : goal.returns
 unfolding cadence_fits pick
-returns c = rw (c.if-self.false, c.is_closed_lem.ensures)
+returns c = rw (c.if-self.false, c.is_closed.ensures)
