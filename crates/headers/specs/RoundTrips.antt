@@ -18,7 +18,7 @@ use Rattle.headers.specs.declared.stream_writer.SequenceHeaderParams.{SequenceHe
 abbrev pub Bytes : List ℕ → Type 0
 Bytes s = (k : ℕ) → get_or s k 0 < 256
 
--- the bytes that `write_sequence_header` writes, and those of any extension; `write_sequence_extension` writes those of `plainExtension`
+-- the bytes that `write_sequence_header` writes, and those of any extension; `write_sequence_extension` writes those of `plain_extension`
 abbrev pub sequence_written : SequenceHeaderParams → List ℕ
 sequence_written p = write_header (start_code sequence_header_code) (params_fields p) (params_values p)
 

@@ -327,6 +327,7 @@ impl Mpeg2PictureHeader {
     }
 
     // With the picture coding extension, which must follow; D pictures are refused (Table 6-12).
+    #[tactic(auto, unfolding(crate::specs::Picture::picture, crate::specs::Picture::is_dc, bits::specs::Bits::pick))]
     pub fn parse_with_extension(buf: &[u8]) -> PictureRead
         ensures { picture_answer result ≡ picture buf.now }
     {
