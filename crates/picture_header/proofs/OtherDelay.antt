@@ -19,7 +19,7 @@ use Rattle.bits.proofs.Reading.{read_field, there_is, obeys_is, read_none, read_
 use Rattle.bits.proofs.Same.{bits_one, read_same, bit_list-same}
 use Rattle.bits.proofs.Flags.{clash}
 use Rattle.headers.specs.StartCode.{leading_zeros}
-use Rattle.picture_header.specs.PictureHeader.{picture_fields, forward, backward, vector_fields, motion_fields, CodingType, code_if, extra, extra_at, extra_bit, picture_of, after_delay, picture_header, picture_header_bits, picture_header_bytes}
+use Rattle.picture_header.specs.PictureHeader.{picture_fields, forward, backward, vector_fields, motion_fields, coding_type, code_if, extra, extra_at, extra_bit, picture_of, after_delay, picture_header, picture_header_bits, picture_header_bytes}
 use Rattle.picture_header.specs.Picture.{picture}
 use Rattle.picture_header.specs.Steps.{after_header}
 use Rattle.picture_header.specs.declared.PictureCodingType.{PictureCodingType}
@@ -98,7 +98,7 @@ module _ (s t : List ℕ) (o : OtherDelay s t) (h : Mpeg2PictureHeader) where
         fields_read = three_read t l (omega (arith, f)) (omega (arith, f));
       }) in
       let k = extra_bit (get_or w.vs 1 0) in
-      let low : 61 ≤ k = rw (extra_bit_type (get_or w.vs 1 0)) (flag_bit_range (CodingType (get_or w.vs 1 0))).0 in
+      let low : 61 ≤ k = rw (extra_bit_type (get_or w.vs 1 0)) (flag_bit_range (coding_type (get_or w.vs 1 0))).0 in
       let m : read_fields (motion_fields (get_or w.vs 1 0)) t 61 ≡ value w.m = read_same s t o.same_length _ 61 o.same_after ∙ w.motion_is in
       let x : extra_at t k ≡ value w.n =
       ap (extra 0) (bit_list-same s t o.same_length k (λ i n q. o.same_after i n (omega arith))) ∙ w.extra_is in
@@ -137,8 +137,8 @@ vector_code t s m f e = go (motion_fields t) (rw f) e
         let b = read_field (any_value 3) (vector_fields (backward t)) s 62 a.rest a.then in
         rw (a.all, b.all)
 
-forward_type : (t : ℕ) → (CodingType t ≡ Predictive) ⊎ (CodingType t ≡ Bidirectional) → forward t ≡ true
-unfolding CodingType forward pick
+forward_type : (t : ℕ) → (coding_type t ≡ Predictive) ⊎ (coding_type t ≡ Bidirectional) → forward t ≡ true
+unfolding coding_type forward pick
 forward_type t k = case (eqb t 1) (eqb t 2) (eqb t 3) refl refl refl k
   where
     never : {A : Type 0} → {k : PictureCodingType} → k ≡ Intra → (k ≡ Predictive) ⊎ (k ≡ Bidirectional) → A

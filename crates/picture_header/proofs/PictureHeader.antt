@@ -18,7 +18,7 @@ use Rattle.bits.specs.declared.Outcome.TheVariants.{Done, Short, Bad}
 use Rattle.bits.specs.StartCodes.{start_code, picture_start_code}
 use Rattle.bits.proofs.Laws.{bits_bound}
 use Rattle.bits.proofs.Reading.{ParseOutcome, whole, then_seen, Read, fields_seen, header_seen, read_field, obeys_true, read_append, answer-short, answer_bad, fields-done, header_done, header_got, header_append}
-use Rattle.picture_header.specs.PictureHeader.{picture_fields, forward, backward, vector_fields, motion_fields, CodingType, extra_at, extra_bit, picture_of, after_delay, picture_header, picture_header_bytes, header_length}
+use Rattle.picture_header.specs.PictureHeader.{picture_fields, forward, backward, vector_fields, motion_fields, coding_type, extra_at, extra_bit, picture_of, after_delay, picture_header, picture_header_bytes, header_length}
 use Rattle.picture_header.specs.Answers.{picture_header_answer}
 use Rattle.picture_header.specs.Stability.{PictureHeaderStays, PictureHeaderCut}
 use Rattle.picture_header.proofs.ExtraInformation.{extra_inside, extra_seen, extra-append}
@@ -56,11 +56,11 @@ flag_bit Predictive = 65
 flag_bit Bidirectional = 69
 flag_bit DcIntra = 61
 
-pub extra_bit_type : (t : ℕ) → extra_bit t ≡ flag_bit (CodingType t)
-unfolding extra_bit forward backward CodingType pick
+pub extra_bit_type : (t : ℕ) → extra_bit t ≡ flag_bit (coding_type t)
+unfolding extra_bit forward backward coding_type pick
 extra_bit_type t = case (eqb t 1) (eqb t 2) (eqb t 3) refl refl refl
   where
-    case : (a b d : Bool) → eqb t 1 ≡ a → eqb t 2 ≡ b → eqb t 3 ≡ d → extra_bit t ≡ flag_bit (CodingType t)
+    case : (a b d : Bool) → eqb t 1 ≡ a → eqb t 2 ≡ b → eqb t 3 ≡ d → extra_bit t ≡ flag_bit (coding_type t)
     case true b d x y z = rw (eqb-true t 1 x)
     case false true d x y z = rw (eqb-true t 2 y)
     case false false true x y z = rw (eqb-true t 3 z)
@@ -167,7 +167,7 @@ fields_are s vs e =
 pub record PictureHeaderParsed (s : List ℕ) (h : Mpeg2PictureHeader) : Type 0 where
   pub code_first : take 4 s ≡ start_code picture_start_code
   pub reference : h.temporal_reference ≡ bits_at s 32 10
-  pub type : h.picture_coding_type ≡ CodingType (bits_at s 42 3)
+  pub type : h.picture_coding_type ≡ coding_type (bits_at s 42 3)
   pub type_low : 1 ≤ bits_at s 42 3
   pub type_high : bits_at s 42 3 ≤ 4
   pub delay : h.vbv_delay ≡ bits_at s 45 16

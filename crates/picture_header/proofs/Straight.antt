@@ -23,7 +23,7 @@ use Rattle.bits.proofs.Inside.{bits_inside, bits_four, fields_in, ObeyedIn, read
 use Rattle.picture_header.specs.CodingExtension.{motion_code_fields, motion_codes_fit, coding_fields, picture_structure, coding_extension_of, after_codes, picture_coding_extension}
 use Rattle.picture_header.specs.Steps.{usual_header, usual_coding}
 use Rattle.picture_header.specs.declared.PictureCodingExtension.{PictureCodingExtension}
-use Rattle.picture_header.specs.PictureHeader.{picture_fields, forward, backward, vector_fields, motion_fields, CodingType, extra_at, extra_bit, flag_if, code_if, picture_of, after_delay, picture_header, picture_header_bits, picture_header_bytes}
+use Rattle.picture_header.specs.PictureHeader.{picture_fields, forward, backward, vector_fields, motion_fields, coding_type, extra_at, extra_bit, flag_if, code_if, picture_of, after_delay, picture_header, picture_header_bits, picture_header_bytes}
 use Rattle.picture_header.specs.Facts.{facts_by, facts_of, header_told, picture_told}
 use Rattle.picture_header.specs.declared.PictureCodingType.TheVariants.{Intra, Predictive, Bidirectional, DcIntra}
 use Rattle.picture_header.specs.declared.PictureStructure.TheVariants.{Frame}
@@ -45,7 +45,7 @@ code_inside s x l b h e =
 
 -- the first flag of the extra information is one of the last 11 of them
 pub first_range : (t k : ℕ) → k ≡ extra_bit t → (61 ≤ k) × (k ≤ 69)
-first_range t k e = rw (e, extra_bit_type t) (flag_bit_range (CodingType t))
+first_range t k e = rw (e, extra_bit_type t) (flag_bit_range (coding_type t))
 
 -- the motion vectors' fields that a type has obey their rules, and those that it has not do not matter
 motion_obeyed : (t w : ℕ) → ObeyedIn (motion_fields t) w 11
@@ -154,8 +154,8 @@ coding_nine s x a =
     omega (arith, read_room coding_fields s 52 p.vs (omega (arith, l, motion_code_bits)) p.rest, coding_bits)
 
 -- types 1 to 3 are not D pictures'
-not_dc : (t : ℕ) → 1 ≤ t → t ≤ 3 → CodingType t ≡ DcIntra → ⊥
-unfolding CodingType pick
+not_dc : (t : ℕ) → 1 ≤ t → t ≤ 3 → coding_type t ≡ DcIntra → ⊥
+unfolding coding_type pick
 not_dc t l h e = case (eqb t 1) (eqb t 2) (eqb t 3) refl refl refl
   where
     case : (a b d : Bool) → eqb t 1 ≡ a → eqb t 2 ≡ b → eqb t 3 ≡ d → ⊥
@@ -166,7 +166,7 @@ not_dc t l h e = case (eqb t 1) (eqb t 2) (eqb t 3) refl refl refl
 
 -- what such a header tells
 module _ (s : List ℕ) (byte : (k : ℕ) → get_or s k 0 < 256) (n w : ℕ) (d : n ≡ bits_at s 0 32) (e : w ≡ bits_at s 32 40) where
-  pub told_straight : 9 ≤ length s → usual_header n w ≡ true → value (w / 2 ^ 11 % 65536, facts_by (CodingType (w / 2 ^ 27 % 8)) Frame false false) ≡ header_told s
+  pub told_straight : 9 ≤ length s → usual_header n w ≡ true → value (w / 2 ^ 11 % 65536, facts_by (coding_type (w / 2 ^ 27 % 8)) Frame false false) ≡ header_told s
   unfolding header_told picture_of
   told_straight long usual = rw (← header_straight s long byte n w d e usual)
 
@@ -175,7 +175,7 @@ module _ (s : List ℕ) (byte : (k : ℕ) → get_or s k 0 < 256) (n w : ℕ) (d
       → (m x : ℕ) → m ≡ bits_at s (8 * k) 32 → x ≡ bits_at s (8 * (k + 4)) 40 → usual_coding m x ≡ true
       → value (
         w / 2 ^ 11 % 65536,
-        facts_by (CodingType (w / 2 ^ 27 % 8)) (picture_structure (x / 2 ^ 16 % 4)) (eqb (x / 2 ^ 9 % 2) 1) (eqb (x / 2 ^ 15 % 2) 1),
+        facts_by (coding_type (w / 2 ^ 27 % 8)) (picture_structure (x / 2 ^ 16 % 4)) (eqb (x / 2 ^ 9 % 2) 1) (eqb (x / 2 ^ 15 % 2) 1),
       )
       ≡ picture_told s
   unfolding usual_header picture_told facts_of picture_of coding_extension_of picture_header_bytes picture_header_bits

@@ -38,8 +38,8 @@ unfoldable pub motion_fields : ℕ → List Field
 motion_fields t = vector_fields (forward t) ++ vector_fields (backward t)
 
 -- Table 6-12
-unfoldable pub CodingType : ℕ → PictureCodingType
-CodingType t = pick (eqb t 1) Intra (pick (eqb t 2) Predictive (pick (eqb t 3) Bidirectional DcIntra))
+unfoldable pub coding_type : ℕ → PictureCodingType
+coding_type t = pick (eqb t 1) Intra (pick (eqb t 2) Predictive (pick (eqb t 3) Bidirectional DcIntra))
 
 -- while extra_bit_picture is 1, eight bits of extra_information_picture follow; k of them are still to be passed over. How many bytes that is; or the bits end first (1)
 unfoldable pub extra : ℕ → List ℕ → Answer ℕ
@@ -66,7 +66,7 @@ code_if b v = pick b (SomeCode v) NoCode
 unfoldable pub picture_of : List ℕ → List ℕ → ℕ → Mpeg2PictureHeader
 picture_of h m n = record {
   temporal_reference = get_or h 0 0;
-  picture_coding_type = CodingType (get_or h 1 0);
+  picture_coding_type = coding_type (get_or h 1 0);
   vbv_delay = get_or h 2 0;
   full_pel_forward_vector = flag_if (forward (get_or h 1 0)) (get_or m 0 0);
   fwd_f_code = code_if (forward (get_or h 1 0)) (get_or m 1 0);

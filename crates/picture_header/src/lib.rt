@@ -7,7 +7,7 @@ ghost use Rattle.bits.specs.Fields.{read_fields};
 ghost use Rattle.bits.specs.Refusals.{value, and_then};
 ghost use Rattle.bits.specs.Answers.{in_places, fields_answer};
 ghost use Rattle.headers.specs.Answers.{header_refusal};
-ghost use Rattle.picture_header.specs.PictureHeader.{CodingType, motion_fields, extra_bit, extra_at, flag_if, code_if, picture_of, after_delay, picture_header, picture_header_bytes, header_length};
+ghost use Rattle.picture_header.specs.PictureHeader.{coding_type, motion_fields, extra_bit, extra_at, flag_if, code_if, picture_of, after_delay, picture_header, picture_header_bytes, header_length};
 ghost use Rattle.picture_header.specs.CodingExtension.{picture_structure, picture_coding_extension};
 ghost use Rattle.picture_header.specs.Picture.{picture};
 ghost use Rattle.picture_header.specs.Steps.{usual_header, usual_coding, after_header};
@@ -181,7 +181,7 @@ fn delay_in(w: u64) -> u32
 }
 
 fn coding_type_of(code: u32) -> PictureCodingType
-    ensures { result ≡ CodingType code }
+    ensures { result ≡ coding_type code }
 {
     if code == 1 {
         return PictureCodingType::Intra;
