@@ -5,4 +5,4 @@ use Rattle.layers.proofs.headers_fit.Goals as goal
 
 pub returns : goal.returns
 unfolding headers_fit in_set
-returns c = rw (codes_from-zero c.args.headers.now, c.opens_headers.ensures, c.all_in_set.ensures, c.ends_prefix_lem.ensures, c.sequence_fits.ensures)
+returns c = rw (codes_from-zero c.args.headers.now, c.opens_headers.ensures, c.all_in_set.ensures, c.ends_prefix.ensures, c.sequence_fits.ensures)

@@ -3,4 +3,4 @@ use Rattle.layers.proofs.layer_fits.Goals as goal
 
 pub returns : goal.returns
 unfolding layer_fits
-returns c = rw (c.header_fits.ensures, c.layer_codes.ensures, c.ends_prefix_lem.ensures)
+returns c = rw (c.header_fits.ensures, c.layer_codes.ensures, c.ends_prefix.ensures)

@@ -9,4 +9,4 @@ returns-then-placed c = rw (c.if-placed.true, codes_from-zero c.args.headers.now
 
 pub returns : goal.returns
 unfolding sequence_fits
-returns c = rw (c.if-placed.false, c.sequence_first_lem.ensures, c.declares.ensures)
+returns c = rw (c.if-placed.false, c.sequence_first.ensures, c.declares.ensures)
