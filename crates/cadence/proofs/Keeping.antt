@@ -1,7 +1,7 @@
 -- What a cadence keeps: film or not, always; outside film nothing else.
 -- Assumes nothing.
 use mathlib.Core.Path.{◌≡◌, refl}
-use mathlib.Core.Bool.{Bool, true, false, not, ◌&&◌}
+use mathlib.Core.Bool.{Bool, true, false, not}
 use borrow.Author.Tests.{not-true}
 use Rattle.bits.proofs.Flags.{both_true}
 use mathlib.Core.List.{List, [], ◌∷◌}

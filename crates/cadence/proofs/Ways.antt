@@ -1,6 +1,6 @@
 -- The ways through the two functions, each from what the code's tests give.
 -- Assumes nothing.
-use mathlib.Core.Path.{◌≡◌, refl, sym}
+use mathlib.Core.Path.{◌≡◌}
 use mathlib.Core.Bool.{Bool, true, false, not, ◌&&◌}
 use Rattle.bits.specs.Bits.{pick}
 use Rattle.vbv.specs.declared.RemovalInterval.{RemovalInterval}

@@ -20,7 +20,7 @@ use Rattle.pictures.specs.declared.VbvStandard.{VbvStandard}
 use Rattle.pictures.specs.declared.VbvStandard.TheVariants.{Mpeg1, Mpeg2}
 use Rattle.picture_header.specs.declared.PictureFacts.{PictureFacts}
 use Rattle.pictures.specs.declared.SeenPicture.{SeenPicture}
-use Rattle.pictures.proofs.Seeing.{seen_from, seen_from_first, before, Onward, no_more, unread, one_more_lem, onward}
+use Rattle.pictures.proofs.Seeing.{seen_from, seen_from_first, before, Onward, no_more, unread, one_more, onward}
 
 -- ---- the steps
 
@@ -38,14 +38,14 @@ module _ (standard : VbvStandard) (s : List ℕ) (short : 8 * length s ≤ farth
       go : (o : Answer Sight) → next_seen standard s i ≡ o → Onward standard s i o → Visits standard s i (seen_from standard s i)
       go (value nothing) e (no_more h) = rw h (ended e)
       go (refused m j c d) e (unread h) = rw h (stopped e)
-      go (value (one x k)) e (one_more_lem l m h) = absurd (omega arith)
+      go (value (one x k)) e (one_more l m h) = absurd (omega arith)
   visits (suc n) i b = go (λ k l. visits n k l) (next_seen standard s i) refl (onward standard s short i)
     where
       go : ((k : ℕ) → length s ≤ n + k → Visits standard s k (seen_from standard s k)) → (o : Answer Sight) → next_seen standard s i ≡ o → Onward standard s i o
           → Visits standard s i (seen_from standard s i)
       go ih (value nothing) e (no_more h) = rw h (ended e)
       go ih (refused m j c d) e (unread h) = rw h (stopped e)
-      go ih (value (one x k)) e (one_more_lem l m h) = rw h (goes_on e (seen_from standard s k) (ih k (omega arith)))
+      go ih (value (one x k)) e (one_more l m h) = rw h (goes_on e (seen_from standard s k) (ih k (omega arith)))
 
 pub steps_give : StepsGivePictures
 steps_give standard s short = rw (seen_from_first standard s) at (visits standard s short (length s) 0 (omega arith))

@@ -6,6 +6,9 @@ use Rattle.pictures.specs.Cadence.{opened_at, cadence_of}
 use Rattle.pictures.proofs.Cadences.{plain_of}
 use Rattle.pictures.proofs.cadence_opened.cadence_of.Goals as goal
 
+pub slice_bounds-cadence_by-start : goal.slice_bounds-cadence_by-start
+slice_bounds-cadence_by-start c = omega (arith, first_inside _ _ _ (sym c.first_sequence.ensures ∙ c.in-At.is))
+
 pub slice_bounds-cadence_by-count : goal.slice_bounds-cadence_by-count
 slice_bounds-cadence_by-count c = omega (arith, first_inside _ _ _ (sym c.first_sequence.ensures ∙ c.in-At.is))
 
