@@ -15,7 +15,7 @@ use Rattle.bits.proofs.Following.{refused-value}
 use Rattle.vbv.specs.declared.VbvParams.{VbvParams}
 use Rattle.pictures.specs.Sequence.{declared}
 use Rattle.pictures.specs.Seen.{seen_pictures}
-use Rattle.pictures.specs.Front.{Front, with_first, opening, front}
+use Rattle.pictures.specs.Front.{with_first, opening, front}
 use Rattle.pictures.specs.Due as due
 use Rattle.pictures.specs.Due.{Read, FrontDue, FrontIsDue}
 use Rattle.pictures.specs.declared.VbvStandard.{VbvStandard}

@@ -15,7 +15,7 @@ use Rattle.scan.specs.Order as scanned
 use Rattle.scan.specs.Order.{InOrder}
 use Rattle.scan.proofs.Pictures.{in_order}
 use Rattle.pictures.specs.Seen.{shown, seen_of, seen_at, seen_each, seen_pictures, Sight, next_seen, nothing, one}
-use Rattle.pictures.specs.Order.{Visits, ended, stopped, went_on, stopped_later, StepsGivePictures, Placed, Rising, last, next, SeenRising}
+use Rattle.pictures.specs.Order.{Visits, ended, stopped, went_on, stopped_later, StepsGivePictures, Rising, last, next, SeenRising}
 use Rattle.pictures.specs.declared.VbvStandard.{VbvStandard}
 use Rattle.pictures.specs.declared.VbvStandard.TheVariants.{Mpeg1, Mpeg2}
 use Rattle.picture_header.specs.declared.PictureFacts.{PictureFacts}

@@ -1,4 +1,3 @@
-use Rattle.cadence.specs.Cadence.{opened}
 use Rattle.pictures.specs.Cadence.{cadence_by}
 use Rattle.pictures.proofs.Cadences.{plain_by}
 use Rattle.pictures.proofs.cadence_opened.cadence_by.Goals as goal
