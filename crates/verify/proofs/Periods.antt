@@ -47,9 +47,9 @@ paired : {v : Bool} {p : VbvParams} {previous d : ℕ} {standard : VbvStandard} 
     → Along v p (Conforms v p) previous d (timed k xs) rs → Paired standard xs rs
 unfolding timed
 paired k [] z f ac.none = none
-paired k (x ∷ xs) z f (ac.more w t) =
+paired {v} {p} {previous} {d} {standard} k (x ∷ xs) z f (ac.more {c = c} {rs = rs} w t) =
     more (lasts (λ e. first_frame (f e)) (periods_are w ∙ ap periods (outside_film.as_before k x.facts z)))
-    (paired (after k x.facts) xs (rw (film_kept k x.facts) z) (λ e. other_frames (f e)) t)
+    (paired {v = v} {p = p} {previous = c.end_bits} {d = arrived v p c.end_bits d (periods c.interval)} {standard = standard} (after k x.facts) xs (rw (film_kept k x.facts) z) (λ e. other_frames (f e)) t)
 
 frames_in : (standard : VbvStandard) (s : List ℕ) (xs : List SeenPicture) → seen_pictures standard s ≡ value xs → standard ≡ Mpeg1 → Frames xs
 frames_in standard s xs h e = all_frames s xs (rw e at h)

@@ -74,13 +74,6 @@ module _ {W : Type 0} (next : W → W × VbvPictureRecord) where
 
 -- ---- a step of the walk
 
-pub last_other : (st : Progress) → ((m : VbvCbrModel) (r : VbvPictureRecord) (l g : ℕ) → st ≡ Running m r l g → ⊥) → no_record ≡ last_of st
-unfolding last_of
-last_other Fresh h = refl
-last_other (Unmodelled e) h = refl
-last_other (Running m r l g) h = absurd (h m r l g refl)
-last_other (Stopped e) h = refl
-
 pub step-one : (s : List ℕ) (w : Walker) (x : SeenPicture) (next : ℕ) → next_seen w.standard s w.at ≡ value (one x next) → next_step s w ≡ stepped_by w (one x next)
 unfolding next_step
 step-one s w x next e = rw e

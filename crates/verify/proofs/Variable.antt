@@ -11,8 +11,8 @@ use Rattle.bits.specs.Numbers.{one_of, Numbered, a_value, by_number, by_picture,
 use Rattle.bits.specs.Refusals.{Answer, value, refused, and_then, number}
 use Rattle.bits.proofs.Flags.{both_true, pick_elim}
 use Rattle.bits.proofs.Following.{refused-value}
-use Rattle.vbv.specs.Annex.{full, occupancy}
-use Rattle.vbv.specs.Model.{params_in_range}
+use Rattle.vbv.specs.Annex.{full, occupancy, arrived}
+use Rattle.vbv.specs.Model.{params_in_range, periods}
 use Rattle.vbv.specs.declared.VbvParams.{VbvParams}
 use Rattle.vbv.proofs.Arrival.{full_is, first_full_lem}
 use Rattle.vbv.proofs.Laws.{units_over, units_beyond, occupancy-most_in, occupancy-least_in}
@@ -44,7 +44,8 @@ all_untimed : {p : VbvParams} {previous d : ℕ} (k : VbvCadence) (xs : List See
     → Along true p (Conforms true p) previous d (timed k xs) rs → AllUntimed rs
 unfolding timed
 all_untimed k [] h ac.none = none
-all_untimed k (x ∷ xs) h (ac.more w t) = let a = record_untimed w in more (a.0 ∙ h.0) a.1 (all_untimed (after k x.facts) xs h.1 t)
+all_untimed {p} k (x ∷ xs) h (ac.more {d = d} {c = c} w t) =
+    let a = record_untimed w in more (a.0 ∙ h.0) a.1 (all_untimed {p = p} {previous = c.end_bits} {d = arrived true p c.end_bits d (periods c.interval)} (after k x.facts) xs h.1 t)
 
 -- ---- 10
 

@@ -22,7 +22,7 @@ fn take(model: VbvCbrModel, coded: CodedPicture) -> Removed
 
 // Before the first removal. No occupancy is above B.
 fn fill(params: VbvParams, coded: CodedPicture) -> BeforeRemoval
-    ensures { flowed coded «r» ≡ first_taken params coded }
+    ensures { flowed coded result ≡ first_taken params coded }
 {
     match vbr::new(params) {
         VbvModel::Refused(unfit) => BeforeRemoval::Stays(Progress::Unmodelled(VbvVerifyError::Model(
@@ -38,8 +38,9 @@ fn fill(params: VbvParams, coded: CodedPicture) -> BeforeRemoval
 }
 
 // Before a picture's removal.
+#[tactic(auto, unfolding(crate::specs::Steps::flowed_from, crate::specs::Steps::flowed))]
 fn before_taking(progress: Progress, params: VbvParams, coded: CodedPicture) -> BeforeRemoval
-    ensures { flowed coded «r» ≡ flowed_from params progress coded }
+    ensures { flowed coded result ≡ flowed_from params progress coded }
 {
     match progress {
         Progress::Fresh => fill(params, coded),
@@ -55,6 +56,7 @@ fn before_taking(progress: Progress, params: VbvParams, coded: CodedPicture) -> 
 }
 
 // The progress after one more picture. Another delay than 0xFFFF comes before all that was found so far.
+#[tactic(auto, unfolding(crate::specs::Steps::advanced, crate::specs::Steps::flowed, bits::specs::Bits::pick))]
 pub(crate) fn flow_on(progress: Progress, params: VbvParams, coded: CodedPicture) -> Progress
     ensures { result ≡ advanced true params progress coded }
 {

@@ -16,7 +16,8 @@ pub fn verify_cbr_stream(
     standard: VbvStandard,
     records: &mut [VbvPictureRecord],
 ) -> VbvVerified
-    ensures { (verified_answer result ≡ reported (verdict (plain_of standard) stream.now (length records.old))) × (records.new ≡ over (records_of (verdict (plain_of standard) stream.now (length records.old))) records.old) }
+    ensures result_value { verified_answer result ≡ reported (verdict (plain_of standard) stream.now (length records.old)) }
+    ensures records_after { records.new ≡ over (records_of (verdict (plain_of standard) stream.now (length records.old))) records.old }
 {
     let answer = check_stream(stream, standard, records.len());
     let count = record_count(answer);

@@ -126,6 +126,7 @@ enum Walked {
 }
 
 // Film and a variable rate.
+#[tactic(auto, unfolding(crate::specs::Mode::has_modes))]
 fn has_modes(standard: VbvStandard) -> bool
     ensures { result ≡ has_modes standard }
 {
@@ -148,6 +149,7 @@ impl VbvMode {
     }
 
     // Whether there is this mode.
+    #[tactic(auto, unfolding(crate::specs::Mode::mode_fits, bits::specs::Bits::pick))]
     pub fn fits(self) -> bool
         ensures { result ≡ mode_fits self }
     {

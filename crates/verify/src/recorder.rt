@@ -26,6 +26,7 @@ pub(crate) struct VbvRecorded {
 }
 
 // How many records an answer has.
+#[tactic(auto, unfolding(crate::specs::Steps::record_count))]
 pub(crate) fn record_count(answer: VbvVerified) -> usize
     ensures { result ≡ record_count answer }
 {
@@ -35,6 +36,7 @@ pub(crate) fn record_count(answer: VbvVerified) -> usize
     }
 }
 
+#[tactic(auto, unfolding(crate::specs::Steps::no_record))]
 fn no_record() -> VbvPictureRecord
     ensures { result ≡ no_record }
 {
@@ -48,6 +50,7 @@ fn no_record() -> VbvPictureRecord
 }
 
 // The last removal's record.
+#[tactic(auto, unfolding(crate::specs::Steps::last_of))]
 pub(crate) fn last_of(progress: Progress) -> VbvPictureRecord
     ensures { result ≡ last_of progress }
 {
@@ -65,6 +68,7 @@ pub(crate) fn last_of(progress: Progress) -> VbvPictureRecord
 
 impl VbvRecorder {
     // Before the first picture.
+    #[tactic(auto, unfolding(crate::specs::Steps::recorder_of))]
     pub(crate) fn new(stream: &[u8], standard: VbvStandard) -> VbvRecorder
         ensures { result ≡ recorder_of standard (opening_of standard stream.now) }
     {
@@ -93,6 +97,7 @@ impl VbvRecorder {
     }
 
     // No picture comes next.
+    #[tactic(auto, unfolding(crate::specs::Steps::stayed))]
     fn stay(self) -> VbvRecorded
         ensures { result ≡ stayed self }
     {
@@ -103,6 +108,7 @@ impl VbvRecorder {
     }
 
     // After a picture whose data end at the code at `at`, or at the stream's end.
+    #[tactic(auto, unfolding(crate::specs::Steps::went_on))]
     fn go_on(self, at: usize, progress: Progress) -> VbvRecorded
         ensures { result ≡ went_on self at progress }
     {

@@ -24,6 +24,7 @@ fn put_record(out: &mut [u8], at: usize, record: VbvPictureRecord)
 }
 
 // The record after picture i, where it is one of the first `count`, at its place.
+#[tactic(auto, unfolding(crate::specs::Steps::stored_next, bits::specs::Bits::pick))]
 pub(crate) fn put_next(out: &mut [u8], count: usize, i: usize, progress: Progress)
     requires { record_size * count ≤ length out.old }
     ensures { out.new ≡ stored_next count i progress out.old }

@@ -89,6 +89,7 @@ fn walk_front(
 }
 
 // A refusal of the front among those of the check.
+#[tactic(auto, unfolding(crate::specs::Steps::unread_error))]
 fn unread_error(error: Unread) -> VbvVerifyError
     ensures { result ≡ unread_error error }
 {
@@ -101,6 +102,7 @@ fn unread_error(error: Unread) -> VbvVerifyError
 }
 
 // An answer for which the record places are asked first.
+#[tactic(auto, unfolding(crate::specs::Steps::if_placed, bits::specs::Bits::pick))]
 fn if_placed(n: usize, places: usize, answer: VbvVerified) -> VbvVerified
     ensures { result ≡ if_placed n places answer }
 {
@@ -111,6 +113,7 @@ fn if_placed(n: usize, places: usize, answer: VbvVerified) -> VbvVerified
 }
 
 // A refusal of the run comes after every other one.
+#[tactic(auto, unfolding(crate::specs::Steps::judgement, crate::specs::Steps::judged_as))]
 fn judge(walked: Walked, places: usize) -> VbvVerified
     ensures { result ≡ judgement places walked }
 {

@@ -34,6 +34,7 @@ fn greatest_of(a: u64, b: u64) -> u64
 }
 
 // Whether two delays differ by more than one tick.
+#[tactic(auto, unfolding(crate::specs::Run::apart))]
 fn are_apart(coded: u16, expected: u16) -> bool
     ensures { result ≡ apart coded expected }
 {
@@ -43,6 +44,7 @@ fn are_apart(coded: u16, expected: u16) -> bool
 }
 
 // A violation with the delays that the model does not know.
+#[tactic(auto, unfolding(crate::specs::Steps::with_delays))]
 fn with_delays(violation: VbvViolation, coded: u16, expected: u16) -> VbvViolation
     ensures { result ≡ with_delays coded expected violation }
 {
@@ -78,6 +80,7 @@ fn with_delays(violation: VbvViolation, coded: u16, expected: u16) -> VbvViolati
 }
 
 // The record of a removal, and the model after it.
+#[tactic(auto, unfolding(crate::specs::Steps::recorded_if))]
 pub(crate) fn recorded(
     model: VbvCbrModel,
     coded: CodedPicture,
@@ -142,6 +145,7 @@ fn remove(model: VbvCbrModel, coded: CodedPicture) -> Removed
 }
 
 // The progress after a removal.
+#[tactic(auto, unfolding(crate::specs::Steps::progressed, crate::specs::Run::occupancy_after))]
 pub(crate) fn go_on(removed: Removed, least: u64, greatest: u64) -> Progress
     ensures { result ≡ progressed least greatest «removed» }
 {
@@ -161,7 +165,7 @@ pub(crate) fn go_on(removed: Removed, least: u64, greatest: u64) -> Progress
 
 // Before the first removal. No occupancy is above B.
 fn begin(params: VbvParams, coded: CodedPicture) -> BeforeRemoval
-    ensures { gone_on coded «r» ≡ first_removed params coded }
+    ensures { gone_on coded result ≡ first_removed params coded }
 {
     if coded.vbv_delay == 0xFFFF {
         return BeforeRemoval::Stays(Progress::Unmodelled(VbvVerifyError::VariableRate));
@@ -180,8 +184,9 @@ fn begin(params: VbvParams, coded: CodedPicture) -> BeforeRemoval
 }
 
 // Before a picture's removal.
+#[tactic(auto, unfolding(crate::specs::Steps::gone_on_from, crate::specs::Steps::gone_on))]
 fn before_removal(progress: Progress, params: VbvParams, coded: CodedPicture) -> BeforeRemoval
-    ensures { gone_on coded «r» ≡ gone_on_from params progress coded }
+    ensures { gone_on coded result ≡ gone_on_from params progress coded }
 {
     match progress {
         Progress::Fresh => begin(params, coded),
@@ -209,6 +214,7 @@ fn coded_picture(interval: RemovalInterval, seen: SeenPicture) -> CodedPicture
 }
 
 // The progress after one more picture.
+#[tactic(auto, unfolding(crate::specs::Steps::advanced, crate::specs::Steps::gone_on))]
 pub(crate) fn advance(
     progress: Progress,
     params: VbvParams,

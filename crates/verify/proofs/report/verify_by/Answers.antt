@@ -9,18 +9,18 @@ use Rattle.verify.proofs.report.verify_by.Goals as goal
 pub walk_front-requires : goal.walk_front-requires
 walk_front-requires c =
     let v = ap verified_answer c.judge-answer.ensures ∙ judgement_is _ _ _ _ _ c.walk_front-walked.result c.walk_front-walked.ensures.result_value in
-    rw c.record_count-count.ensures
-    (count_fits c.args.records.now (recorded_by_lem _ _ _ _ _ _ v), rw (← c.walk_front-walked.ensures.result_value, c.judge-answer.ensures) (few_judged _ c.walk_front-walked.result))
+    record {
+      count_in_bounds = rw c.record_count-count.ensures (count_fits c.args.records.now (recorded_by_lem _ _ _ _ _ _ v));
+      count_bound = rw (c.record_count-count.ensures, ← c.walk_front-walked.ensures.result_value, c.judge-answer.ensures) (few_judged _ c.walk_front-walked.result);
+    }
 
 pub returns-then-count-gt0 : goal.returns-then-count-gt0
 returns-then-count-gt0 c =
     let v = ap verified_answer c.judge-answer.ensures ∙ judgement_is _ _ _ _ _ c.walk_front-walked.result c.walk_front-walked.ensures.result_value in
-    let both = (v, stored_is c.args.records.now (recorded_by_lem _ _ _ _ _ c.judge-answer.result v) (rw c.record_count-count.ensures at c.walk_front.ensures.out_after)) in
-    record { result_value = both.0; records_after = both.1 }
+    record { result_value = v; records_after = stored_is c.args.records.now (recorded_by_lem _ _ _ _ _ c.judge-answer.result v) (rw c.record_count-count.ensures at c.walk_front.ensures.out_after) }
 
 pub returns-else-count-gt0 : goal.returns-else-count-gt0
 returns-else-count-gt0 c =
     let v = ap verified_answer c.judge-answer.ensures ∙ judgement_is _ _ _ _ _ c.walk_front-walked.result c.walk_front-walked.ensures.result_value in
     let z : c.record_count-count.result ≡ 0 = omega arith in
-    let both = (v, stored_is c.args.records.now (recorded_by_lem _ _ _ _ _ c.judge-answer.result v) (rw (← c.record_count-count.ensures, z, after_none _ _ _ _ _) (none_stored _))) in
-    record { result_value = both.0; records_after = both.1 }
+    record { result_value = v; records_after = stored_is c.args.records.now (recorded_by_lem _ _ _ _ _ c.judge-answer.result v) (rw (← c.record_count-count.ensures, z, after_none _ _ _ _ _) (none_stored _)) }
