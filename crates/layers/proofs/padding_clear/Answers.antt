@@ -6,6 +6,9 @@ use Rattle.layers.proofs.padding_clear.Goals as goal
 pub overflow_add-last : goal.overflow_add-last
 overflow_add-last c = omega (arith, extra-room _ _ c.requires)
 
+pub slice_bounds-read_bits-start : goal.slice_bounds-read_bits-start
+slice_bounds-read_bits-start c = omega (arith, extra-room _ _ c.requires)
+
 pub slice_bounds-read_bits-count : goal.slice_bounds-read_bits-count
 slice_bounds-read_bits-count c = omega (arith, extra-room _ _ c.requires)
 
