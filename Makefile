@@ -11,7 +11,7 @@ CFLAGS = -std=c99 $(WARNINGS) -O2 -Iinclude
 LIB = target/staticlib/libhipokuta.a
 # The searches for start codes by themselves, for oracle/scans and bench/run.
 SEARCHES = target/staticlib/libsearches.a
-PROVED = $(shell find crates crates.txt -name '*.rt' -o -name '*.antt' -o -name crates.txt)
+PROVED = $(shell find crates crates.txt -name out -prune -o \( -name '*.rt' -o -name '*.antt' -o -name crates.txt \) -print)
 HEADERS = include/hipokuta.h $(wildcard tools/*.h tests/c/*.h)
 VERSION = $(shell sed -n 's/^.define HIPOKUTA_VERSION "\(.*\)"$$/\1/p' include/hipokuta.h)
 
@@ -53,8 +53,11 @@ all: $(LIB) $(TOOLS)
 test-c: $(TESTS)
 sanitized: $(SANITIZED)
 
-$(LIB) $(SEARCHES): $(PROVED)
-	rt staticlib $(@:target/staticlib/lib%.a=%)
+# Each of the thin crate that gives the library of its name to C.
+$(LIB) $(SEARCHES): target/staticlib/lib%.a: $(PROVED)
+	@mkdir -p $(@D)
+	cd crates/$*_c && rt lib
+	cp crates/$*_c/out/lib$*_c.a $@
 
 # The programs that stand in README.md, the first and the second.
 target/tests/readme_check.c: nth = 1

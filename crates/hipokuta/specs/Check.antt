@@ -13,7 +13,7 @@ use Rattle.verify.specs.declared.VbvStreamReport.{VbvStreamReport}
 use Rattle.words.specs.Words.{words_bytes, laid}
 use Rattle.layout.specs.Mode.{is_mode, mode_for}
 use Rattle.layout.specs.Answers.{report_size, refusal_size, report_words, refusal_words}
-use Rattle.hipokuta.specs.Lent.{Slice}
+use Rattle.hipokuta.specs.Lent.{Slice, MutSlice}
 
 -- of a stream, the mode's number and the places for report, records and refusal
 unfoldable pub checked : List ℕ → ℕ → List ℕ → List ℕ → List ℕ → Answer Accepted
@@ -23,7 +23,7 @@ checked s mode report recs refusal =
     (verdict (mode_for mode) s (length recs / record_size)))
 
 -- by what the slices hold when `vbv_check` is called
-abbrev pub checked_in : Slice → ℕ → Slice → Slice → Slice → Answer Accepted
+abbrev pub checked_in : Slice → ℕ → MutSlice → MutSlice → MutSlice → Answer Accepted
 checked_in stream mode report recs refusal = checked stream.entry.now mode report.entry.now recs.entry.now refusal.entry.now
 
 -- of a stream, the mode's number and the places for report and refusal; as many record places as the stream has pictures
@@ -34,7 +34,7 @@ report_alone s mode report refusal =
     (reported (verdict (mode_for mode) s (length (pictures s)))))
 
 -- by what the slices hold when `vbv_report` is called
-abbrev pub report_alone_in : Slice → ℕ → Slice → Slice → Answer VbvStreamReport
+abbrev pub report_alone_in : Slice → ℕ → MutSlice → MutSlice → Answer VbvStreamReport
 report_alone_in stream mode report refusal = report_alone stream.entry.now mode report.entry.now refusal.entry.now
 
 -- the places afterwards; a refusal place that is too short is left alone

@@ -18,7 +18,7 @@ use Rattle.words.specs.Words.{words_bytes, laid}
 use Rattle.layout.specs.Config.{config_size, has_mode, config_in}
 use Rattle.layout.specs.State.{state_size, state_bytes, state_fits, writer_at}
 use Rattle.layout.specs.Answers.{answer_size, answer_words}
-use Rattle.hipokuta.specs.Lent.{Slice}
+use Rattle.hipokuta.specs.Lent.{Slice, MutSlice}
 
 -- the place of a state afterwards: the new writer's state over its first bytes; as it was beside a refusal
 unfoldable pub state_after : Answer CbrWriter → List ℕ → List ℕ
@@ -66,7 +66,7 @@ pub record COffer : Type 0 where
   pub answer : List ℕ
 
 -- by what the slices hold when `cbr_offer` is called
-abbrev pub brought : Slice → ℕ → ℕ → ℕ → Slice → Slice → Slice → COffer
+abbrev pub brought : Slice → ℕ → ℕ → ℕ → Slice → MutSlice → MutSlice → COffer
 brought headers kind interval last layer out answer = record {
   headers = headers.entry.now;
   kind = kind;

@@ -9,4 +9,4 @@ mod send; // the writer
 pub use crate::check::vbv_check;
 pub use crate::patch::vbv_patch_delay;
 pub use crate::report::vbv_report;
-pub use crate::send::{cbr_create, cbr_offer, cbr_withdraw};
+pub use crate::send::{cbr_create, cbr_create_config, cbr_offer, cbr_withdraw};

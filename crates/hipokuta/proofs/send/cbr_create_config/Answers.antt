@@ -1,25 +1,26 @@
-use native.Mathlib.Omega.{arith}
-use mathlib.Core.Path.{ap, ◌∙◌}
+use Rattle.std.proofs.Common.{ap, ◌∙◌, arith}
 use Rattle.layout.specs.Mode.{is_mode}
 use Rattle.hipokuta.proofs.Sending.{config_short, no_place-with, other_mode, created-with}
 use Rattle.hipokuta.proofs.send.cbr_create_config.Goals as goal
 
 pub returns-then-config-lt-CONFIG_BYTES : goal.returns-then-config-lt-CONFIG_BYTES
 returns-then-config-lt-CONFIG_BYTES c =
-    let both = config_short _ _ (omega arith) in
-    record { value = both.0; state_after = both.1 }
+    let t = config_short c.args.config.now c.args.state.now (omega arith) in
+    record { value = t.0; state_after = t.1 }
 
 pub returns-then-state-lt-STATE_BYTES : goal.returns-then-state-lt-STATE_BYTES
 returns-then-state-lt-STATE_BYTES c =
-    let both = no_place-with _ _ (omega arith) (omega arith) in
-    record { value = both.0; state_after = both.1 }
+    let t = no_place-with c.args.config.now c.args.state.now (omega arith) (omega arith) in
+    record { value = t.0; state_after = t.1 }
 
 pub returns-then-is_mode : goal.returns-then-is_mode
 returns-then-is_mode c =
-    let both = created-with _ _ (omega arith) (omega arith) _ (c.is_mode.ensures ∙ ap is_mode c.word_at.ensures) c.if-is_mode.true c.create_from.result c.create_from.ensures.result_value _ _ c.put_created.ensures in
-    record { value = both.0; state_after = both.1 }
+    let t = created-with c.args.config.now c.args.state.now (omega arith) (omega arith) _ (c.is_mode.ensures ∙ ap is_mode c.word_at.ensures)
+            c.if-is_mode.true c.create_from.result c.create_from.ensures.result_value
+            _ _ (c.put_created.ensures.value, c.put_created.ensures.state_after) in
+    record { value = t.0; state_after = t.1 }
 
 pub returns : goal.returns
 returns c =
-    let both = other_mode _ _ (omega arith) (omega arith) _ (c.is_mode.ensures ∙ ap is_mode c.word_at.ensures) c.if-is_mode.false in
-    record { value = both.0; state_after = both.1 }
+    let t = other_mode c.args.config.now c.args.state.now (omega arith) (omega arith) _ (c.is_mode.ensures ∙ ap is_mode c.word_at.ensures) c.if-is_mode.false in
+    record { value = t.0; state_after = t.1 }

@@ -3,15 +3,15 @@ use Rattle.hipokuta.proofs.send.cbr_withdraw.Goals as goal
 
 pub returns-in-Withdrawn : goal.returns-in-Withdrawn
 returns-in-Withdrawn c =
-    let both = is_withdrawn _ _ c.read_state-held.ensures c.if-held.true _ c.withdraw-withdrawn.ensures.result_value c.put_state.ensures c.in-Withdrawn.is in
-    record { value = both.0; state_after = both.1 }
+    let t = is_withdrawn c.args.state.now _ c.read_state-held.ensures c.if-held.true _ c.withdraw-withdrawn.ensures.result_value c.put_state.ensures c.in-Withdrawn.is in
+    record { value = t.0; state_after = t.1 }
 
 pub returns-in-Refused : goal.returns-in-Refused
 returns-in-Refused c =
-    let both = not_withdrawn _ _ c.read_state-held.ensures c.if-held.true _ c.withdraw-withdrawn.ensures.result_value _ c.in-Refused.is in
-    record { value = both.0; state_after = both.1 }
+    let t = not_withdrawn c.args.state.now _ c.read_state-held.ensures c.if-held.true _ c.withdraw-withdrawn.ensures.result_value _ c.in-Refused.is in
+    record { value = t.0; state_after = t.1 }
 
 pub returns : goal.returns
 returns c =
-    let both = no_writer_lem _ _ c.read_state-held.ensures c.if-held.false in
-    record { value = both.0; state_after = both.1 }
+    let t = no_writer_lem c.args.state.now _ c.read_state-held.ensures c.if-held.false in
+    record { value = t.0; state_after = t.1 }

@@ -1,3 +1,4 @@
+use Rattle.std.proofs.Common.{◌≢◌, arith}
 use borrow.Author.Tests.{ne_eqb}
 use Rattle.bits.specs.Bits.{pick}
 use Rattle.hipokuta.specs.Send.{kind_for}
@@ -14,5 +15,6 @@ returns-in-1 c = simp c.in-1.is
 pub returns-in_default : goal.returns-in_default
 unfolding kind_for pick
 returns-in_default c =
-    let r = c.in_default.in_default-own.rest in
-    simp (ne_eqb _ _ r.1, ne_eqb _ _ r.0.1)
+    let none : c.args.kind ≢ 0 = omega arith in
+    let one : c.args.kind ≢ 1 = omega arith in
+    simp (ne_eqb _ _ none, ne_eqb _ _ one)

@@ -8,5 +8,4 @@ use Rattle.layout.proofs.config.create_from.Goals as goal
 pub returns : goal.returns
 returns c =
     let e = ap create c.config_at.ensures ∙ narrowed_creates (config_in _) in
-    let both = (c.create.ensures.result_value ∙ e, c.create.ensures.writer_value ∙ ap (or_else no_writer) e) in
-    record { result_value = both.0; writer_value = both.1 }
+    record { result_value = c.create.ensures.result_value ∙ e; writer_value = c.create.ensures.writer_value ∙ ap (or_else no_writer) e }

@@ -1,3 +1,4 @@
+use Rattle.std.proofs.Common.{◌≢◌, arith}
 use borrow.Author.Tests.{ne_eqb}
 use Rattle.bits.specs.Bits.{pick}
 use Rattle.layout.specs.State.{pending_of}
@@ -18,5 +19,7 @@ returns-in-2 c = simp c.in-2.is
 pub returns-in_default : goal.returns-in_default
 unfolding pending_of pick
 returns-in_default c =
-    let r = c.in_default.in_default-own.rest in
-    simp (ne_eqb _ _ r.1, ne_eqb _ _ r.0.1, ne_eqb _ _ r.0.0.1)
+    let none : c.args.code ≢ 0 = omega arith in
+    let one : c.args.code ≢ 1 = omega arith in
+    let two : c.args.code ≢ 2 = omega arith in
+    simp (ne_eqb _ _ none, ne_eqb _ _ one, ne_eqb _ _ two)

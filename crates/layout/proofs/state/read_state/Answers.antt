@@ -1,7 +1,7 @@
-use mathlib.Core.Logic.{⊎_elim}
 use Rattle.layout.proofs.Reading.{few_bits, way_short, way_wide, way_unfit, way_held}
 use borrow.Author.Rules.{rules}
 use Rattle.layout.proofs.state.read_state.Goals as goal
+use Rattle.layout.proofs.state.read_state.Goals.{then-narrow+else-fits, else-narrow}
 
 pub returns-then-place-lt-STATE_BYTES : goal.returns-then-place-lt-STATE_BYTES
 returns-then-place-lt-STATE_BYTES c = search (rules, way_short)
@@ -13,4 +13,4 @@ pub returns-then-fits : goal.returns-then-fits
 returns-then-fits c = search (rules, way_held)
 
 pub returns : goal.returns
-returns c = ⊎_elim (λ w. search (rules, way_unfit)) (λ w. search (rules, way_wide)) c.if-narrow.branch
+returns c = elim c.if-narrow.branch [ then-narrow+else-fits w ↦ search (rules, way_unfit) | else-narrow w ↦ search (rules, way_wide) ]
