@@ -1,7 +1,7 @@
 -- Bytes put one after another, as far as there is room, are those of a run of stores.
 -- Assumes nothing.
 use Rattle.std.proofs.Common.{◌≡◌, ℕ, suc, ◌+◌, ◌<◌, ◌≤◌, min, max, Bool, true, false, ltb, List, [], ◌∷◌, length, get_or, drop, set, sym, refl, ap, ◌∙◌, add-one, arith, length-set, drop-cons, ltb-false, ltb-true}
-use lib.Seq.{sets, set_out, drop-length}
+use Rattle.std.proofs.Math.Seq.{sets, set_out, drop-length}
 
 -- past the end nothing is stored
 sets_out : (l : List ℕ) (i : ℕ) (vs : List ℕ) → length l ≤ i → sets l i vs ≡ l

@@ -5,6 +5,8 @@
 mod parsed; // kinds 1 to 7
 mod written; // kinds 8 to 13
 
+use std::io;
+
 // The answer of a kind to an input, at the start of out: its length, 0 where the case is malformed.
 fn answer(kind: u8, input: &[u8], out: &mut [u8]) -> usize {
     match kind {
@@ -14,15 +16,16 @@ fn answer(kind: u8, input: &[u8], out: &mut [u8]) -> usize {
     }
 }
 
-fn main() {
-    let mut buf = io::large_buffer();
-    let mut out = io::large_buffer();
+fn main(rt: HostRuntime) -> io::Result<()> {
+    let mut buf = [0u8; 65536];
+    let mut out = [0u8; 65536];
     let mut counts = [0u64; cases::COUNTS];
-    let mut case = cases::first(&mut buf, &mut counts);
+    let mut from = rt.stdin();
+    let mut case = cases::first(&mut from, &mut buf, &mut counts)?;
     while 0 < case.left {
         let input = case.input;
         let n = answer(case.kind, &buf[0..input], &mut out);
-        case = cases::next(case, n, &mut buf, &out, &mut counts);
+        case = cases::next(&rt, &mut from, case, n, &mut buf, &out, &mut counts)?;
     }
-    cases::report(&counts);
+    cases::report(&rt, &counts)
 }

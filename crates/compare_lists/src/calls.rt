@@ -46,7 +46,7 @@ struct Head {
 }
 
 // An answer in a number and four words.
-#[derive(Drop)]
+#[derive(Clone, Copy)]
 struct Told {
     number: u8,
     words: [u64; 4],

@@ -5,7 +5,7 @@
 mod calls; // the writer's answers to a list
 
 use calls::{AGAIN, MISSING, PASSED, SET, WITHDRAWN};
-use libc::STDOUT_FILENO;
+use std::io;
 
 // The answer to a list, at the start of out: its length, 0 where the case is of another kind.
 fn answer(kind: u8, input: &[u8], out: &mut [u8], given: &mut [u64]) -> usize {
@@ -15,44 +15,47 @@ fn answer(kind: u8, input: &[u8], out: &mut [u8], given: &mut [u64]) -> usize {
     }
 }
 
-fn print_name(number: u8) -> bool {
+fn print_name(rt: &impl Print, number: u8) -> io::Result<()> {
     match number {
-        0 => io::write_all(STDOUT_FILENO, b"placed"),
-        PASSED => io::write_all(STDOUT_FILENO, b"check passed"),
-        SET => io::write_all(STDOUT_FILENO, b"set by hand"),
-        AGAIN => io::write_all(STDOUT_FILENO, b"again"),
-        WITHDRAWN => io::write_all(STDOUT_FILENO, b"withdrawn"),
-        _ => cases::print(b"refused ", number as u64),
+        0 => rt.print("placed"),
+        PASSED => rt.print("check passed"),
+        SET => rt.print("set by hand"),
+        AGAIN => rt.print("again"),
+        WITHDRAWN => rt.print("withdrawn"),
+        _ => cases::print(rt, "refused ", number as u64),
     }
 }
 
-fn report_number(number: u8, n: u64) {
+fn report_number(rt: &impl Print, number: u8, n: u64) -> io::Result<()> {
     if n != 0 {
-        print_name(number);
-        cases::print(b": ", n);
-        cases::end_line();
+        print_name(rt, number)?;
+        cases::print(rt, ": ", n)?;
+        cases::end_line(rt)?;
     }
+    Ok(())
 }
 
-fn report_numbers(given: &[u64]) {
+fn report_numbers(rt: &impl Print, given: &[u64]) -> io::Result<()> {
     let mut number: u8 = 0;
     while number < MISSING {
-        report_number(number, cases::get(given, number as usize));
+        report_number(rt, number, cases::get(given, number as usize))?;
         number += 1;
     }
+    Ok(())
 }
 
-fn main() {
-    let mut buf = io::large_buffer();
-    let mut out = io::large_buffer();
+fn main(rt: HostRuntime) -> io::Result<()> {
+    let mut buf = [0u8; 65536];
+    let mut out = [0u8; 65536];
     let mut counts = [0u64; cases::COUNTS];
     let mut given = [0u64; MISSING as usize];
-    let mut case = cases::first(&mut buf, &mut counts);
+    let mut from = rt.stdin();
+    let mut case = cases::first(&mut from, &mut buf, &mut counts)?;
     while 0 < case.left {
         let input = case.input;
         let n = answer(case.kind, &buf[0..input], &mut out, &mut given);
-        case = cases::next(case, n, &mut buf, &out, &mut counts);
+        case = cases::next(&rt, &mut from, case, n, &mut buf, &out, &mut counts)?;
     }
-    report_numbers(&given);
-    cases::report(&counts);
+    report_numbers(&rt, &given)?;
+    cases::report(&rt, &counts)
 }

@@ -43,7 +43,7 @@ fn begins(out: &[u8], with: &[u8]) -> bool {
     if out.len() < n {
         return false;
     }
-    check::same(with, &out[0..n])
+    with == &out[0..n]
 }
 
 fn put_verified(out: &mut [u8], verified: VbvVerified) -> usize {

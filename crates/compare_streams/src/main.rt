@@ -6,6 +6,7 @@
 mod checked; // kinds 17, 18 and 20 to 27
 mod model; // kinds 14 to 16
 
+use std::io;
 use verify::{VbvMode, VbvStandard};
 
 // The answer of a kind to an input, at the start of out: its length, 0 where the case is malformed.
@@ -44,15 +45,16 @@ fn of(standard: VbvStandard, film: bool, variable: bool) -> VbvMode {
     }
 }
 
-fn main() {
-    let mut buf = io::large_buffer();
-    let mut out = io::large_buffer();
+fn main(rt: HostRuntime) -> io::Result<()> {
+    let mut buf = [0u8; 65536];
+    let mut out = [0u8; 65536];
     let mut counts = [0u64; cases::COUNTS];
-    let mut case = cases::first(&mut buf, &mut counts);
+    let mut from = rt.stdin();
+    let mut case = cases::first(&mut from, &mut buf, &mut counts)?;
     while 0 < case.left {
         let input = case.input;
         let n = answer(case.kind, &buf[0..input], &mut out);
-        case = cases::next(case, n, &mut buf, &out, &mut counts);
+        case = cases::next(&rt, &mut from, case, n, &mut buf, &out, &mut counts)?;
     }
-    cases::report(&counts);
+    cases::report(&rt, &counts)
 }

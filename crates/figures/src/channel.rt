@@ -4,8 +4,8 @@ use crate::film::facts;
 use cases::put::put_bytes;
 use cases::take::byte;
 use layers::PictureKind;
-use libc::STDOUT_FILENO;
 use rate_control::{CbrAnswer, CbrConfig, CbrWriter};
+use std::io;
 use vbv::RemovalInterval;
 use verify::{VbvMode, VbvRefusal, VbvStandard, VbvVerified};
 
@@ -77,33 +77,34 @@ fn put_layer(layer: &mut [u8], kind: PictureKind, repeat: bool) {
 }
 
 // Offers the picture of a letter: the first, an I, with the headers.
-fn offer(sent: Sent, letter: u8, mark: u8, stream: &mut [u8]) -> Sent {
-    let mut layer = io::large_buffer();
+fn offer(rt: &impl Print, sent: Sent, letter: u8, mark: u8, stream: &mut [u8]) -> io::Result<Sent> {
+    let mut layer = [0u8; 65536];
     let kind = kind(letter);
     let shown = facts(letter, mark);
     put_layer(&mut layer, kind, shown.repeat);
     if sent.at == 0 {
-        return offer_layer(sent, &HEADERS, kind, &layer[0..4021], stream);
+        return offer_layer(rt, sent, &HEADERS, kind, &layer[0..4021], stream);
     }
-    offer_layer(sent, b"", kind, &layer[0..4022], stream)
+    offer_layer(rt, sent, b"", kind, &layer[0..4022], stream)
 }
 
 fn offer_layer(
+    rt: &impl Print,
     sent: Sent,
     headers: &[u8],
     kind: PictureKind,
     layer: &[u8],
     stream: &mut [u8],
-) -> Sent {
+) -> io::Result<Sent> {
     let writer = sent.writer;
     let offered = writer.offer(headers, kind, RemovalInterval::Frame, false, layer, stream);
     let after = offered.writer;
     let answer = offered.answer;
-    told(sent.at, after, answer)
+    told(rt, sent.at, after, answer)
 }
 
 // Prints an answer: delay and stuffing of a placed picture.
-fn told(before: usize, after: CbrWriter, answer: CbrAnswer) -> Sent {
+fn told(rt: &impl Print, before: usize, after: CbrWriter, answer: CbrAnswer) -> io::Result<Sent> {
     match answer {
         CbrAnswer::Placed {
             q: _,
@@ -111,64 +112,64 @@ fn told(before: usize, after: CbrWriter, answer: CbrAnswer) -> Sent {
             bytes,
             stuffing_bytes,
         } => {
-            print_pair(vbv_delay as u64, stuffing_bytes);
-            Sent {
+            print_pair(rt, vbv_delay as u64, stuffing_bytes)?;
+            Ok(Sent {
                 writer: after,
-                at: std::num::wrapping_add_usize(before, bytes as usize),
+                at: before.wrapping_add(bytes as usize),
                 refused: false,
-            }
+            })
         }
-        CbrAnswer::Again(q) => refused(after, q),
+        CbrAnswer::Again(q) => refused(rt, after, q),
         CbrAnswer::Refused(e) => {
             let refusal = e.refusal();
-            refused(after, refusal.number)
+            refused(rt, after, refusal.number)
         }
     }
 }
 
-fn refused(writer: CbrWriter, number: u8) -> Sent {
-    io::write_all(STDOUT_FILENO, b"refused ");
-    io::print_decimal(STDOUT_FILENO, number as u64);
-    io::write_all(STDOUT_FILENO, b"\n");
-    Sent {
+fn refused(rt: &impl Print, writer: CbrWriter, number: u8) -> io::Result<Sent> {
+    rt.print("refused ")?;
+    rt.print(number)?;
+    rt.print("\n")?;
+    Ok(Sent {
         writer,
         at: 0,
         refused: true,
-    }
+    })
 }
 
-fn print_pair(a: u64, b: u64) {
-    io::print_decimal(STDOUT_FILENO, a);
-    io::write_all(STDOUT_FILENO, b" ");
-    io::print_decimal(STDOUT_FILENO, b);
-    io::write_all(STDOUT_FILENO, b"\n");
+fn print_pair(rt: &impl Print, a: u64, b: u64) -> io::Result<()> {
+    rt.print(a)?;
+    rt.print(" ")?;
+    rt.print(b)?;
+    rt.print("\n")
 }
 
 // Offers the next picture, unless one was refused.
-fn step(sent: Sent, letter: u8, mark: u8, stream: &mut [u8]) -> Sent {
+fn step(rt: &impl Print, sent: Sent, letter: u8, mark: u8, stream: &mut [u8]) -> io::Result<Sent> {
     let at = sent.at;
     if sent.refused || stream.len() < at {
-        return sent;
+        return Ok(sent);
     }
-    offer(sent, letter, mark, &mut stream[at..])
+    offer(rt, sent, letter, mark, &mut stream[at..])
 }
 
-fn first_half(fresh: Sent, stream: &mut [u8]) -> Sent {
-    let first = step(fresh, b'I', b'\'', stream);
-    let second = step(first, b'P', b' ', stream);
-    let third = step(second, b'B', b'\'', stream);
-    step(third, b'B', b' ', stream)
+fn first_half(rt: &impl Print, fresh: Sent, stream: &mut [u8]) -> io::Result<Sent> {
+    let first = step(rt, fresh, b'I', b'\'', stream)?;
+    let second = step(rt, first, b'P', b' ', stream)?;
+    let third = step(rt, second, b'B', b'\'', stream)?;
+    step(rt, third, b'B', b' ', stream)
 }
 
-fn second_half(fourth: Sent, stream: &mut [u8]) -> Sent {
-    let fifth = step(fourth, b'P', b'\'', stream);
-    let sixth = step(fifth, b'B', b' ', stream);
-    let seventh = step(sixth, b'B', b'\'', stream);
-    step(seventh, b'P', b' ', stream)
+fn second_half(rt: &impl Print, fourth: Sent, stream: &mut [u8]) -> io::Result<Sent> {
+    let fifth = step(rt, fourth, b'P', b'\'', stream)?;
+    let sixth = step(rt, fifth, b'B', b' ', stream)?;
+    let seventh = step(rt, sixth, b'B', b'\'', stream)?;
+    step(rt, seventh, b'P', b' ', stream)
 }
 
 // Sends the channel by a writer: how many bytes it handed out.
-fn send(film: bool, stream: &mut [u8]) -> usize {
+fn send(rt: &impl Print, film: bool, stream: &mut [u8]) -> io::Result<usize> {
     let created = CbrWriter::create(config(film));
     let writer = created.writer;
     let fresh = Sent {
@@ -176,57 +177,60 @@ fn send(film: bool, stream: &mut [u8]) -> usize {
         at: 0,
         refused: false,
     };
-    let half = first_half(fresh, stream);
-    let whole = second_half(half, stream);
-    whole.at
+    let half = first_half(rt, fresh, stream)?;
+    let whole = second_half(rt, half, stream)?;
+    Ok(whole.at)
 }
 
-fn print_refusal(r: VbvRefusal) {
-    io::write_all(STDOUT_FILENO, b"refused ");
-    print_pair(r.number as u64, r.picture);
-    print_pair(r.coded as u64, r.expected as u64);
+fn print_refusal(rt: &impl Print, r: VbvRefusal) -> io::Result<()> {
+    rt.print("refused ")?;
+    print_pair(rt, r.number as u64, r.picture)?;
+    print_pair(rt, r.coded as u64, r.expected as u64)
 }
 
 // Prints a check's answer: least occupancy after and greatest before; or number, picture, coded and expected delay.
-fn print_verified(verified: VbvVerified) {
+fn print_verified(rt: &impl Print, verified: VbvVerified) -> io::Result<()> {
     match verified {
         VbvVerified::Report(r) => print_pair(
+            rt,
             r.min_occupancy_after_bits,
             r.max_occupancy_before_bits,
         ),
-        VbvVerified::Refused(e) => print_refusal(e.refusal()),
+        VbvVerified::Refused(e) => print_refusal(rt, e.refusal()),
     }
 }
 
 // Prints the periods of two records, which begin at a place.
-fn print_records(records: &[u8], at: u16) {
+fn print_records(rt: &impl Print, records: &[u8], at: u16) -> io::Result<()> {
     let first = 32 + at as usize;
     let second = 72 + at as usize;
-    print_pair(byte(records, first) as u64, byte(records, second) as u64);
+    print_pair(
+        rt,
+        byte(records, first) as u64,
+        byte(records, second) as u64,
+    )
 }
 
-fn print_checks(stream: &[u8]) {
+fn print_checks(rt: &impl Print, stream: &[u8]) -> io::Result<()> {
     let mut records = [0u8; 320];
-    io::write_all(
-        STDOUT_FILENO,
-        b"film check: least after, greatest before; periods\n",
-    );
-    print_verified(verify::verify_in_mode(stream, mode(true), &mut records));
-    print_records(&records, 0);
-    print_records(&records, 80);
-    print_records(&records, 160);
-    print_records(&records, 240);
-    io::write_all(STDOUT_FILENO, b"plain check: picture; coded and expected\n");
-    print_verified(verify::check_in_mode(stream, mode(false), 8));
+    rt.print("film check: least after, greatest before; periods\n")?;
+    print_verified(rt, verify::verify_in_mode(stream, mode(true), &mut records))?;
+    print_records(rt, &records, 0)?;
+    print_records(rt, &records, 80)?;
+    print_records(rt, &records, 160)?;
+    print_records(rt, &records, 240)?;
+    rt.print("plain check: picture; coded and expected\n")?;
+    print_verified(rt, verify::check_in_mode(stream, mode(false), 8))
 }
 
-pub(crate) fn print_channel() {
-    let mut stream = io::large_buffer();
-    io::write_all(STDOUT_FILENO, b"plain writer\n");
-    send(false, &mut stream);
-    io::write_all(STDOUT_FILENO, b"film writer: delay and stuffing\n");
-    let sent = send(true, &mut stream);
+pub(crate) fn print_channel(rt: &impl Print) -> io::Result<()> {
+    let mut stream = [0u8; 65536];
+    rt.print("plain writer\n")?;
+    send(rt, false, &mut stream)?;
+    rt.print("film writer: delay and stuffing\n")?;
+    let sent = send(rt, true, &mut stream)?;
     if sent <= 65536 {
-        print_checks(&stream[0..sent]);
+        print_checks(rt, &stream[0..sent])?;
     }
+    Ok(())
 }

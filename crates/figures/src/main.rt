@@ -11,7 +11,7 @@ use headers::gop_header::{Mpeg2Gop, TimeCode, TimeCodeAnswer};
 use headers::quant_matrix_extension::no_matrix;
 use headers::sequence_extension::ChromaFormat;
 use headers::stream_writer::SequenceHeaderParams;
-use libc::STDOUT_FILENO;
+use std::io;
 use vbv::{RemovalInterval, VbvCbrModel, VbvModel, VbvParams, VbvRemoval};
 use writers::gop_header::write_gop_header;
 use writers::stream_writer::{write_sequence_extension, write_sequence_header};
@@ -23,45 +23,46 @@ fn digit(n: u8) -> u8 {
 }
 
 // Writes a byte as two digits, with a space before it unless it is the first.
-fn print_byte(b: u8, first: bool) {
+fn print_byte(rt: &impl Print, b: u8, first: bool) -> io::Result<()> {
     if !first {
-        io::write_all(STDOUT_FILENO, b" ");
+        rt.print(" ")?;
     }
     let text = [digit(b / 16), digit(b)];
-    io::write_all(STDOUT_FILENO, &text);
+    rt.write_all(&text)
 }
 
 // Writes the first n bytes, or as many as there are.
-fn print_bytes(bytes: &[u8], n: usize) {
+fn print_bytes(rt: &impl Print, bytes: &[u8], n: usize) -> io::Result<()> {
     let mut k: usize = 0;
     while k < bytes.len() {
         if n <= k {
-            return;
+            return Ok(());
         }
-        print_byte(bytes[k], k == 0);
+        print_byte(rt, bytes[k], k == 0)?;
         k += 1;
     }
+    Ok(())
 }
 
-fn end_line() {
-    io::write_all(STDOUT_FILENO, b"\n");
+fn end_line(rt: &impl Print) -> io::Result<()> {
+    rt.print("\n")
 }
 
-fn print_written(written: Written, bytes: &[u8]) {
+fn print_written(rt: &impl Print, written: Written, bytes: &[u8]) -> io::Result<()> {
     match written {
         Written::Bytes(n) => {
-            print_bytes(bytes, n);
-            end_line();
+            print_bytes(rt, bytes, n)?;
+            end_line(rt)
         }
         Written::Refused(error) => {
-            io::write_all(STDOUT_FILENO, b"refused ");
-            io::print_decimal(STDOUT_FILENO, error.number() as u64);
-            end_line();
+            rt.print("refused ")?;
+            rt.print(error.number())?;
+            end_line(rt)
         }
     }
 }
 
-fn sequence_header() {
+fn sequence_header(rt: &impl Print) -> io::Result<()> {
     let intra_quantiser_matrix = no_matrix();
     let non_intra_quantiser_matrix = no_matrix();
     let params = SequenceHeaderParams {
@@ -76,25 +77,22 @@ fn sequence_header() {
     };
     let mut out = [0xFFu8; 16];
     let written = write_sequence_header(&mut out, params);
-    io::write_all(
-        STDOUT_FILENO,
-        b"sequence header, 16 by 16, square, fields 2500 and 20\n",
-    );
-    print_written(written, &out);
+    rt.print("sequence header, 16 by 16, square, fields 2500 and 20\n")?;
+    print_written(rt, written, &out)
 }
 
-fn sequence_extension() {
+fn sequence_extension(rt: &impl Print) -> io::Result<()> {
     let mut out = [0xFFu8; 16];
     let written = write_sequence_extension(&mut out, ChromaFormat::Yuv420, false);
-    io::write_all(STDOUT_FILENO, b"sequence extension, interlaced, 4:2:0\n");
-    print_written(written, &out);
+    rt.print("sequence extension, interlaced, 4:2:0\n")?;
+    print_written(rt, written, &out)
 }
 
-fn group_header() {
-    io::write_all(STDOUT_FILENO, b"group header, closed, at 0\n");
+fn group_header(rt: &impl Print) -> io::Result<()> {
+    rt.print("group header, closed, at 0\n")?;
     let answer = TimeCode::from_display_index(0, 3);
     let TimeCodeAnswer::Code(time_code) = answer else {
-        return;
+        return Ok(());
     };
     let gop = Mpeg2Gop {
         time_code,
@@ -103,7 +101,7 @@ fn group_header() {
     };
     let mut out = [0xFFu8; 16];
     let written = write_gop_header(&mut out, gop);
-    print_written(written, &out);
+    print_written(rt, written, &out)
 }
 
 // Whether the end is accepted, at R = 1,000,000, B = 327,680 and 25 frames, after a start at 1,000 with the delay 22,118.
@@ -130,24 +128,21 @@ fn accepts(end_bits: u64) -> bool {
     }
 }
 
-fn model_end() {
-    io::write_all(
-        STDOUT_FILENO,
-        b"end 246755 after a start at 1000 with delay 22118\n",
-    );
+fn model_end(rt: &impl Print) -> io::Result<()> {
+    rt.print("end 246755 after a start at 1000 with delay 22118\n")?;
     if accepts(246755) {
-        io::write_all(STDOUT_FILENO, b"accepted\n");
+        rt.print("accepted\n")
     } else {
-        io::write_all(STDOUT_FILENO, b"refused\n");
+        rt.print("refused\n")
     }
 }
 
-fn main() {
-    sequence_header();
-    sequence_extension();
-    group_header();
-    model_end();
-    rates::print_rates();
-    film::print_film();
-    channel::print_channel();
+fn main(rt: HostRuntime) -> io::Result<()> {
+    sequence_header(&rt)?;
+    sequence_extension(&rt)?;
+    group_header(&rt)?;
+    model_end(&rt)?;
+    rates::print_rates(&rt)?;
+    film::print_film(&rt)?;
+    channel::print_channel(&rt)
 }

@@ -1,7 +1,7 @@
 // The figures of request 02 (paper 02, 'Rates with extensions'): frame rates of a code, n and d, which of them have one value, and the
 // targets that follow.
-use libc::STDOUT_FILENO;
 use rate_control::{CbrConfig, CbrCreation, CbrWriter};
+use std::io;
 use vbv::{FrameRate, VbvParams, frame_rate_value, params_of};
 use verify::{VbvMode, VbvStandard};
 
@@ -9,7 +9,7 @@ use verify::{VbvMode, VbvStandard};
 const TRIPLES: u16 = 1024;
 
 // A code with its extensions.
-#[derive(Drop)]
+#[derive(Clone, Copy)]
 struct Triple {
     code: u8,
     n: u8,
@@ -24,34 +24,34 @@ fn triple_at(k: u16) -> Triple {
     }
 }
 
-fn print_number(value: u64) {
-    io::print_decimal(STDOUT_FILENO, value);
+fn print_number(rt: &impl Print, value: u64) -> io::Result<()> {
+    rt.print(value)
 }
 
-fn print_triple(t: Triple) {
-    print_number(t.code as u64);
-    io::write_all(STDOUT_FILENO, b" ");
-    print_number(t.n as u64);
-    io::write_all(STDOUT_FILENO, b" ");
-    print_number(t.d as u64);
+fn print_triple(rt: &impl Print, t: Triple) -> io::Result<()> {
+    print_number(rt, t.code as u64)?;
+    rt.print(" ")?;
+    print_number(rt, t.n as u64)?;
+    rt.print(" ")?;
+    print_number(rt, t.d as u64)
 }
 
 // A rate, or the number of its refusal.
-fn print_rate(code: u8, n: u8, d: u8) {
-    print_triple(Triple { code, n, d });
+fn print_rate(rt: &impl Print, code: u8, n: u8, d: u8) -> io::Result<()> {
+    print_triple(rt, Triple { code, n, d })?;
     match frame_rate_value(code, n, d) {
         FrameRate::Rate(frn, frd) => {
-            io::write_all(STDOUT_FILENO, b": ");
-            print_number(frn);
-            io::write_all(STDOUT_FILENO, b"/");
-            print_number(frd);
+            rt.print(": ")?;
+            print_number(rt, frn)?;
+            rt.print("/")?;
+            print_number(rt, frd)?;
         }
         FrameRate::Refused(error) => {
-            io::write_all(STDOUT_FILENO, b": refused ");
-            print_number(error.number() as u64);
+            rt.print(": refused ")?;
+            print_number(rt, error.number() as u64)?;
         }
     }
-    io::write_all(STDOUT_FILENO, b"\n");
+    rt.print("\n")
 }
 
 // Fields 2500 and 20 with the frame rate of a triple.
@@ -80,7 +80,7 @@ fn count_values() -> u64 {
     let mut k: u16 = 0;
     while k < TRIPLES {
         if !met_before(k) {
-            values = std::num::wrapping_add_u64(values, 1);
+            values = values.wrapping_add(1);
         }
         k += 1;
     }
@@ -88,20 +88,21 @@ fn count_values() -> u64 {
 }
 
 // The triples of a rate's value.
-fn print_same(rate: VbvParams) {
+fn print_same(rt: &impl Print, rate: VbvParams) -> io::Result<()> {
     let mut k: u16 = 0;
     while k < TRIPLES {
         let t = triple_at(k);
         if rate.same(params(t)) {
-            print_triple(t);
-            io::write_all(STDOUT_FILENO, b"\n");
+            print_triple(rt, t)?;
+            rt.print("\n")?;
         }
         k += 1;
     }
+    Ok(())
 }
 
 // Fields 2500 and 20, two B pictures between anchors, four anchors.
-fn print_targets(code: u8, n: u8, d: u8) {
+fn print_targets(rt: &impl Print, code: u8, n: u8, d: u8) -> io::Result<()> {
     let made = CbrWriter::create(CbrConfig {
         mode: VbvMode::plain(VbvStandard::Mpeg2),
         bit_rate_value: 2500,
@@ -113,54 +114,52 @@ fn print_targets(code: u8, n: u8, d: u8) {
         b_between: 2,
         anchors_per_gop: 4,
     });
-    print_triple(Triple { code, n, d });
+    print_triple(rt, Triple { code, n, d })?;
     let answer = made.answer;
     match answer {
         CbrCreation::Created => {
             let writer = made.writer;
             let targets = writer.target_bits;
-            io::write_all(STDOUT_FILENO, b": ");
-            print_number(targets[0]);
-            io::write_all(STDOUT_FILENO, b" ");
-            print_number(targets[1]);
-            io::write_all(STDOUT_FILENO, b" ");
-            print_number(targets[2]);
+            rt.print(": ")?;
+            print_number(rt, targets[0])?;
+            rt.print(" ")?;
+            print_number(rt, targets[1])?;
+            rt.print(" ")?;
+            print_number(rt, targets[2])?;
         }
         CbrCreation::Refused(error) => {
-            io::write_all(STDOUT_FILENO, b": refused ");
-            print_number(error.number() as u64);
+            rt.print(": refused ")?;
+            print_number(rt, error.number() as u64)?;
         }
     }
-    io::write_all(STDOUT_FILENO, b"\n");
+    rt.print("\n")
 }
 
-fn print_lookups() {
-    io::write_all(STDOUT_FILENO, b"frame rate of code, n and d\n");
-    print_rate(7, 3, 31);
-    print_rate(6, 0, 1);
-    print_rate(3, 1, 1);
-    print_rate(9, 4, 0);
-    print_rate(9, 0, 32);
-    print_rate(9, 0, 0);
+fn print_lookups(rt: &impl Print) -> io::Result<()> {
+    rt.print("frame rate of code, n and d\n")?;
+    print_rate(rt, 7, 3, 31)?;
+    print_rate(rt, 6, 0, 1)?;
+    print_rate(rt, 3, 1, 1)?;
+    print_rate(rt, 9, 4, 0)?;
+    print_rate(rt, 9, 0, 32)?;
+    print_rate(rt, 9, 0, 0)
 }
 
-pub(crate) fn print_rates() {
-    print_lookups();
-    io::write_all(STDOUT_FILENO, b"values of the 1024 triples\n");
-    print_number(count_values());
-    io::write_all(STDOUT_FILENO, b"\ntriples of the value 25\n");
-    print_same(params(Triple {
+pub(crate) fn print_rates(rt: &impl Print) -> io::Result<()> {
+    print_lookups(rt)?;
+    rt.print("values of the 1024 triples\n")?;
+    print_number(rt, count_values())?;
+    rt.print("\ntriples of the value 25\n")?;
+    let rate = params(Triple {
         code: 3,
         n: 0,
         d: 0,
-    }));
-    io::write_all(
-        STDOUT_FILENO,
-        b"targets of I, P and B, fields 2500 and 20, 2 and 4\n",
-    );
-    print_targets(3, 0, 0);
-    print_targets(3, 1, 1);
-    print_targets(6, 0, 1);
-    print_targets(9, 4, 0);
-    print_targets(9, 0, 0);
+    });
+    print_same(rt, rate)?;
+    rt.print("targets of I, P and B, fields 2500 and 20, 2 and 4\n")?;
+    print_targets(rt, 3, 0, 0)?;
+    print_targets(rt, 3, 1, 1)?;
+    print_targets(rt, 6, 0, 1)?;
+    print_targets(rt, 9, 4, 0)?;
+    print_targets(rt, 9, 0, 0)
 }

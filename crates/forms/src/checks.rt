@@ -94,7 +94,7 @@ fn compare(tally: Tally, stream: &[u8], standard: VbvStandard) -> Tally {
     let by_structs = answer(stream, standard, filling);
     let mut lent_told = [0u8; 40];
     put_answer(&mut lent_told, by_structs);
-    let same = check::same(&bytes, &lent_bytes) & check::same(&told, &lent_told);
+    let same = (bytes == lent_bytes) & (told == lent_told);
     counted(tally, is_report(by_structs), same)
 }
 

@@ -6,18 +6,20 @@ mod checks; // streams
 mod steps; // calls of the model
 mod tally; // what is counted
 
-fn print_count(name: &[u8], n: u64) {
-    cases::print(name, n);
-    cases::end_line();
+use std::io;
+
+fn print_count(rt: &impl Print, name: &str, n: u64) -> io::Result<()> {
+    cases::print(rt, name, n)?;
+    cases::end_line(rt)
 }
 
-fn main() {
+fn main(rt: HostRuntime) -> io::Result<()> {
     let streams = checks::run();
-    print_count(b"streams accepted ", streams.done);
-    print_count(b"streams refused ", streams.refused);
-    print_count(b"streams with another answer or record ", streams.other);
+    print_count(&rt, "streams accepted ", streams.done)?;
+    print_count(&rt, "streams refused ", streams.refused)?;
+    print_count(&rt, "streams with another answer or record ", streams.other)?;
     let calls = steps::run();
-    print_count(b"calls done ", calls.done);
-    print_count(b"calls refused ", calls.refused);
-    print_count(b"calls with another answer or model ", calls.other);
+    print_count(&rt, "calls done ", calls.done)?;
+    print_count(&rt, "calls refused ", calls.refused)?;
+    print_count(&rt, "calls with another answer or model ", calls.other)
 }

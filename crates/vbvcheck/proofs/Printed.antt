@@ -5,7 +5,6 @@ use Prim.Native.Nat.{ℕ, ◌*◌, ◌≤◌, ◌<◌}
 use mathlib.Core.List.{List, ◌++◌}
 use native.Mathlib.Omega.{arith}
 use lib.ListN.{length, drop, length-append}
-use lib.Seq.{length-take-le}
 use borrow.Author.Tests.{le-leb, lt-leb}
 use Rattle.bits.specs.Bits.{pick}
 use Rattle.bits.specs.Answers.{over}
@@ -23,13 +22,9 @@ use Rattle.bits.proofs.Over.{over_is}
 use Rattle.bits.proofs.Flags.{clash}
 use Rattle.verify.proofs.Storing.{length-records}
 use Rattle.verify.proofs.Bounds.{picture-count, records_small}
-use Rattle.io.specs.Counts.{IsPrefixLen}
 use Rattle.vbvcheck.specs.Text.{ascii, record_lines, refusal_text, report_text, verdict_text, printed}
 use Rattle.vbvcheck.specs.Steps.{lines_of}
 use Rattle.vbvcheck.proofs.Lines.{lines_are}
-
-pub counts : (n : ℕ) (xs : List ℕ) → n ≤ length xs → IsPrefixLen n xs
-counts n xs h = (h, sym (length-take-le n xs h))
 
 pub too_long : (s : List ℕ) → 65536 < length s → ascii "too long\n" ≡ printed s
 unfolding printed pick

@@ -1,18 +1,17 @@
 -- Text put after text.
 -- Assumes nothing.
-use mathlib.Core.Path.{◌≡◌, refl, ◌∙◌}
+use mathlib.Core.Path.{◌≡◌, refl, sym, ◌∙◌}
 use Prim.Native.Nat.{ℕ, zero, suc, ◌+◌, ◌-◌, ◌/◌, ◌%◌, ◌^◌, ◌≤◌, ◌<◌}
 use mathlib.Core.List.{List, [], ◌∷◌, ◌++◌, append_assoc, append-nil}
 use native.Mathlib.Omega.{arith}
 use native.Mathlib.Numerals.{add-one}
-use native.Mathlib.Nat.{pow-suc, div-lt_iff_lt-mul, le-div_iff_mul-le, mod-eq_of_lt, mod-lt, add-suc, one-le-pow, pow-le-pow_right}
-use mathlib.Core.Bool.{Bool, true, false}
-use lib.Dec.{leb}
+use native.Mathlib.Nat.{add-suc}
 use lib.ListN.{length, get_or, set, take, drop, drop_of_length-le}
 use lib.Seq.{take-suc, take-suc-set, drop-cons}
-use borrow.Author.Tests.{lt-ltb, le-ltb, leb-true, leb-false}
+use borrow.Author.Tests.{lt-ltb, le-ltb}
 use Rattle.bits.specs.Bits.{pick}
-use Rattle.io.specs.Digits.{last_digits, IsDigitCount}
+use Rattle.std.specs.Fmt.{decimal as std_decimal}
+use Rattle.std.proofs.lemmas.Fmt.{decimal_from_appends, length-decimal-le}
 use Rattle.vbvcheck.specs.Text.{decimal, ending, line}
 
 -- one byte more of a text
@@ -32,36 +31,20 @@ three_texts x y z p q r = r ∙ rw (q, p) (append_assoc x y z)
 
 -- ---- a number's digits
 
-pub digits_decimal : (f k n : ℕ) → k ≤ f → IsDigitCount 10 1 n k → last_digits 10 k n ≡ decimal f n
-unfolding decimal pick
-digits_decimal f zero n l w = absurd (omega (arith, w.0))
-digits_decimal zero (suc k) n l w = absurd (omega arith)
-digits_decimal (suc f) (suc zero) n l w =
-    let h : n < 10 = w.1 in
-    rw (mod-eq_of_lt h, lt-ltb n 10 h)
-digits_decimal (suc f) (suc (suc k)) n l w =
-    let e : suc (suc k) - 1 ≡ suc k = omega arith in
-    let low : 10 ^ suc k ≤ n = rw e at (w.2 (omega arith)) in
-    let one : 1 ≤ 10 ^ k = one-le-pow k 10 (omega arith) in
-    let big : 10 ≤ n = omega (arith, pow-suc 10 k) in
-    let m : n % 10 < 10 = mod-lt n (omega arith) in
-    let high : n / 10 < 10 ^ suc k = (div-lt_iff_lt-mul {k = 10} {x = n} {y = 10 ^ suc k} (omega arith)).1 (omega (arith, pow-suc 10 (suc k), w.1)) in
-    let least : 10 ^ k ≤ n / 10 = (le-div_iff_mul-le {k = 10} {x = 10 ^ k} {y = n} (omega arith)).1 (omega (arith, pow-suc 10 k)) in
-    let e1 : suc k - 1 ≡ k = omega arith in
-    let fewer : IsDigitCount 10 1 (n / 10) (suc k) = (omega arith, high, λ h. rw e1 least) in
-    rw (le-ltb n 10 big, lt-ltb (n % 10) 10 m, digits_decimal f (suc k) (n / 10) (omega arith) fewer)
-
 -- 20 digits hold 64 bits
-pub digits-most : (n k : ℕ) → n < 2 ^ 64 → IsDigitCount 10 1 n k → k ≤ 20
-digits-most n k h w = go (leb k 20) refl
-  where
-    go : (t : Bool) → leb k 20 ≡ t → k ≤ 20
-    go true e = leb-true k 20 e
-    go false e =
-        let l : 20 < k = leb-false k 20 e in
-        let a : 10 ^ 20 ≤ 10 ^ (k - 1) = pow-le-pow_right {n = 10} (omega arith) {i = 20} {j = k - 1} (omega arith) in
-        let b : 10 ^ (k - 1) ≤ n = w.2 (omega arith) in
-        absurd (omega arith)
+pub length-decimal_20 : (n : ℕ) → n < 2 ^ 64 → length (std_decimal n) ≤ 20
+length-decimal_20 n h = length-decimal-le 20 n (omega arith) (omega arith) h
+
+one_digit : (k n : ℕ) → n < 10 → decimal (suc k) n ≡ (48 + n) ∷ []
+unfolding decimal pick
+one_digit k n h = rw (lt-ltb n 10 h)
+
+last_digit : (k n : ℕ) → 10 ≤ n → decimal (suc k) n ≡ decimal k (n / 10) ++ ((48 + n % 10) ∷ [])
+unfolding decimal pick
+last_digit k n h = rw (le-ltb n 10 h)
+
+pub decimal-is_std : (n : ℕ) → n < 2 ^ 64 → std_decimal n ≡ decimal 20 n
+decimal-is_std n h = sym (decimal_from_appends decimal record { one = one_digit; more = last_digit } 20 n h (length-decimal_20 n h))
 
 -- ---- a line
 

@@ -1,9 +1,13 @@
 -- The promises of private functions: words of the records read from their bytes again. No definition of what is printed rests on these.
 -- Assumes nothing.
-use Rattle.std.specs.Prelude.{ℕ, zero, suc, List, [], ◌∷◌, ◌++◌, drop}
+use Rattle.std.specs.Prelude.{◌≡◌, ℕ, zero, suc, ◌≤◌, List, [], ◌∷◌, ◌++◌, length, take, drop}
 use Rattle.words.specs.Words.{word_at}
 use Rattle.verify.specs.Layout.{record_size}
 use Rattle.vbvcheck.specs.Text.{line}
+
+-- `&xs[..n]` is in bounds and has n bytes
+abbrev pub IsPrefixLen : ℕ → List ℕ → Type 0
+IsPrefixLen n xs = (n ≤ length xs) × (n ≡ length (take n xs))
 
 -- the first five words, as a line
 unfoldable pub line_of : List ℕ → List ℕ

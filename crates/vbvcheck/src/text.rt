@@ -1,11 +1,11 @@
 // What is printed. Each function puts its text at `at` of a part and answers the place after it.
 ghost use Rattle.std.specs.Prelude.{◌≡◌, ◌+◌, ◌*◌, ◌≤◌, [], ◌∷◌, ◌++◌, length, take, drop};
-ghost use Rattle.io.specs.Counts.{IsPrefixLen};
 ghost use Rattle.verify.specs.Layout.{record_size};
 ghost use Rattle.vbvcheck.specs.Text.{ascii, decimal, line, report_text, refusal_text, printed};
-ghost use Rattle.vbvcheck.specs.Steps.{line_of, lines_of};
+ghost use Rattle.vbvcheck.specs.Steps.{IsPrefixLen, line_of, lines_of};
 
 use bits::VbvRefusal;
+use itoa::Buffer;
 use verify::{RECORD_BYTES, VbvStandard, VbvStreamReport, VbvVerified, verify_cbr_stream};
 use words::word_at;
 
@@ -28,9 +28,8 @@ fn put_number(out: &mut [u8], at: usize, n: u64, end: u8) -> usize
     ensures upper_bound { result ≤ at + 21 }
     ensures out_after { take result out.new ≡ take at out.old ++ (decimal 20 n ++ (end ∷ [])) }
 {
-    let mut digits = [0u8; 20];
-    let k = io::decimal(n, &mut digits);
-    let next = put(out, at, &digits[..k]);
+    let mut digits = Buffer::new();
+    let next = put(out, at, digits.format(n).as_bytes());
     out[next] = end;
     next + 1
 }
