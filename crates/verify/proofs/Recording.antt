@@ -2,13 +2,12 @@
 -- Assumes nothing.
 use mathlib.Core.Path.{◌≡◌, refl, sym, ap, ◌∙◌}
 use mathlib.Core.Bool.{Bool, false}
-use Prim.Native.Nat.{ℕ, zero, suc, ◌*◌, ◌^◌, ◌≤◌}
+use Prim.Native.Nat.{ℕ, zero, suc, ◌≤◌}
 use mathlib.Core.List.{List, [], ◌∷◌, ◌++◌}
 use native.Mathlib.Omega.{arith}
 use lib.ListN.{length}
 use Rattle.bits.specs.Refusals.{Answer, value, refused, and_then, or_else}
 use Rattle.vbv.specs.declared.VbvParams.{VbvParams}
-use Rattle.vbv.specs.declared.VbvCbrModel.{VbvCbrModel}
 use Rattle.pictures.specs.Front.{opening}
 use Rattle.pictures.specs.Seen.{Sight, next_seen, nothing, one}
 use Rattle.pictures.specs.Order as walk
@@ -17,12 +16,10 @@ use Rattle.pictures.specs.declared.VbvStandard.{VbvStandard}
 use Rattle.pictures.specs.declared.SeenPicture.{SeenPicture}
 use Rattle.pictures.proofs.Order.{steps_give}
 use Rattle.pictures.proofs.Due.{opening-short, front_unopened}
-use Rattle.vbv.specs.Model.{interval_of}
 use Rattle.cadence.specs.Cadence.{opened, interval, after}
 use Rattle.cadence.specs.declared.VbvCadence.{VbvCadence}
 use Rattle.cadence.proofs.Plain.{outside_film}
 use Rattle.cadence.proofs.Keeping.{opened-film}
-use Rattle.pictures.specs.Cadence.{cadence_of}
 use Rattle.pictures.proofs.Cadences.{plain_of}
 use Rattle.verify.specs.Mode.{plain}
 use Rattle.verify.specs.Coded.{coded_of, timed}
@@ -33,7 +30,7 @@ use Rattle.verify.specs.declared.VbvPictureRecord.{VbvPictureRecord}
 use Rattle.verify.specs.declared.VbvVerified.{VbvVerified}
 use Rattle.verify.specs.declared.VbvVerified.TheVariants.{Report, Refused}
 use Rattle.verify.specs.declared.Progress.{Progress}
-use Rattle.verify.specs.declared.Progress.TheVariants.{Fresh, Unmodelled, Running, Stopped}
+use Rattle.verify.specs.declared.Progress.TheVariants.{Fresh}
 use Rattle.verify.specs.declared.recorder.VbvRecorder.{VbvRecorder}
 use Rattle.verify.proofs.Rising.{timed-first, timed-length}
 use Rattle.verify.proofs.Verdict.{lasts_all, lasts-length, judges}

@@ -1,23 +1,21 @@
 -- The walk's judgement is the verdict, and the last records on the way are the verdict's.
 -- Assumes nothing.
-use mathlib.Core.Path.{◌≡◌, refl, sym, ap, subst, ◌∙◌}
+use mathlib.Core.Path.{◌≡◌, refl, ap, subst, ◌∙◌}
 use mathlib.Core.Bool.{Bool, true, false, ◌&&◌, true≢false}
-use Prim.Native.Nat.{ℕ, suc, ◌+◌, ◌*◌, ◌/◌, ◌^◌, ◌≤◌, ◌<◌, min, max}
+use Prim.Native.Nat.{ℕ, suc, ◌+◌, ◌≤◌, min, max}
 use mathlib.Core.List.{List, [], ◌∷◌}
 use native.Mathlib.Omega.{arith}
 use lib.Dec.{eqb, leb, ltb}
 use lib.ListN.{length}
-use lib.Seq.{sets}
 use borrow.Author.Tests.{lt-leb, le-leb, ltb-true, ltb-false, ne_eqb, not-true, not-false}
 use Rattle.bits.specs.Bits.{pick}
-use Rattle.bits.specs.Answers.{over}
-use Rattle.bits.specs.Refusals.{Answer, value, refused, refuse, and_then, or_else}
+use Rattle.bits.specs.Refusals.{Answer, value, refused, refuse, and_then}
 use Rattle.bits.proofs.Flags.{and_left, and_right}
 use Rattle.vbv.specs.Annex.{first_delivered, full, first_arrived}
 use Rattle.vbv.specs.Model.{params_fit_at, delivered, at_delivered}
 use Rattle.vbv.specs.declared.VbvParams.{VbvParams}
 use Rattle.vbv.specs.declared.VbvCbrModel.{VbvCbrModel}
-use Rattle.vbv.specs.declared.VbvError.TheVariants.{Params as ParamsError, Range}
+use Rattle.vbv.specs.declared.VbvError.TheVariants.{Params as ParamsError}
 use Rattle.vbv.proofs.Laws.{model-made, started, model-starts}
 use Rattle.vbv.proofs.Told.{makes}
 use Rattle.vbv.proofs.Named.{makes_named, unmade_named, starts_named}
@@ -25,7 +23,7 @@ use Rattle.vbr.proofs.Laws.{variable_makes, variable-made, variable-starts, vari
 use Rattle.vbr.proofs.Named.{variable_makes_named, variable_unmade_named, variable-starts_named}
 use Rattle.verify.specs.declared.VbvPictureRecord.{VbvPictureRecord}
 use Rattle.verify.specs.declared.VbvVerifyError.{VbvVerifyError}
-use Rattle.verify.specs.declared.VbvVerifyError.TheVariants.{Model, NoPictures, VariableRate, ConstantRate, RecordPlaces}
+use Rattle.verify.specs.declared.VbvVerifyError.TheVariants.{Model, VariableRate, ConstantRate, RecordPlaces}
 use Rattle.verify.specs.declared.VbvStreamReport.{VbvStreamReport}
 use Rattle.verify.specs.declared.VbvVerified.{VbvVerified}
 use Rattle.verify.specs.declared.VbvVerified.TheVariants as vf

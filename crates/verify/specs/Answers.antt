@@ -1,6 +1,5 @@
 -- The refusals of the check: paper 01's number, and the picture, coded and expected delay that each carries.
 -- Assumes nothing.
-use Rattle.std.specs.Prelude.{ℕ}
 use Rattle.bits.specs.Refusals.{Answer, value, refused, plain}
 use Rattle.headers.specs.Answers.{error_number}
 use Rattle.vbv.specs.Answers.{model_number, violation_refusal}
