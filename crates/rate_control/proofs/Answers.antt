@@ -16,7 +16,7 @@ use Rattle.rate_control.specs.Writer.{asked}
 use Rattle.rate_control.specs.Offer.{Offer, offer, left}
 use Rattle.rate_control.specs.Calls.{Call, offering, withdrawing, step_of, left_by_call, steps_of}
 use Rattle.rate_control.specs.Due.{Known, asked_for, holding, Answered, no_calls, offer_then, withdrawal_then}
-use Rattle.rate_control.specs.Demand.{Patient, calls_end, step_then, Other, Unsaid}
+use Rattle.rate_control.specs.Demand.{retries_after, Patient, calls_end, step_then, Other, Unsaid}
 use Rattle.rate_control.specs.declared.CbrWriter.{CbrWriter}
 use Rattle.rate_control.proofs.Chain.{Outcome, stays, closes, retries, hands_out, outcome}
 use Rattle.rate_control.proofs.Invariant.{Inv, pending-few, call_inv}
@@ -35,9 +35,9 @@ module _ (p : VbvParams) (t : List ℕ) where
       let i = subst (λ (v : CbrWriter). Inv n v) e h in
       offer_then {x = x} {o = o} {a = offer w o} {l = steps_of (left w o) l} (rw e (due p t x o i))
       (λ b d. only p t x o i d ∙ ap (λ (v : CbrWriter). offer v o) (sym e)) (outcome_holds w o (outcome w o))
-      (all-answered _ _ l (offer_told p t w x o e) (call_inv (offering o) h))
-  all-answered w x (withdrawing ∷ l) e h =
-      rw (ap number (withdraw-answer w h.fits)) (withdrawal_then (all-answered _ _ l (withdrawal_told p t w x h.fits e) (call_inv withdrawing h)))
+      (all-answered {n = retries_after n (step_of w (offering o))} _ _ l (offer_told p t w x o e) (call_inv (offering o) h))
+  all-answered {n} w x (withdrawing ∷ l) e h =
+      rw (ap number (withdraw-answer w h.fits)) (withdrawal_then (all-answered {n = retries_after n (step_of w withdrawing)} _ _ l (withdrawal_told p t w x h.fits e) (call_inv withdrawing h)))
 
   coarsest : (x : Known) (o : Offer) {a : Answer Given} → Outcome (holding p t x) o a → number a ≡ 21 → asked_for x o ≡ 31
   unfolding asked
@@ -49,11 +49,11 @@ module _ (p : VbvParams) (t : List ℕ) where
   pub patient : {n : ℕ} (w : CbrWriter) (x : Known) (l : List Call) → w ≡ holding p t x → Inv n w → Patient p t x n (steps_of w l)
   unfolding steps_of step_of left_by_call
   patient w x [] e h = calls_end (pending-few _ w.pending h.waiting)
-  patient w x (offering o ∷ l) e h =
+  patient {n = n} w x (offering o ∷ l) e h =
       step_then (pending-few _ w.pending h.waiting) (coarsest x o (subst (λ (v : CbrWriter). Outcome v o (offer w o)) e (outcome w o)))
-      (patient _ _ l (offer_told p t w x o e) (call_inv (offering o) h))
-  patient w x (withdrawing ∷ l) e h =
-      step_then (pending-few _ w.pending h.waiting) tt (patient _ _ l (withdrawal_told p t w x h.fits e) (call_inv withdrawing h))
+      (patient {n = retries_after n (step_of w (offering o))} _ _ l (offer_told p t w x o e) (call_inv (offering o) h))
+  patient {n = n} w x (withdrawing ∷ l) e h =
+      step_then (pending-few _ w.pending h.waiting) tt (patient {n = retries_after n (step_of w withdrawing)} _ _ l (withdrawal_told p t w x h.fits e) (call_inv withdrawing h))
 
 -- ---- at a variable rate
 
@@ -71,5 +71,5 @@ other x y z h = (unnumbered 7 x h, (unnumbered 9 y h, unnumbered 22 z h))
 pub unsaid : (w : CbrWriter) (l : List Call) → w.variable ≡ true → Unsaid (steps_of w l)
 unfolding steps_of step_of
 unsaid w [] v = tt
-unsaid w (offering o ∷ l) v = (other refl refl refl (writer_numbers.variable_offers w o v), unsaid _ l ((left_kept w (offering o)).1 ∙ v))
-unsaid w (withdrawing ∷ l) v = (other refl refl refl (writer_numbers.withdrawals w), unsaid _ l ((left_kept w withdrawing).1 ∙ v))
+unsaid w (offering o ∷ l) v = (other refl refl refl (writer_numbers.variable_offers w o v), unsaid (left_by_call w (offering o)) l ((left_kept w (offering o)).1 ∙ v))
+unsaid w (withdrawing ∷ l) v = (other refl refl refl (writer_numbers.withdrawals w), unsaid (left_by_call w withdrawing) l ((left_kept w withdrawing).1 ∙ v))

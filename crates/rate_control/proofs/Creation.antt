@@ -14,8 +14,8 @@ use Rattle.bits.specs.Refusals.{value, or_else}
 use Rattle.vbv.specs.Answers.{frame_rate, model_answer, rate_answer}
 use Rattle.bits.proofs.Flags.{was_held, both_true}
 use Rattle.vbv.specs.Params.{rate_unit}
-use Rattle.vbv.specs.Model.{farthest, params_fit_at, new_model}
-use Rattle.vbr.specs.Variable.{new_variable, new_model_at}
+use Rattle.vbv.specs.Model.{farthest, params_fit_at}
+use Rattle.vbr.specs.Variable.{new_model_at}
 use Rattle.vbv.specs.declared.FrameRate.{FrameRate}
 use Rattle.vbv.specs.declared.FrameRate.TheVariants.{Rate, Refused as NoRate}
 use Rattle.vbv.specs.declared.VbvParams.{VbvParams}
@@ -132,13 +132,6 @@ module _ (p : VbvParams) (between anchors : ℕ) (h : TargetsFit p between ancho
       simp (le-leb _ _ (target-low 40 (omega arith)), le-leb _ _ (target-low 16 (omega arith)), le-leb _ _ (target-low 9 (omega arith)))
 
 -- ---- a model of parameters, at either kind of rate
-
-module _ (v : Bool) (p : VbvParams) (x : VbvModel) where
-  pub new_variable_lem : v ≡ true → model_answer x ≡ new_variable p → model_answer x ≡ new_model_at v p
-  new_variable_lem h e = rw h e
-
-  pub new-constant : v ≡ false → model_answer x ≡ new_model p → model_answer x ≡ new_model_at v p
-  new-constant h e = rw h e
 
 -- a model of a configuration in its ranges has targets
 pub targets_fit : (c : CbrConfig) (v : Bool) (n d : ℕ) (p : VbvParams) (x : VbvModel) (m : VbvCbrModel) → p ≡ writer_params c (n, d) → model_answer x ≡ new_model_at v p

@@ -88,4 +88,4 @@ left-whole {w} c h = record { tries = _; inv = call_inv c h.inv; targets = ap le
 pub final-whole : {w : CbrWriter} (l : List Call) → Whole w → Whole (final w l)
 unfolding final
 final-whole [] h = h
-final-whole (c ∷ l) h = final-whole l (left-whole c h)
+final-whole {w = w} (c ∷ l) h = final-whole {w = left_by_call w c} l (left-whole c h)

@@ -27,6 +27,7 @@ use Rattle.rate_control.specs.Calls.{Call, offering, withdrawing, step_of, left_
 use Rattle.rate_control.specs.Due.{Known, at_first, delivered_for, cadence_for, facts_for, lasts_in, pending_now, known_after_offer, known_after, holding, targets_of}
 use Rattle.rate_control.specs.declared.Pending.TheVariants.{Nothing}
 use Rattle.rate_control.specs.declared.CbrConfig.{CbrConfig}
+use Rattle.rate_control.specs.Demand.{retries_after}
 use Rattle.rate_control.specs.declared.CbrWriter.{CbrWriter}
 use Rattle.vbv.proofs.Cases.{model_at, after_is, delivered-of}
 use Rattle.vbr.proofs.Either.{made-at_is}
@@ -94,9 +95,9 @@ module _ (p : VbvParams) (t : List ℕ) where
   pub state : {n : ℕ} (w : CbrWriter) (x : Known) (l : List Call) → w ≡ holding p t x → Inv n w → final w l ≡ holding p t (known_after p t x (steps_of w l))
   unfolding steps_of step_of left_by_call final
   state w x [] e h = e
-  state w x (offering o ∷ l) e h =
-      state _ _ l (offer_told w x o e) (call_inv (offering o) h)
-  state w x (withdrawing ∷ l) e h = state _ _ l (withdrawal_told w x h.fits e) (call_inv withdrawing h)
+  state {n = n} w x (offering o ∷ l) e h =
+      state {n = retries_after n (step_of w (offering o))} _ _ l (offer_told w x o e) (call_inv (offering o) h)
+  state {n = n} w x (withdrawing ∷ l) e h = state {n = retries_after n (step_of w withdrawing)} _ _ l (withdrawal_told w x h.fits e) (call_inv withdrawing h)
 
 -- ---- a writer that was created
 

@@ -128,14 +128,14 @@ module _ (w : CbrWriter) (o : Offer) where
   unfolding answer_to
   answer_large = refl
 
-  placed_by : placed_by w o.kind (length o.layer) o.last (placement w o) (cadence_left w o) ≡ placed_in_code w o (asked w o.kind)
+  placed_same : placed_by w o.kind (length o.layer) o.last (placement w o) (cadence_left w o) ≡ placed_in_code w o (asked w o.kind)
   unfolding placement placed_by placed_in_code with_placed
-  placed_by = refl
+  placed_same = refl
 
   answer_ready : answer_to w o (Ready (placement w o))
       ≡ pick (ltb (length o.out) (length (placed_bytes w o))) (refused_in_code w Output) (placed_in_code w o (asked w o.kind))
   unfolding answer_to placement
-  answer_ready = ap (pick (ltb (length o.out) (length (placed_bytes w o))) (refused_in_code w Output)) placed_by
+  answer_ready = ap (pick (ltb (length o.out) (length (placed_bytes w o))) (refused_in_code w Output)) placed_same
 
   abbrev Gives : Tested → CbrOffered → Type 0
   Gives j r = answer_to w o j ≡ r
@@ -269,5 +269,5 @@ module _ (w : CbrWriter) (o : Offer) (j : Tested) (e : j ≡ tested_for w o) (r 
     offer-placed x l g k =
         let s = (ready w o j e p h).is in
         let a : offer_in_code w o ≡ placed_by w o.kind (length o.layer) o.last p (cadence_left w o) = ready_is w o j e p h ∙ rw (le-ltb _ _ l) in
-        let b : r ≡ placed_in_code w o (asked w o.kind) = g ∙ rw s (placed_by w o) in
+        let b : r ≡ placed_in_code w o (asked w o.kind) = g ∙ rw s (placed_same w o) in
         promised w o r x (g ∙ sym a) (rw (b, k, s))

@@ -25,6 +25,7 @@ use Rattle.rate_control.specs.Offer.{Offer, position, content, end, cadence_at, 
 use Rattle.rate_control.specs.Calls.{Call, offering, withdrawing, step_of, left_by_call, steps_of}
 use Rattle.rate_control.specs.Sent.{position_of, content_of, Stuffs, Sent, sent_position, sent_end, sent_by, sent, Removals, no_removal, removal_then, EachRemoval, InBuffer, WellPlaced, LeastStuffing}
 use Rattle.rate_control.specs.declared.Pending.TheVariants.{Nothing}
+use Rattle.rate_control.specs.Demand.{retries_after}
 use Rattle.rate_control.specs.declared.CbrWriter.{CbrWriter}
 use Rattle.rate_control.proofs.Chain.{Placing, Outcome, stays, closes, retries, hands_out, outcome}
 use Rattle.rate_control.proofs.Placing.{delivered-later, end_is, stuffing-variable, stuffing-last, stuffing-least, delay_is, delay-low, delivered_told}
@@ -99,10 +100,10 @@ still_finished w e = e
 pub finished-none : {m : ℕ} (k : ℕ) (w : CbrWriter) (l : List Call) → Inv m w → w.finished ≡ true → sent k (steps_of w l) ≡ []
 unfolding steps_of step_of left_by_call sent
 finished-none k w [] h e = refl
-finished-none k w (offering o ∷ l) h e =
+finished-none {m = m} k w (offering o ∷ l) h e =
     let f = outcome_finished e (outcome w o) in
-    f.0 k _ (λ j. sent j (steps_of (left_by_call w (offering o)) l)) ∙ finished-none k _ l (call_inv (offering o) h) f.1
-finished-none k w (withdrawing ∷ l) h e = finished-none k _ l (call_inv withdrawing h) (rw (withdraw_is w h.fits) (still_finished w e))
+    f.0 k _ (λ j. sent j (steps_of (left_by_call w (offering o)) l)) ∙ finished-none {m = retries_after m (step_of w (offering o))} k _ l (call_inv (offering o) h) f.1
+finished-none {m = m} k w (withdrawing ∷ l) h e = finished-none {m = retries_after m (step_of w withdrawing)} k _ l (call_inv withdrawing h) (rw (withdraw_is w h.fits) (still_finished w e))
 
 -- ---- all of them
 
@@ -193,11 +194,11 @@ withdrawn-bytes w n k = k
 removals_from : {m : ℕ} (n : ℕ) (w : CbrWriter) (l : List Call) → Inv m w → w.model.prev_end_bits ≡ 8 * n → Claim w (sent n (steps_of w l))
 unfolding steps_of step_of left_by_call sent Claim
 removals_from n w [] h k = removals-none w.variable w.model.params w.model.started w.cadence (delivered w.model) w.model.prev_end_bits
-removals_from n w (offering o ∷ l) h k =
-    outcome_removals n l h k (outcome w o) (removals_from _ _ l (call_inv (offering o) h) (outcome_bytes n k (outcome w o)))
-removals_from n w (withdrawing ∷ l) h k =
+removals_from {m = m} n w (offering o ∷ l) h k =
+    outcome_removals n l h k (outcome w o) (removals_from {m = retries_after m (step_of w (offering o))} _ _ l (call_inv (offering o) h) (outcome_bytes n k (outcome w o)))
+removals_from {m = m} n w (withdrawing ∷ l) h k =
     let e = withdraw_is w h.fits in
-    withdrawn-removals w _ e (removals_from n _ l (call_inv withdrawing h) (rw e (withdrawn-bytes w n k)))
+    withdrawn-removals w _ e (removals_from {m = retries_after m (step_of w withdrawing)} n _ l (call_inv withdrawing h) (rw e (withdrawn-bytes w n k)))
 
 -- by Annex C's own formula, of a writer that has placed nothing yet
 pub fresh_done : {w : CbrWriter} → Fresh w → (l : List Call) → EachDone w.variable w.cadence.film w.model.params (sent 0 (steps_of w l))

@@ -19,7 +19,7 @@ use Rattle.verify.specs.declared.CodedPicture.{CodedPicture}
 use Rattle.pictures.specs.declared.SeenPicture.{SeenPicture}
 use Rattle.verify.specs.Coded.{timed}
 use Rattle.verify.proofs.Rising.{timed-none, timed-first}
-use Rattle.cadence.specs.Cadence.{interval, after}
+use Rattle.cadence.specs.Cadence.{after}
 use Rattle.cadence.specs.declared.VbvCadence.{VbvCadence}
 use Rattle.layers.specs.Layer.{facts_in, offered_facts}
 use Rattle.layers.proofs.Laws.{laid}
@@ -29,7 +29,7 @@ use Rattle.rate_control.specs.Answers.{Given}
 use Rattle.rate_control.specs.Offer.{Offer, end, delivered_next, stuffing, delay, end_code, placed_bytes, with_pending, with_placed, left_by, out_of}
 use Rattle.rate_control.specs.Calls.{Call, offering, withdrawing, step_of, left_by_call, steps_of}
 use Rattle.rate_control.specs.Sent.{position_of, Sent, sent_position, sent_end, sent_by, sent, end_to_end, sent_facts, lasts_for}
-use Rattle.rate_control.specs.Demand.{AllBytes}
+use Rattle.rate_control.specs.Demand.{retries_after, AllBytes}
 use Rattle.rate_control.specs.declared.CbrWriter.{CbrWriter}
 use Rattle.rate_control.proofs.Storage.{end_code-last, end_code-none}
 use Rattle.rate_control.proofs.Chain.{Placing, Outcome, stays, closes, retries, hands_out, outcome}
@@ -180,7 +180,8 @@ sending n w [] h b = record {
   ends = tail_none;
   bare = λ e. refl;
 }
-sending n w (offering o ∷ l) h b = outcome_sending n l h b.0 (outcome w o) (λ k. sending k _ l (call_inv (offering o) h) b.1)
-sending n w (withdrawing ∷ l) h b =
+sending {m = m} n w (offering o ∷ l) h b =
+    outcome_sending n l h b.0 (outcome w o) (λ k. sending {m = retries_after m (step_of w (offering o))} k _ l (call_inv (offering o) h) b.1)
+sending {m = m} n w (withdrawing ∷ l) h b =
     let e = withdraw_is w h.fits in
-    same_sending (ap (λ (v : CbrWriter). v.model.params) e) (ap (λ (v : CbrWriter). v.model.started) e) (sending n _ l (call_inv withdrawing h) b)
+    same_sending (ap (λ (v : CbrWriter). v.model.params) e) (ap (λ (v : CbrWriter). v.model.started) e) (sending {m = retries_after m (step_of w withdrawing)} n _ l (call_inv withdrawing h) b)

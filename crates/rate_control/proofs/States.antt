@@ -1,27 +1,24 @@
 -- The ranges of a writer's state as the code tests them.
 -- Assumes nothing.
-use mathlib.Core.Path.{◌≡◌, refl, sym, ◌∙◌}
+use mathlib.Core.Path.{◌≡◌, sym, ◌∙◌}
 use mathlib.Core.Bool.{Bool, true, false, ◌&&◌, and_assoc}
 use mathlib.Core.List.{List, [], ◌∷◌}
 use mathlib.Core.Logic.{⊎_elim}
 use Prim.Native.Nat.{ℕ, ◌*◌, ◌/◌, ◌%◌, ◌≤◌, ◌<◌, max}
 use native.Mathlib.Omega.{arith}
 use lib.Dec.{leb, eqb}
-use lib.ListN.{length, get_or}
+use lib.ListN.{length}
 use borrow.Author.Tests.{le-leb, lt-leb}
 use Rattle.bits.specs.Bits.{pick}
 use Rattle.bits.proofs.Appending.{lt_or_le}
-use Rattle.vbv.specs.Model.{farthest, model_fits}
+use Rattle.vbv.specs.Model.{farthest}
 use Rattle.vbv.proofs.Fitting.{both_below}
-use Rattle.vbv.specs.declared.VbvCbrModel.{VbvCbrModel}
-use Rattle.vbr.specs.Variable.{variable_fits, model_fits_at}
-use Rattle.layers.specs.declared.PictureKind.{PictureKind}
+use Rattle.vbr.specs.Variable.{model_fits_at}
 use Rattle.cadence.specs.Cadence.{cadence_fits}
 use Rattle.rate_control.specs.Writer.{all_fit, quantiser_fits, pending_fits, writer_fits}
 use Rattle.bits.specs.Refusals.{value, refused, or_else}
 use Rattle.rate_control.specs.Offer.{with_pending, withdraw}
-use Rattle.rate_control.specs.declared.Pending.{Pending}
-use Rattle.rate_control.specs.declared.Pending.TheVariants.{Nothing, Waits}
+use Rattle.rate_control.specs.declared.Pending.TheVariants.{Nothing}
 use Rattle.rate_control.specs.declared.CbrWriter.{CbrWriter}
 
 -- three numbers
@@ -35,26 +32,6 @@ is_three (a ∷ b ∷ []) e = absurd (omega arith)
 is_three (a ∷ b ∷ c ∷ []) e = of_three a b c
 is_three (a ∷ b ∷ c ∷ d ∷ s) e = absurd (omega arith)
 
--- a test of each of them
-pub all_fit_three : (f : ℕ → Bool) (s : List ℕ) → length s ≡ 3 → (f (get_or s 0 0) && (f (get_or s 1 0) && f (get_or s 2 0))) ≡ all_fit f s
-unfolding all_fit
-all_fit_three f s e = go (is_three s e)
-  where
-    and_true : (t : Bool) → (t && true) ≡ t
-    and_true true = refl
-    and_true false = refl
-
-    go : {s : List ℕ} → Three s → (f (get_or s 0 0) && (f (get_or s 1 0) && f (get_or s 2 0))) ≡ all_fit f s
-    go (of_three a b d) = rw (and_true (f d))
-
-pub quantisers_told : (s : List ℕ) (a b d : Bool) → length s ≡ 3 → a ≡ quantiser_fits (get_or s 0 0) → b ≡ quantiser_fits (get_or s 1 0) → d ≡ quantiser_fits (get_or s 2 0)
-    → (a && (b && d)) ≡ all_fit quantiser_fits s
-quantisers_told s a b d l e f g = rw (e, f, g) (all_fit_three quantiser_fits s l)
-
-pub targets_told : (s : List ℕ) {g h : ℕ} → length s ≡ 3 → h ≡ max (get_or s 1 0) (get_or s 2 0) → g ≡ max (get_or s 0 0) h → leb g farthest ≡ all_fit (λ t. leb t farthest) s
-targets_told s l e f =
-    rw (f, e, both_below (get_or s 0 0) (max (get_or s 1 0) (get_or s 2 0)) farthest, both_below (get_or s 1 0) (get_or s 2 0) farthest) (all_fit_three (λ t. leb t farthest) s l)
-
 -- bytes against bits
 bytes_bits : (n b : ℕ) → leb n (b / 8) ≡ leb (8 * n) b
 bytes_bits n b =
@@ -62,14 +39,6 @@ bytes_bits n b =
     (λ (h : b / 8 < n). lt-leb n (b / 8) h ∙ sym (lt-leb (8 * n) b (omega arith)))
     (λ (h : n ≤ b / 8). le-leb n (b / 8) h ∙ sym (le-leb (8 * n) b (omega arith)))
     (lt_or_le (b / 8) n)
-
--- the model's ranges, at its rate
-module _ (v : Bool) (m : VbvCbrModel) (r : Bool) where
-  pub at-variable : v ≡ true → r ≡ variable_fits m → r ≡ model_fits_at v m
-  at-variable h e = rw h e
-
-  pub at_constant : v ≡ false → r ≡ model_fits m → r ≡ model_fits_at v m
-  at_constant h e = rw h e
 
 pub writer-tested : (w : CbrWriter) (f t q p k : Bool) (g : ℕ) → f ≡ model_fits_at w.variable w.model → g ≡ max w.model.removed w.stuffing_bytes → t ≡ all_fit (λ x. leb x farthest) w.target_bits
     → q ≡ all_fit quantiser_fits w.q → p ≡ pending_fits w.pending → k ≡ cadence_fits w.cadence
@@ -90,14 +59,6 @@ writer-tested w f t q p k g a h b d e c =
       bytes_bits w.stuffing_bytes w.model.prev_end_bits,
     )
     (simp and_assoc)
-
-pub pending-none : (p : Pending) → p ≡ Nothing → true ≡ pending_fits p
-unfolding pending_fits
-pending-none p e = rw e
-
-pub pending-some : (p : Pending) (k : PictureKind) (n : ℕ) (r : Bool) → p ≡ Waits k n → r ≡ quantiser_fits n → r ≡ pending_fits p
-unfolding pending_fits
-pending-some p k n r e h = rw (e, h)
 
 -- a writer that fits is not refused
 pub withdraw-answer : (w : CbrWriter) → writer_fits w ≡ true → withdraw w ≡ value (with_pending w Nothing)

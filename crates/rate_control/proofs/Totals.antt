@@ -16,6 +16,7 @@ use Rattle.rate_control.specs.Writer.{writer_fits}
 use Rattle.rate_control.specs.Offer.{Offer, end, delivered_next, placed_bytes, with_pending, with_placed, left_by, out_of}
 use Rattle.rate_control.specs.Calls.{Call, offering, withdrawing, step_of, left_by_call, steps_of, final}
 use Rattle.rate_control.specs.Sent.{sent_by, sent, end_to_end, stuffing_of}
+use Rattle.rate_control.specs.Demand.{retries_after}
 use Rattle.rate_control.specs.declared.CbrWriter.{CbrWriter}
 use Rattle.rate_control.proofs.Chain.{Outcome, stays, closes, retries, hands_out, outcome}
 use Rattle.rate_control.proofs.Placing.{end_is}
@@ -36,8 +37,9 @@ outcome_stuffing {w} {o} n x out l (hands_out g) h = omega (arith, h (n + length
 pub stuffing-total : {m : ℕ} (n : ℕ) (w : CbrWriter) (l : List Call) → Inv m w → (final w l).stuffing_bytes ≡ w.stuffing_bytes + stuffing_of (sent n (steps_of w l))
 unfolding steps_of step_of left_by_call final sent stuffing_of with_pending
 stuffing-total n w [] h = omega arith
-stuffing-total n w (offering o ∷ l) h = outcome_stuffing n _ _ l (outcome w o) (λ k. stuffing-total k _ l (call_inv (offering o) h))
-stuffing-total n w (withdrawing ∷ l) h = stuffing-total n _ l (call_inv withdrawing h) ∙ rw (withdraw_is w h.fits)
+stuffing-total {m = m} n w (offering o ∷ l) h =
+    outcome_stuffing n _ _ l (outcome w o) (λ k. stuffing-total {m = retries_after m (step_of w (offering o))} k _ l (call_inv (offering o) h))
+stuffing-total {m = m} n w (withdrawing ∷ l) h = stuffing-total {m = retries_after m (step_of w withdrawing)} n _ l (call_inv withdrawing h) ∙ rw (withdraw_is w h.fits)
 
 -- ---- the bytes handed out
 
@@ -62,13 +64,14 @@ laid_bits : {m : ℕ} (n : ℕ) (w : CbrWriter) (l : List Call) → Inv m w
     → (final w l).model.prev_end_bits ≡ w.model.prev_end_bits + 8 * length (end_to_end (sent n (steps_of w l)))
 unfolding steps_of step_of left_by_call final sent end_to_end with_pending
 laid_bits n w [] h = omega arith
-laid_bits n w (offering o ∷ l) h = outcome_laid n _ l (outcome w o) (λ k. laid_bits k _ l (call_inv (offering o) h))
-laid_bits n w (withdrawing ∷ l) h = laid_bits n _ l (call_inv withdrawing h) ∙ rw (withdraw_is w h.fits)
+laid_bits {m = m} n w (offering o ∷ l) h =
+    outcome_laid n _ l (outcome w o) (λ k. laid_bits {m = retries_after m (step_of w (offering o))} k _ l (call_inv (offering o) h))
+laid_bits {m = m} n w (withdrawing ∷ l) h = laid_bits {m = retries_after m (step_of w withdrawing)} n _ l (call_inv withdrawing h) ∙ rw (withdraw_is w h.fits)
 
 final-fits : {m : ℕ} (w : CbrWriter) (l : List Call) → Inv m w → writer_fits (final w l) ≡ true
 unfolding final
 final-fits w [] h = h.fits
-final-fits w (c ∷ l) h = final-fits _ l (call_inv c h)
+final-fits {m = m} w (c ∷ l) h = final-fits {m = retries_after m (step_of w c)} _ l (call_inv c h)
 
 -- never more than 2^48 bits
 pub laid-low : {m : ℕ} (n : ℕ) (w : CbrWriter) (l : List Call) → Inv m w → 8 * length (end_to_end (sent n (steps_of w l))) ≤ farthest

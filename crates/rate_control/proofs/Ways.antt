@@ -2,7 +2,7 @@
 -- Assumes nothing.
 use mathlib.Core.Path.{◌≡◌, refl, sym, ◌∙◌}
 use mathlib.Core.Bool.{Bool, true, false}
-use Prim.Native.Nat.{ℕ, ◌+◌, ◌-◌, ◌*◌, ◌/◌, ◌≤◌, ◌<◌, max}
+use Prim.Native.Nat.{ℕ, ◌+◌, ◌*◌, ◌/◌, ◌≤◌, ◌<◌, max}
 use native.Mathlib.Omega.{arith}
 use native.Mathlib.Nat.{div-lt_iff_lt-mul}
 use lib.ListN.{length}
@@ -20,7 +20,6 @@ use Rattle.vbv.specs.declared.VbvCbrModel.{VbvCbrModel}
 use Rattle.vbv.specs.declared.VbvError.{VbvError}
 use Rattle.vbv.specs.declared.VbvError.TheVariants.{Early, Range}
 use Rattle.vbv.specs.declared.VbvViolation.{VbvViolation}
-use Rattle.vbv.specs.declared.VbvViolation.TheVariants.{Overflow, Underflow, DelayMismatch}
 use Rattle.vbv.specs.declared.VbvModel.{VbvModel}
 use Rattle.vbv.specs.declared.VbvModel.TheVariants as md
 use Rattle.vbv.specs.declared.VbvRemoval.{VbvRemoval}
@@ -31,11 +30,10 @@ use Rattle.vbv.specs.declared.VbvBits.{VbvBits}
 use Rattle.vbv.specs.declared.VbvBits.TheVariants as bt
 use Rattle.rate_control.specs.Offer.{first_delay, end_code}
 use Rattle.rate_control.specs.Steps.{started_at, stuffing_up_to, ready_by, by_end, violated, by_size, by_most, with_stuffing, by_least, by_start, filled_at, flowed_by, by_filled, by_rate, extent_of, within14, measured}
-use Rattle.rate_control.specs.declared.CbrError.TheVariants.{Model, Violation, Stuffing}
+use Rattle.rate_control.specs.declared.CbrError.TheVariants.{Model, Stuffing}
 use Rattle.rate_control.specs.declared.Extent.{Extent}
 use Rattle.rate_control.specs.declared.Tested.{Tested}
-use Rattle.rate_control.specs.declared.Tested.TheVariants.{Refused, TooLarge, Ready}
-use Rattle.rate_control.proofs.Storage.{end_code-none, end_size}
+use Rattle.rate_control.specs.declared.Tested.TheVariants.{Refused, Ready}
 
 -- ---- the first delay
 
@@ -52,17 +50,6 @@ module _ (m : VbvCbrModel) (position : ℕ) where
   pub start-new : (d : ℕ) (r : VbvModel) → m.started ≡ false → d ≡ first_delay m.params → model_answer r ≡ start_model m d position → r ≡ started_at m position
   unfolding started_at pick
   start-new d r h e g = sym (model_case refl g) ∙ rw (h, e)
-
--- ---- stuffing
-
-module _ (least content : ℕ) (last : Bool) where
-  pub up_to_last : last ≡ true → 0 ≡ stuffing_up_to least content last
-  unfolding stuffing_up_to pick
-  up_to_last h = rw h
-
-  pub up_to_least : (r : ℕ) → last ≡ false → r ≡ (least - content + 7) / 8 → r ≡ stuffing_up_to least content last
-  unfolding stuffing_up_to pick
-  up_to_least r h e = rw h e
 
 -- ---- the delay
 
@@ -92,18 +79,6 @@ module _ (m : VbvCbrModel) (x : Extent) (z : ℕ) (r : VbvRemoval) (v : Answer V
   end_yes next j h g = g ∙ rw (removal_case h e)
 
 -- ---- position and size
-
-pub violated-over : (v : VbvViolation) (n c d : ℕ) → v ≡ Overflow n c d → Refused (Violation v) ≡ violated v
-unfolding violated
-violated-over v n c d e = rw e
-
-pub violated_under : (v : VbvViolation) (n c d : ℕ) → v ≡ Underflow n c d → TooLarge ≡ violated v
-unfolding violated
-violated_under v n c d e = rw e
-
-pub violated-delay : (v : VbvViolation) (n c d : ℕ) → v ≡ DelayMismatch n c d → Refused (Violation v) ≡ violated v
-unfolding violated
-violated-delay v n c d e = rw e
 
 module _ (m : VbvCbrModel) (x : Extent) (z : ℕ) (i : RemovalInterval) (r : VbvBits) (v : Answer ℕ) (e : model_bits_answer r ≡ v) where
   pub most_no : (error : VbvError) → r ≡ bt.Refused error → Refused (Model error) ≡ by_most m x z i (bits_of v)
@@ -185,12 +160,6 @@ module _ (m : VbvCbrModel) (x : Extent) (i : RemovalInterval) (last : Bool) (r :
 -- at a constant rate the parameters fit, the ratio too
 pub ratio_known : (v : Bool) (p : VbvParams) → (v ≡ false → ParamsFit p) → v ≡ false → ParamsFit p
 ratio_known v p f h = f h
-
-pub end_code_four : (last : Bool) → last ≡ true → (4 ≡ length (end_code last)) × (4 ≤ 4)
-end_code_four last h = (sym (end_size last h), omega arith)
-
-pub end_code_empty : (last : Bool) → last ≡ false → (0 ≡ length (end_code last)) × (0 ≤ 4)
-end_code_empty last h = (rw (end_code-none last h), omega arith)
 
 module _ (v : Bool) (m : VbvCbrModel) (headers layer : ℕ) (i : RemovalInterval) (last : Bool) (a : ℕ) (e : a ≡ max headers layer) where
   pub far_bytes : farthest / 8 < a → Refused (Model Range) ≡ measured v m headers layer i last

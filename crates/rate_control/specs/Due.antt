@@ -1,6 +1,6 @@
 -- Which answer is due to creation and to each offer (paper 01, 'A placed picture'), by conditions in ≤ and <, from creation, the calls and their answers: not from the writer's state,
--- nor from the tests, positions, stuffing or bytes of `offer`. The fit tests, `firstDelay`, `endCode`, `patched`, `coarser`, `steered`, `pendingOr`, `of`, `index`, `frameRate`, `writerParams`, `targets`, `periods`, `cadenceBy`, `offeredFacts`, `interval`, `after` and
--- Annex C are the ones that `create` and `offer` compute with: they are to be read against the papers themselves; vbv/specs/Arrival holds `firstArrived` and `arrived`, cadence/specs/Table and History hold `interval` and `after`, `SequenceOpens` (pictures/specs/Due) holds `cadenceBy`. Assumes nothing.
+-- nor from the tests, positions, stuffing or bytes of `offer`. The fit tests, `first_delay`, `end_code`, `patched`, `coarser`, `steered`, `pending_or`, `of`, `index`, `frame_rate`, `writer_params`, `targets`, `periods`, `cadence_by`, `offered_facts`, `interval`, `after` and
+-- Annex C are the ones that `create` and `offer` compute with: they are to be read against the papers themselves; vbv/specs/Arrival holds `first_arrived` and `arrived`, cadence/specs/Table and History hold `interval` and `after`, `SequenceOpens` (pictures/specs/Due) holds `cadence_by`. Assumes nothing.
 use Rattle.std.specs.Prelude.{ℕ, suc, ◌+◌, ◌*◌, ◌/◌, ◌%◌, ◌≤◌, ◌<◌, ◌≡◌, List, [], ◌∷◌, ◌++◌, Bool, true, false, eqb, ltb, length, take, drop, replicate, set}
 use Rattle.bits.specs.Bits.{pick}
 use Rattle.bits.specs.Refusals.{Answer, value, refused}

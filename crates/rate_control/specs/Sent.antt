@@ -1,5 +1,5 @@
 -- The pictures that a list of calls placed, as bytes, and what the receiver and the check make of them. All is taken from the calls and their answers, by Annex C's own formula
--- and not by the writer's state; so is how long each picture lasts: by the cadence that the first placed headers open, and the pictures placed (request 05). `cadenceBy`, `interval` and `after` are the writer's own: cadence/specs/Table and History, and `SequenceOpens`, hold them. Assumes nothing.
+-- and not by the writer's state; so is how long each picture lasts: by the cadence that the first placed headers open, and the pictures placed (request 05). `cadence_by`, `interval` and `after` are the writer's own: cadence/specs/Table and History, and `SequenceOpens`, hold them. Assumes nothing.
 use Rattle.std.specs.Prelude.{ℕ, ◌+◌, ◌*◌, ◌≤◌, ◌≡◌, List, [], ◌∷◌, ◌++◌, Bool, true, false, ◌↔◌, length, take, replicate}
 use Rattle.bits.specs.Refusals.{Answer, value, refused}
 use Rattle.vbv.specs.Annex.{unit, occupancy, first_arrived, arrived, expected}

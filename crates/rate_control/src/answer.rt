@@ -10,6 +10,7 @@ use layers::PictureKind;
 
 impl CbrWriter {
     // Nothing changes.
+    #[tactic(auto, unfolding(crate::specs::Steps::refused_in_code))]
     pub(crate) fn refused(self, error: CbrError) -> CbrOffered
         ensures { result ≡ refused_in_code self error }
     {
@@ -20,6 +21,7 @@ impl CbrWriter {
     }
 
     // A coarser quantiser, or at 31 a refusal that closes the pending picture.
+    #[tactic(auto, unfolding(crate::specs::Steps::too_large_in_code, bits::specs::Bits::pick))]
     pub(crate) fn too_large(self, kind: PictureKind) -> CbrOffered
         ensures { result ≡ too_large_in_code self kind (asked self kind) }
     {

@@ -14,6 +14,7 @@ use cadence::VbvCadence;
 use pictures::VbvStandard;
 use vbv::{FrameRate, VbvCbrModel, VbvError, VbvModel, VbvParams};
 
+#[tactic(auto, unfolding(crate::specs::Create::within))]
 fn within(low: u64, high: u64, value: u64) -> bool
     ensures { result ≡ within low high value }
 {
@@ -21,6 +22,7 @@ fn within(low: u64, high: u64, value: u64) -> bool
 }
 
 // Of the standards MPEG-2 is written.
+#[tactic(auto, unfolding(crate::specs::Create::is_written))]
 fn is_written(standard: VbvStandard) -> bool
     ensures { result ≡ is_written standard }
 {
@@ -46,6 +48,7 @@ fn type_target_bits(params: VbvParams, b_between: u64, anchors_per_gop: u64) -> 
 }
 
 // Of no use: all zeros, so that every call refuses it.
+#[tactic(auto, unfolding(crate::specs::Create::no_writer))]
 pub fn no_writer() -> CbrWriter
     ensures { result ≡ no_writer }
 {
@@ -74,6 +77,7 @@ pub fn no_writer() -> CbrWriter
 }
 
 // At a variable rate the ratio is not asked.
+#[tactic(auto, unfolding(vbr::specs::Variable::new_model_at, bits::specs::Bits::pick))]
 fn new_model(params: VbvParams, variable: bool) -> VbvModel
     ensures { model_answer result ≡ new_model_at variable params }
 {
@@ -83,6 +87,7 @@ fn new_model(params: VbvParams, variable: bool) -> VbvModel
     VbvCbrModel::new(params)
 }
 
+#[tactic(auto, unfolding(crate::specs::Steps::not_created))]
 fn not_created(error: VbvError) -> CbrCreated
     ensures { result ≡ not_created error }
 {

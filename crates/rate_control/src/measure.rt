@@ -35,6 +35,7 @@ fn started(model: VbvCbrModel, position: u64) -> VbvModel
 }
 
 // Zero bytes up to the least end; none after the last picture.
+#[tactic(auto, unfolding(crate::specs::Steps::stuffing_up_to, bits::specs::Bits::pick))]
 fn stuffing(least: u64, content: u64, last: bool) -> u64
     ensures { result ≡ stuffing_up_to least content last }
 {
@@ -49,6 +50,7 @@ fn stuffing(least: u64, content: u64, last: bool) -> u64
 }
 
 // An underflow is a picture too large.
+#[tactic(auto, unfolding(crate::specs::Steps::violated))]
 pub(crate) fn violated(violation: VbvViolation) -> Tested
     ensures { result ≡ violated violation }
 {
@@ -146,6 +148,7 @@ pub(crate) fn greater(a: u64, b: u64) -> u64
     if a < b { b } else { a }
 }
 
+#[tactic(auto, unfolding(crate::specs::Offer::end_code))]
 fn end_code_bytes(last: bool) -> u64
     ensures { (result ≡ length (end_code last)) × (result ≤ 4) }
 {

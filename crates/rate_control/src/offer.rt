@@ -29,6 +29,7 @@ fn timing(cadence: VbvCadence, interval: RemovalInterval, layer: &[u8]) -> Timin
 
 impl CbrWriter {
     // The cadence before the picture: until one is placed, that which its own headers open.
+    #[tactic(auto, unfolding(crate::specs::Offer::cadence_at, bits::specs::Bits::pick))]
     fn cadence_at(self, headers: &[u8]) -> VbvCadence
         ensures { result ≡ cadence_at self headers.now }
     {
@@ -83,9 +84,9 @@ impl CbrWriter {
         layer: &[u8],
         out: &mut [u8],
     ) -> CbrOffered
-        ensures answer_value { offer_answer result.answer ≡ offer self (record { headers = headers.entry.now; kind = kind; interval = interval; last = last; layer = layer.now; out = out.old }) }
-        ensures writer_value { result.writer ≡ left self (record { headers = headers.entry.now; kind = kind; interval = interval; last = last; layer = layer.now; out = out.old }) }
-        ensures out_after { out.new ≡ out_after self (record { headers = headers.entry.now; kind = kind; interval = interval; last = last; layer = layer.now; out = out.old }) }
+        ensures answer_value { offer_answer result.answer ≡ offer self (record { headers = headers.now; kind = kind; interval = interval; last = last; layer = layer.now; out = out.old }) }
+        ensures writer_value { result.writer ≡ left self (record { headers = headers.now; kind = kind; interval = interval; last = last; layer = layer.now; out = out.old }) }
+        ensures out_after { out.new ≡ out_after self (record { headers = headers.now; kind = kind; interval = interval; last = last; layer = layer.now; out = out.old }) }
     {
         let timing = timing(self.cadence_at(headers), interval, layer);
         let lasts = timing.interval;

@@ -9,24 +9,28 @@ use crate::{CbrWriter, Pending};
 use layers::PictureKind;
 use vbv::FARTHEST;
 
+#[tactic(auto, unfolding(crate::specs::Writer::quantiser_fits, crate::specs::Create::within))]
 fn quantiser(q: u8) -> bool
     ensures { result ≡ quantiser_fits q }
 {
     (1 <= q) & (q <= 31)
 }
 
+#[tactic(auto, unfolding(crate::specs::Writer::all_fit))]
 fn all_quantisers(q: [u8; 3]) -> bool
     ensures { result ≡ all_fit quantiser_fits q }
 {
     quantiser(q[0]) & (quantiser(q[1]) & quantiser(q[2]))
 }
 
+#[tactic(auto, unfolding(crate::specs::Writer::all_fit))]
 fn all_targets(target_bits: [u64; 3]) -> bool
     ensures { result ≡ all_fit (λ t. leb t farthest) target_bits }
 {
     greater(target_bits[0], greater(target_bits[1], target_bits[2])) <= FARTHEST
 }
 
+#[tactic(auto, unfolding(crate::specs::Writer::pending_fits))]
 fn pending_fits(pending: Pending) -> bool
     ensures { result ≡ pending_fits pending }
 {
@@ -57,6 +61,7 @@ pub(crate) fn clashes(pending: Pending, kind: PictureKind) -> bool
 }
 
 // The quantiser with which a picture that is too large is to be encoded again.
+#[tactic(auto, unfolding(crate::specs::Writer::coarser))]
 pub(crate) fn coarser(q: u8) -> u8
     ensures { result ≡ coarser q }
 {
@@ -84,6 +89,7 @@ fn at_least_one(target: u64) -> u64
 }
 
 // The kind's next quantiser, from the one just placed and the layer's bits; a target of 0 counts as 1.
+#[tactic(auto, unfolding(crate::specs::Writer::steered, bits::specs::Bits::pick))]
 pub(crate) fn steered(q: u8, target: u64, bits: u64) -> u8
     requires target_le_farthest { target ≤ farthest }
     requires bits_le_farthest { bits ≤ farthest }
@@ -101,6 +107,7 @@ pub(crate) fn steered(q: u8, target: u64, bits: u64) -> u8
 
 impl CbrWriter {
     // The quantiser that a layer is asked for with: the pending picture's, or the kind's.
+    #[tactic(auto, unfolding(crate::specs::Writer::asked, crate::specs::Writer::pending_or, crate::specs::Writer::of))]
     pub(crate) fn asked(self, kind: PictureKind) -> u8
         ensures { result ≡ asked self kind }
     {
@@ -116,6 +123,7 @@ impl CbrWriter {
     }
 
     // The model's ranges, at its rate.
+    #[tactic(auto, unfolding(vbr::specs::Variable::model_fits_at, bits::specs::Bits::pick))]
     fn model_fits(self) -> bool
         ensures { result ≡ model_fits_at self.variable self.model }
     {

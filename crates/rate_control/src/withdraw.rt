@@ -8,6 +8,7 @@ use crate::{CbrWithdrawal, CbrWithdrawn, CbrWriter, Pending};
 use vbv::VbvError;
 
 impl CbrWriter {
+    #[tactic(auto, unfolding(crate::specs::Offer::with_pending))]
     pub(crate) fn with_pending(self, pending: Pending) -> CbrWriter
         ensures { result ≡ with_pending self pending }
     {

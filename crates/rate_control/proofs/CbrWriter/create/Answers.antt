@@ -6,17 +6,20 @@ use Rattle.rate_control.proofs.CbrWriter.create.Goals as goal
 pub with_rate-requires : goal.with_rate-requires
 with_rate-requires c = config_ranges _ (search told_by)
 
-pub returns-in-Rate : goal.returns-in-Rate
-returns-in-Rate c =
-    let both = search (rules, way_rate, left-rate) in
-    record { result_value = both.0; writer_value = both.1 }
+pub returns-in-Rate-clause-result_value : goal.returns-in-Rate-clause-result_value
+returns-in-Rate-clause-result_value c = search (rules, way_rate)
 
-pub returns-in-Refused : goal.returns-in-Refused
-returns-in-Refused c =
-    let both = search (rules, way_6, left_6) in
-    record { result_value = both.0; writer_value = both.1 }
+pub returns-in-Rate-clause-writer_value : goal.returns-in-Rate-clause-writer_value
+returns-in-Rate-clause-writer_value c = search (rules, left-rate)
 
-pub returns-else-fits : goal.returns-else-fits
-returns-else-fits c =
-    let both = search (rules, way_12, left_12) in
-    record { result_value = both.0; writer_value = both.1 }
+pub returns-in-Refused-clause-result_value : goal.returns-in-Refused-clause-result_value
+returns-in-Refused-clause-result_value c = search (rules, way_6)
+
+pub returns-in-Refused-clause-writer_value : goal.returns-in-Refused-clause-writer_value
+returns-in-Refused-clause-writer_value c = search (rules, left_6)
+
+pub returns-else-fits-clause-result_value : goal.returns-else-fits-clause-result_value
+returns-else-fits-clause-result_value c = search (rules, way_12)
+
+pub returns-else-fits-clause-writer_value : goal.returns-else-fits-clause-writer_value
+returns-else-fits-clause-writer_value c = search (rules, left_12)

@@ -5,10 +5,11 @@ use Rattle.rate_control.proofs.CbrWriter.tested.Goals as goal
 pub returns-then-self-clashes : goal.returns-then-self-clashes
 returns-then-self-clashes c = search (rules, way_17)
 
-pub measured-requires : goal.measured-requires
-measured-requires c =
-    let both = search (rules, end_of, params_of) in
-    record { prev_end_bits_bound = both.0; params_fit = both.1 }
+pub measured-requires-clause-prev_end_bits_bound : goal.measured-requires-clause-prev_end_bits_bound
+measured-requires-clause-prev_end_bits_bound c = search (rules, end_of)
+
+pub measured-requires-clause-params_fit : goal.measured-requires-clause-params_fit
+measured-requires-clause-params_fit c = search (rules, params_of)
 
 pub returns-then-layer_fits : goal.returns-then-layer_fits
 returns-then-layer_fits c = search (rules, way_on)
