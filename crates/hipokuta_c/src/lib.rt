@@ -59,7 +59,15 @@ pub extern "C" fn cbr_create(
     ensures value { result ≡ number (create_in (config_of bit_rate_value vbv_buffer_size_value frame_rate_code quantiser b_between anchors_per_gop) state.old) }
     ensures state_after { state.new ≡ state_after (create_in (config_of bit_rate_value vbv_buffer_size_value frame_rate_code quantiser b_between anchors_per_gop) state.old) state.old }
 {
-    hipokuta::cbr_create(bit_rate_value, vbv_buffer_size_value, frame_rate_code, quantiser, b_between, anchors_per_gop, state)
+    hipokuta::cbr_create(
+        bit_rate_value,
+        vbv_buffer_size_value,
+        frame_rate_code,
+        quantiser,
+        b_between,
+        anchors_per_gop,
+        state,
+    )
 }
 
 // A new writer by a configuration's words: mode, bit_rate_value, vbv_buffer_size_value, frame_rate_code, n, d, quantiser,

@@ -18,7 +18,6 @@ use Rattle.vbv.specs.Model.{farthest}
 use Rattle.vbv.proofs.Fitting.{range_fits, model_in_range_lem, in_range, frames_in_range}
 use Rattle.vbr.proofs.Either.{fits_range_at}
 use Rattle.rate_control.proofs.Fitting.{all_fit-at, quantiser_is, writer_fits_lem}
-use Rattle.rate_control.proofs.States.{pending-some}
 use Rattle.layout.specs.State.{pending_code, pending_quantiser, state_words}
 use Rattle.words.proofs.Bytes.{AllWords, some, each_small, small_append}
 use Rattle.layout.proofs.Cadences.{cadence_small}
@@ -31,9 +30,9 @@ code_low (Waits P q) = omega arith
 code_low (Waits B q) = omega arith
 
 quantiser_low : (p : Pending) → pending_fits p ≡ true → pending_quantiser p ≤ 31
-unfolding pending_quantiser
+unfolding pending_quantiser pending_fits
 quantiser_low Nothing h = omega arith
-quantiser_low (Waits k q) h = (quantiser_is (pending-some (Waits k q) k q (quantiser_fits q) refl refl ∙ h)).high
+quantiser_low (Waits k q) h = (quantiser_is h).high
 
 targets_small : (vs : List ℕ) → all_fit (λ t. leb t farthest) vs ≡ true → AllWords vs
 targets_small vs h = each_small vs (λ k g. omega (arith, leb-true (get_or vs k 0) farthest (all_fit-at _ vs k h g)))

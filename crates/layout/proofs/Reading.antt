@@ -19,7 +19,6 @@ use Rattle.rate_control.specs.declared.Pending.{Pending}
 use Rattle.rate_control.specs.declared.Pending.TheVariants.{Waits}
 use Rattle.rate_control.specs.declared.CbrWriter.{CbrWriter}
 use Rattle.rate_control.proofs.Fitting.{all_fit-at, quantiser_is, writer_fits_lem}
-use Rattle.rate_control.proofs.States.{pending-some}
 use Rattle.cadence.specs.declared.VbvCadence.{VbvCadence}
 use Rattle.words.specs.Words.{word_at}
 use Rattle.verify.specs.declared.VbvMode.{VbvMode}
@@ -43,7 +42,7 @@ or-pick false b = refl
 
 -- a pending picture in its range has a quantiser of few bits
 waits-low : (code q : ℕ) → pick (eqb code 0) (eqb q 0) true ≡ true → pending_fits (pending_of code q) ≡ true → q ≤ 31
-unfolding pending_of pick
+unfolding pending_of pending_fits pick
 waits-low code q h =
     pick_elim Low (eqb code 0) (λ e f. omega (arith, eqb-true q 0 (rw e at (h))))
     (λ e. pick_elim Low (eqb code 1) (λ e. low I) (λ e. pick_elim Low (eqb code 2) (λ e. low P) (λ e. low B)))
@@ -52,7 +51,7 @@ waits-low code q h =
     Low x = pending_fits x ≡ true → q ≤ 31
 
     low : (k : PictureKind) → pending_fits (Waits k q) ≡ true → q ≤ 31
-    low k f = (quantiser_is (pending-some (Waits k q) k q (quantiser_fits q) refl refl ∙ f)).high
+    low k f = (quantiser_is f).high
 
 module _ (s : List ℕ) where
   pub model_told : (a b c d e f g h i : ℕ) → a ≡ word_at s 0 → b ≡ word_at s 1 → c ≡ word_at s 2 → d ≡ word_at s 3 → e ≡ word_at s 4

@@ -8,8 +8,13 @@ pub returns-then-answer-lt-ANSWER_BYTES : goal.returns-then-answer-lt-ANSWER_BYT
 returns-then-answer-lt-ANSWER_BYTES c =
     let a = c.args in
     let o : COffer = record {
-      headers = a.headers.now; kind = a.kind; interval = a.interval; last = a.last;
-      layer = a.layer.now; out = a.out.now; answer = a.answer.now;
+      headers = a.headers.now;
+      kind = a.kind;
+      interval = a.interval;
+      last = a.last;
+      layer = a.layer.now;
+      out = a.out.now;
+      answer = a.answer.now;
     } in
     let t = no_answer_place a.state.now o _ c.read_state-held.ensures c.if-held.true (omega arith) in
     record { value = t.0; state_after = t.1.0; out_after = t.1.1.0; answer_after = t.1.1.1 }
@@ -18,28 +23,38 @@ pub returns-then-kind-interval : goal.returns-then-kind-interval
 returns-then-kind-interval c =
     let a = c.args in
     let o : COffer = record {
-      headers = a.headers.now; kind = a.kind; interval = a.interval; last = a.last;
-      layer = a.layer.now; out = a.out.now; answer = a.answer.now;
+      headers = a.headers.now;
+      kind = a.kind;
+      interval = a.interval;
+      last = a.last;
+      layer = a.layer.now;
+      out = a.out.now;
+      answer = a.answer.now;
     } in
     let t = asked a.state.now o _ c.read_state-held.ensures c.if-held.true (omega arith) c.if-kind-interval.true
-            _ _ c.kind_of.ensures c.interval_of.ensures
-            c.offer-offered.result c.offer-offered.ensures.answer_value c.offer-offered.ensures.writer_value
-            c.answer_number.ensures c.put_state.ensures c.offer-offered.ensures.out_after c.put_answer.ensures in
+    _ _ c.kind_of.ensures c.interval_of.ensures
+    c.offer-offered.result c.offer-offered.ensures.answer_value c.offer-offered.ensures.writer_value
+    c.answer_number.ensures c.put_state.ensures c.offer-offered.ensures.out_after c.put_answer.ensures in
     record { value = t.0; state_after = t.1.0; out_after = t.1.1.0; answer_after = t.1.1.1 }
 
 pub returns : goal.returns
 returns c =
     let a = c.args in
     let o : COffer = record {
-      headers = a.headers.now; kind = a.kind; interval = a.interval; last = a.last;
-      layer = a.layer.now; out = a.out.now; answer = a.answer.now;
+      headers = a.headers.now;
+      kind = a.kind;
+      interval = a.interval;
+      last = a.last;
+      layer = a.layer.now;
+      out = a.out.now;
+      answer = a.answer.now;
     } in
     let e = c.read_state-held.ensures in
     elim c.if-held.branch [
-      then-held+else-answer-lt-ANSWER_BYTES+else-kind-interval w ↦
-        let t = no_code a.state.now o _ e w.if-held.true (omega arith) w.if-kind-interval.false c.plain.ensures c.put_refused.ensures in
-        record { value = t.0; state_after = t.1.0; out_after = t.1.1.0; answer_after = t.1.1.1 }
-    | else-held w ↦
-        let t = no_state_lem a.state.now o _ e w.if-held.false c.plain.ensures c.put_refused.ensures in
-        record { value = t.0; state_after = t.1.0; out_after = t.1.1.0; answer_after = t.1.1.1 }
+      | then-held+else-answer-lt-ANSWER_BYTES+else-kind-interval w ↦
+          let t = no_code a.state.now o _ e w.if-held.true (omega arith) w.if-kind-interval.false c.plain.ensures c.put_refused.ensures in
+          record { value = t.0; state_after = t.1.0; out_after = t.1.1.0; answer_after = t.1.1.1 }
+      | else-held w ↦
+          let t = no_state_lem a.state.now o _ e w.if-held.false c.plain.ensures c.put_refused.ensures in
+          record { value = t.0; state_after = t.1.0; out_after = t.1.1.0; answer_after = t.1.1.1 }
     ]
