@@ -91,6 +91,7 @@ impl VbvCadence {
     }
 
     // How long up to the removal after this picture's. A field that lasts as long as a frame has the interval Frame.
+    #[tactic(auto, unfolding(crate::specs::Cadence::interval, crate::specs::Cadence::field_interval, crate::specs::Cadence::frame_interval, vbv::specs::Model::interval_of, bits::specs::Bits::pick))]
     pub fn interval(self, facts: PictureFacts) -> RemovalInterval
         ensures { result ≡ interval_of self facts }
     {

@@ -60,8 +60,15 @@ pub record Scanning (s : List ℕ) (from i k : ℕ) : Type 0 where
   pub count : k + looked_from false s i ≡ looked_from false s from
   pub few : k ≤ i
 
-pub begun : (s : List ℕ) (from : ℕ) → Scanning s from from 0
-begun s from = record { code = refl; count = omega arith; few = omega arith }
+pub scanning : (s : List ℕ) (from i k : ℕ) → next_code s i ≡ next_code s from → k + looked_from false s i ≡ looked_from false s from → k ≤ i → Scanning s from i k
+scanning s from i k e q l = record { code = e; count = q; few = l }
+
+-- the third byte is above 01: three bytes on the code is the same, and one place less is left to look at
+pub above_code : (s : List ℕ) (i : ℕ) → i + 4 ≤ length s → 1 < get_or s (i + 2) 0 → next_code s (i + 3) ≡ next_code s i
+above_code s i h t = far_on s i (no_third s i (λ e. omega arith)) (λ e. omega arith)
+
+pub above_count : (s : List ℕ) (i : ℕ) → i + 4 ≤ length s → 1 < get_or s (i + 2) 0 → 1 + looked_from false s (i + 3) ≡ looked_from false s i
+above_count s i h t = omega (arith, third_other false s i h (no_third s i (λ e. omega arith)) (λ e. omega arith))
 
 module _ {s : List ℕ} {from i k : ℕ} (v : Scanning s from i k) where
   one_later : i + 4 ≤ length s → starts (drop i s) ≡ false → get_or s (i + 2) 0 ≡ 0 → Scanning s from (i + 1) (k + 1)
@@ -72,10 +79,7 @@ module _ {s : List ℕ} {from i k : ℕ} (v : Scanning s from i k) where
   three_later h e n =
       record { code = far_on s i e n ∙ v.code; count = omega (arith, v.count, third_other false s i h e n); few = omega (arith, v.few) }
 
-  -- the third byte is above 01, or 00
-  pub go_above : i + 4 ≤ length s → 1 < get_or s (i + 2) 0 → Scanning s from (i + 3) (k + 1)
-  go_above h t = three_later h (no_third s i (λ e. omega arith)) (λ e. omega arith)
-
+  -- the third byte is 00
   pub go_zero : i + 4 ≤ length s → get_or s (i + 2) 0 ≡ 0 → Scanning s from (i + 1) (k + 1)
   go_zero h z = one_later h (no_third s i (λ e. omega arith)) z
 

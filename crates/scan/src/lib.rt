@@ -75,6 +75,7 @@ fn places(end: usize, n: usize) -> usize
 // The scan of a part whose places with four bytes are those before `end`, which a caller often knows. The length is tested
 // once a place; without a code there the next is one on if the third byte is 00, otherwise three. Only where the third byte
 // is 01 are the three compared with the prefix.
+#[tactic(auto, using(crate::proofs::Scans::above_code, crate::proofs::Scans::above_count))]
 fn scan_places(s: &[u8], from: usize, end: usize) -> Scanned
     requires { end ≡ length s.now - 3 }
     ensures { result ≡ scanned s.now from }
