@@ -81,6 +81,7 @@ pub extern "C" fn cbr_create_config(config: &[u8], state: &mut [u8]) -> u64
 }
 
 // Kinds 0 I, 1 P, 2 B.
+#[tactic(auto, unfolding(crate::specs::Send::kind_for, bits::specs::Bits::pick))]
 fn kind_of(kind: u8) -> PictureKind
     ensures { result ≡ kind_for kind }
 {
@@ -92,6 +93,7 @@ fn kind_of(kind: u8) -> PictureKind
 }
 
 // Intervals 1 a field, 2 a frame.
+#[tactic(auto, unfolding(crate::specs::Send::interval_for, bits::specs::Bits::pick))]
 fn interval_of(interval: u8) -> RemovalInterval
     ensures { result ≡ interval_for interval }
 {

@@ -11,6 +11,7 @@ use verify::VbvStreamReport;
 use words::put_words;
 
 // The report of a stream.
+#[tactic(auto, unfolding(crate::specs::Answers::report_words))]
 pub fn put_report(place: &mut [u8], r: VbvStreamReport)
     ensures { place.new ≡ laid (words_bytes (report_words r)) place.old }
 {
@@ -25,6 +26,7 @@ pub fn put_report(place: &mut [u8], r: VbvStreamReport)
 }
 
 // The refusal of a stream.
+#[tactic(auto, unfolding(crate::specs::Answers::refusal_words))]
 pub fn put_refusal(place: &mut [u8], r: VbvRefusal)
     ensures { place.new ≡ laid (words_bytes (refusal_words r)) place.old }
 {
@@ -38,6 +40,7 @@ pub fn put_refusal(place: &mut [u8], r: VbvRefusal)
 }
 
 // A refused offer.
+#[tactic(auto, unfolding(crate::specs::Answers::answer_words))]
 pub fn put_refused(place: &mut [u8], refusal: VbvRefusal)
     ensures { place.new ≡ laid (words_bytes (answer_words (refused refusal.«number» refusal.picture refusal.coded refusal.expected))) place.old }
 {

@@ -16,6 +16,7 @@ pub const MPEG2_VARIABLE: u64 = 10;
 pub const MPEG2_FILM_VARIABLE: u64 = 14;
 
 // Whether a number is a mode's.
+#[tactic(auto, unfolding(crate::specs::Mode::is_mode))]
 pub fn is_mode(number: u64) -> bool
     ensures { result ≡ is_mode number }
 {
@@ -26,6 +27,7 @@ pub fn is_mode(number: u64) -> bool
 }
 
 // The mode of a number.
+#[tactic(auto, unfolding(crate::specs::Mode::mode_for, bits::specs::Bits::pick))]
 pub fn mode_for(number: u64) -> VbvMode
     ensures { result ≡ mode_for number }
 {

@@ -25,6 +25,7 @@ fn flag(value: bool) -> u64
 }
 
 // 0 where no picture is pending, 1 I, 2 P, 3 B.
+#[tactic(auto, unfolding(crate::specs::State::pending_code))]
 fn pending_code(pending: Pending) -> u64
     ensures { result ≡ pending_code pending }
 {
@@ -38,6 +39,7 @@ fn pending_code(pending: Pending) -> u64
     }
 }
 
+#[tactic(auto, unfolding(crate::specs::State::pending_quantiser))]
 fn pending_quantiser(pending: Pending) -> u64
     ensures { result ≡ pending_quantiser pending }
 {
@@ -48,6 +50,7 @@ fn pending_quantiser(pending: Pending) -> u64
 }
 
 // 0 where no field is open, 1 led by I or P, 2 by B.
+#[tactic(auto, unfolding(crate::specs::State::open_code))]
 fn open_code(waiting: OpenField) -> u64
     ensures { result ≡ open_code waiting }
 {
@@ -136,6 +139,7 @@ fn model_at(place: &[u8]) -> VbvCbrModel
 }
 
 // The words of the cadence: a writer's mode, flags, an open field.
+#[tactic(auto, unfolding(crate::specs::State::cadence_codes_fit))]
 fn cadence_fits(place: &[u8]) -> bool
     ensures { result ≡ cadence_codes_fit place.now }
 {
@@ -162,6 +166,7 @@ fn narrow(place: &[u8]) -> bool
     codes & (kinds & (q <= 31))
 }
 
+#[tactic(auto, unfolding(crate::specs::State::pending_of, bits::specs::Bits::pick))]
 fn pending_at(code: u64, q: u8) -> Pending
     ensures { result ≡ pending_of code q }
 {
@@ -173,6 +178,7 @@ fn pending_at(code: u64, q: u8) -> Pending
     }
 }
 
+#[tactic(auto, unfolding(crate::specs::State::open_of, bits::specs::Bits::pick))]
 fn open_at(code: u64) -> OpenField
     ensures { result ≡ open_of code }
 {
@@ -183,6 +189,7 @@ fn open_at(code: u64) -> OpenField
     }
 }
 
+#[tactic(auto, unfolding(crate::specs::State::cadence_in))]
 fn cadence_at(place: &[u8]) -> VbvCadence
     ensures { result ≡ cadence_in place.now }
 {
