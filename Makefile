@@ -2,7 +2,7 @@
 # make install    these, the header, the texts of refusals, a pkg-config file, man pages and the documents that these name,
 #                 under PREFIX (below DESTDIR)
 # make uninstall  removes what that put there
-# make test-c     the C programs under tests/ and those in README.md, which ./test runs
+# make test-c     the C programs under tests/ and those in README.md, and vbvcheck, which ./test runs
 # make sanitized  all of these with the address and undefined-behaviour sanitizers, for tests/sanitized
 # make clean      removes what C was built to; proofs stay
 WARNINGS = -Wall -Wextra -Wpedantic -Wshadow -Wconversion -Wsign-conversion -Wcast-qual -Wwrite-strings \
@@ -50,7 +50,7 @@ SANITIZED_TOOLS = $(addprefix target/sanitized/,$(notdir $(TOOLS)) fuzz-vbvrepor
 SANITIZED = $(SANITIZED_TOOLS) $(addprefix target/sanitized/,$(PROGRAMS))
 
 all: $(LIB) $(TOOLS)
-test-c: $(TESTS)
+test-c: $(TESTS) target/bin/vbvcheck
 sanitized: $(SANITIZED)
 
 # Each of the thin crate that gives the library of its name to C.
@@ -58,6 +58,12 @@ $(LIB) $(SEARCHES): target/staticlib/lib%.a: $(PROVED)
 	@mkdir -p $(@D)
 	cd crates/$*_c && rt lib
 	cp crates/$*_c/out/lib$*_c.a $@
+
+# A proved program: it stays where it was run, here on nothing.
+target/bin/%: $(PROVED)
+	@mkdir -p $(@D)
+	cd crates/$* && rt run </dev/null >/dev/null
+	cp crates/$*/out/$* $@
 
 # The programs that stand in README.md, the first and the second.
 target/tests/readme_check.c: nth = 1

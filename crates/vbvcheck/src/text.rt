@@ -9,6 +9,9 @@ use itoa::Buffer;
 use verify::{RECORD_BYTES, VbvStandard, VbvStreamReport, VbvVerified, verify_cbr_stream};
 use words::word_at;
 
+// The longest stream, in bytes.
+const LONGEST: usize = 65536;
+
 fn put(out: &mut [u8], at: usize, text: &[u8]) -> usize
     requires { at + length text.now ≤ length out.old }
     ensures value { result ≡ at + length text.now }
@@ -142,7 +145,7 @@ pub(crate) fn put_printed(stream: &[u8], records: &mut [u8; 40960], out: &mut [u
     ensures prefix_len { IsPrefixLen result out.new }
     ensures out_after { take result out.new ≡ printed stream.now }
 {
-    if 65536 < stream.len() {
+    if LONGEST < stream.len() {
         return put(out, 0, b"too long\n");
     }
     match verify_cbr_stream(stream, VbvStandard::Mpeg2, records) {

@@ -2,9 +2,9 @@ use Rattle.std.proofs.Common.{◌∙◌, arith}
 use Rattle.vbvcheck.proofs.Printed.{too_long, pictures_fit, printed-refused, printed_report}
 use Rattle.vbvcheck.proofs.text.put_printed.Goals as goal
 
-pub returns-then-stream-gt65536-clause-out_after :
-    goal.returns-then-stream-gt65536-clause-out_after
-returns-then-stream-gt65536-clause-out_after c = c.put.ensures.out_after ∙ too_long _ (omega arith)
+pub returns-then-stream-gt-LONGEST-clause-out_after :
+    goal.returns-then-stream-gt-LONGEST-clause-out_after
+returns-then-stream-gt-LONGEST-clause-out_after c = c.put.ensures.out_after ∙ too_long _ (omega arith)
 
 pub put_accepted-requires-clause-pictures_in_bounds :
     goal.put_accepted-requires-clause-pictures_in_bounds
