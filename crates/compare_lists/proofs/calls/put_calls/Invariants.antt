@@ -1,0 +1,4 @@
+use Rattle.compare_lists.proofs.calls.put_calls.Given as goal
+
+abbrev pub decreases-loop-left : goal.decreases-loop-left
+decreases-loop-left l = l.left
