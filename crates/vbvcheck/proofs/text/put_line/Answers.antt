@@ -1,5 +1,5 @@
-use Rattle.std.proofs.Common.{◌≡◌, ◌∙◌, ◌+◌, refl, sym, take, drop, arith}
-use Rattle.vbvcheck.specs.Text.{ending, line}
+use Rattle.std.proofs.Common.{◌≡◌, ◌∙◌, ◌+◌, sym, take, drop, arith}
+use Rattle.vbvcheck.specs.Text.{ending}
 use Rattle.vbvcheck.proofs.Texts.{line_step, line-end, ending_space, ending-line}
 use Rattle.vbvcheck.proofs.text.put_line.Goals as goal
 use Rattle.vbvcheck.proofs.text.put_line.Goals.{then-k-numbers, else-k-numbers}
