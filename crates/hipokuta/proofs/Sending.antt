@@ -72,9 +72,13 @@ module _ (config place : List ℕ) where
   abbrev CreatesWith : ℕ → List ℕ → Type 0
   CreatesWith n after = (n ≡ number (create_with config place)) × (after ≡ state_after (create_with config place) place)
 
-  pub config_short : length config < config_size → CreatesWith 12 place
+  pub config_short : length config < config_size → 12 ≡ number (create_with config place)
+  unfolding create_with pick
+  config_short h = rw (lt-ltb (length config) config_size h)
+
+  pub config_short_leaves : length config < config_size → place ≡ state_after (create_with config place) place
   unfolding create_with state_after pick
-  config_short h = rw (lt-ltb (length config) config_size h) (refl, refl)
+  config_short_leaves h = rw (lt-ltb (length config) config_size h)
 
   module _ (long : config_size ≤ length config) where
     pub no_place-with : length place < state_size → CreatesWith 19 place

@@ -63,6 +63,7 @@ pub extern "C" fn cbr_create(
 
 // A new writer by a configuration's words: mode, bit_rate_value, vbv_buffer_size_value, frame_rate_code, n, d, quantiser,
 // b_between, anchors_per_gop.
+#[tactic(auto, using(crate::proofs::Sending::config_short, crate::proofs::Sending::config_short_leaves))]
 #[unsafe(no_mangle)]
 pub extern "C" fn cbr_create_config(config: &[u8], state: &mut [u8]) -> u64
     ensures value { result ≡ number (create_with config.now state.old) }

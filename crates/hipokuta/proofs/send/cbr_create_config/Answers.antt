@@ -1,12 +1,7 @@
 use Rattle.std.proofs.Common.{ap, ◌∙◌, arith}
 use Rattle.layout.specs.Mode.{is_mode}
-use Rattle.hipokuta.proofs.Sending.{config_short, no_place-with, other_mode, created-with}
+use Rattle.hipokuta.proofs.Sending.{no_place-with, other_mode, created-with}
 use Rattle.hipokuta.proofs.send.cbr_create_config.Goals as goal
-
-pub returns-then-config-lt-CONFIG_BYTES : goal.returns-then-config-lt-CONFIG_BYTES
-returns-then-config-lt-CONFIG_BYTES c =
-    let t = config_short c.args.config.now c.args.state.now (omega arith) in
-    record { value = t.0; state_after = t.1 }
 
 pub returns-then-state-lt-STATE_BYTES : goal.returns-then-state-lt-STATE_BYTES
 returns-then-state-lt-STATE_BYTES c =
