@@ -33,15 +33,18 @@ pub struct Case {
     pub left: u64,
 }
 
-// The first case, read into buf. A case that is cut, or too long for buf, is malformed, and the last.
+// The first case, read into buf. A case that is cut, or too long for buf, is malformed, and the last. An error of the input is
+// the answer; buf then holds what was read, and no case is counted.
 pub fn first(input: &mut impl Read, buf: &mut [u8], counts: &mut [u64]) -> io::Result<Case>
-    ensures { IfOk result (λ case. case.input ≤ length buf.new) }
+    ensures input_in_bounds { IfOk result (λ case. case.input ≤ length buf.new) }
+    ensures buf_length { length buf.new ≡ length buf.old }
+    ensures counts_length { length counts.new ≡ length counts.old }
 {
     read(input, u64::MAX, buf, counts)
 }
 
 // Compares a case's answer in buf with ours, the first n bytes of out (0 where the case is malformed), counts the case, and
-// reads the next one into buf.
+// reads the next one into buf. An error of the input or of printing is the answer; the case is counted.
 pub fn next(
     rt: &impl Print,
     input: &mut impl Read,
@@ -53,6 +56,8 @@ pub fn next(
 ) -> io::Result<Case>
     ensures left_bound { IfOk result (λ following. following.left ≤ case.left - 1) }
     ensures input_in_bounds { IfOk result (λ following. following.input ≤ length buf.new) }
+    ensures buf_length { length buf.new ≡ length buf.old }
+    ensures counts_length { length counts.new ≡ length counts.old }
 {
     count(rt, case, n, buf, out, counts)?;
     if case.left == 0 {
@@ -64,6 +69,8 @@ pub fn next(
 fn read(from: &mut impl Read, left: u64, buf: &mut [u8], counts: &mut [u64]) -> io::Result<Case>
     ensures left_le_left { IfOk result (λ case. case.left ≤ left) }
     ensures input_in_bounds { IfOk result (λ case. case.input ≤ length buf.new) }
+    ensures buf_length { length buf.new ≡ length buf.old }
+    ensures counts_length { length counts.new ≡ length counts.old }
 {
     let mut head = [0u8; 5];
     let got = read_full(from, &mut head)?;
