@@ -1,4 +1,5 @@
-// The entries that C calls (include/hipokuta.h): numbers and byte slices, laid out as docs/LAYOUT.md says.
+// The entries that C calls (include/hipokuta.h), which hipokuta_c gives to it: numbers and byte slices, laid out as
+// docs/LAYOUT.md says.
 #![tactic(auto)]
 
 mod check; // the check of a stream

@@ -1,6 +1,6 @@
 -- The modes and their numbers.
 -- Assumes nothing.
-use mathlib.Core.Path.{◌≡◌, refl, sym, ◌∙◌}
+use mathlib.Core.Path.{◌≡◌, refl, sym}
 use mathlib.Core.Bool.{Bool, true, false, not, ◌&&◌, ◌||◌, true≢false}
 use Prim.Native.Nat.{ℕ, ◌≤◌}
 use native.Mathlib.Omega.{arith}
@@ -8,11 +8,9 @@ use lib.Dec.{eqb}
 use borrow.Author.Tests.{eqb-true, ne_eqb}
 use Rattle.bits.specs.Bits.{pick}
 use Rattle.bits.proofs.Flags.{both_true}
-use Rattle.headers.specs.Answers.{flag_of}
 use Rattle.pictures.specs.declared.VbvStandard.{VbvStandard}
 use Rattle.pictures.specs.declared.VbvStandard.TheVariants.{Mpeg1, Mpeg2}
 use Rattle.verify.specs.Mode.{plain, film, mpeg2, mode_fits}
-use Rattle.verify.specs.declared.VbvMode.{VbvMode}
 use Rattle.verify.proofs.Modes.{plain_fits, mpeg2-fits, mode_exists}
 use Rattle.layout.specs.Mode.{mode_number, is_mode, mode_for, ModesNumbered}
 
