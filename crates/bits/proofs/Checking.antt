@@ -10,12 +10,12 @@ use native.Mathlib.Omega.{arith}
 use lib.Dec.{leb, ltb}
 use lib.ListN.{length, get_or, drop, drop_of_length-le}
 use lib.Seq.{drop-cons}
-use borrow.Author.Tests.{le-leb, lt-leb, lt-ltb, leb-true, ltb-true}
+use borrow.Author.Tests.{le-leb, lt-ltb, leb-true, ltb-true}
 use Rattle.bits.specs.Bits.{pick}
 use Rattle.bits.specs.Refusals.{Answer, value, refused}
 use Rattle.bits.specs.Fields.{Field, field, obeys, fits_field, fits_all, total}
 use Rattle.bits.specs.Answers.{greatest, table_of, check_fields, checked_answer}
-use Rattle.bits.specs.declared.Checked.{Checked}
+use Rattle.std.specs.Prelude.{Option}
 use Rattle.bits.proofs.Flags.{both_true}
 use Rattle.bits.proofs.Reading.{field_at, table_at, table_room, obeys_is, obeys_true}
 
@@ -51,15 +51,6 @@ fits_width fits_none k = zero-le
 fits_width (fits_more a b c d r) zero = a
 fits_width (fits_more a b c d r) (suc k) = fits_width r k
 
--- the test of a field, by its parts
-pub fits_wide : (w l h v : ℕ) → 32 < w → false ≡ fits_field (field w l h) v
-unfolding fits_field
-fits_wide w l h v a = rw (lt-leb _ _ a)
-
-pub fits-rest : (w l h v : ℕ) → w ≤ 32 → ltb v (2 ^ w) && (leb l v && leb v h) ≡ fits_field (field w l h) v
-unfolding fits_field obeys
-fits-rest w l h v a = rw (le-leb _ _ a)
-
 -- as many values as fields
 pub misfit_count : (fs : List Field) (vs : List ℕ) → (length vs ≡ length fs → ⊥) → fits_all fs vs ≡ false
 unfolding fits_all
@@ -73,7 +64,7 @@ misfit_count (f ∷ fs) (v ∷ vs) n = rw (misfit_count fs vs (λ e. n (ap suc e
     and_false false = refl
 
 -- a case of the answer, by what it tells
-pub checked_case : {r x : Checked} {a : Answer ℕ} → r ≡ x → checked_answer r ≡ a → checked_answer x ≡ a
+pub checked_case : {r x : Option ℕ} {a : Answer ℕ} → r ≡ x → checked_answer r ≡ a → checked_answer x ≡ a
 checked_case e f = rw (← e) f
 
 -- what the answer says

@@ -65,16 +65,20 @@ pub record Putting (t vs s out : List ℕ) (at k : ℕ) : Type 0 where
   pub fit : Fits (table_of 24 t) vs
   pub space : 32 + total (table_of 24 t) ≤ 8 * length s
   pub within : k ≤ length vs
+  pub most : length vs ≤ 24
+  pub room : 3 * length vs ≤ length t
   pub near : at ≤ 32 + 32 * k
   pub place : at ≡ 32 + total (take k (table_of 24 t))
   pub out_is : out ≡ append_bits s 32 (field_bits (take k (table_of 24 t)) (take k vs))
 
 pub putting_none : {t vs s : List ℕ} → Fits (table_of 24 t) vs → 32 + total (table_of 24 t) ≤ 8 * length s → Below 256 s → Putting t vs s s 32 0
 unfolding field_bits total
-putting_none {s = s} f h b = record {
+putting_none {t} {s = s} f h b = record {
   fit = f;
   space = h;
   within = zero-le;
+  most = omega (arith, fits-length f, table_room 24 t);
+  room = omega (arith, fits-length f, table_room 24 t);
   near = omega arith;
   place = refl;
   out_is = sym (append-none s 4 (omega arith) b);
@@ -83,9 +87,6 @@ putting_none {s = s} f h b = record {
 module _ {t vs s out : List ℕ} {at k : ℕ} (r : Putting t vs s out at k) where
   many : length vs ≡ length (table_of 24 t)
   many = fits-length r.fit
-
-  pub putting_room : (length vs ≤ 24) × (3 * length vs ≤ length t)
-  putting_room = omega (arith, many, table_room 24 t)
 
   part : (j : ℕ) → total (take j (table_of 24 t)) ≤ total (table_of 24 t)
   part j = omega (arith, sym (total-append (take j (table_of 24 t)) (drop j (table_of 24 t))) ∙ ap total (take-append-drop j (table_of 24 t)))
@@ -127,6 +128,8 @@ module _ {t vs s out : List ℕ} {at k : ℕ} (r : Putting t vs s out at k) wher
       fit = r.fit;
       space = r.space;
       within = omega arith;
+      most = r.most;
+      room = r.room;
       near = omega (arith, r.near, putting_width);
       place = omega (arith, wider, r.place);
       out_is =

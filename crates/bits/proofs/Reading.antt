@@ -3,23 +3,22 @@
 use mathlib.Core.Path.{◌≡◌, refl, sym, ap, ◌∙◌}
 use mathlib.Core.List.{List, [], ◌∷◌, ◌++◌, append_assoc}
 use mathlib.Core.Bool.{Bool, true, false, not, ◌&&◌}
-use Prim.Native.Nat.{ℕ, zero, suc, ◌+◌, ◌-◌, ◌*◌, ◌/◌, ◌^◌, ◌≤◌, ◌<◌, zero-le}
+use Prim.Native.Nat.{ℕ, zero, suc, ◌+◌, ◌-◌, ◌*◌, ◌/◌, ◌^◌, ◌≤◌, ◌<◌, zero-le, min}
 use native.Mathlib.Nat.{add_assoc, add-zero}
 use native.Mathlib.Omega.{arith}
 use lib.Dec.{leb, ltb, eqb}
 use lib.ListN.{length, get_or, take, drop, replicate, length-append, length-drop}
 use lib.Seq.{take-suc, take_all, take-append-le}
-use borrow.Author.Tests.{le-leb, lt-leb, le-ltb, lt-ltb, leb-true, ltb-true, ltb-false, eqb-true, eq-eqb}
+use borrow.Author.Tests.{le-leb, le-ltb, lt-ltb, leb-true, ltb-true, ltb-false, eqb-true, eq-eqb}
 use Rattle.bits.specs.Bits.{pick, bits_at, there}
 use Rattle.bits.specs.Refusals.{Answer, value, refused, and_then, number}
 use Rattle.bits.specs.Fields.{Field, field, any_value, obeys, read_fields, same_bytes, read_header, total}
-use Rattle.bits.specs.Answers.{read_bits, bits_answer, greatest, table_of, places, in_places, outcome_answer, fields_answer}
+use Rattle.bits.specs.Answers.{read_bits, bits_answer, greatest, table_of, places, in_places, fields_answer}
 use Rattle.bits.proofs.Flags.{pick_elim, clash, both_true}
 use Rattle.bits.proofs.Laws.{bits_bound, bits_append, bits_drop}
-use Rattle.bits.specs.declared.Bits.{Bits}
-use Rattle.bits.specs.declared.Fields.{Fields}
-use Rattle.bits.specs.declared.Outcome.{Outcome}
-use Rattle.bits.specs.declared.Outcome.TheVariants.{Done, Short, Bad}
+use Rattle.std.specs.Prelude.{Option, Result, Ok, Err}
+use Rattle.bits.specs.declared.FieldsError.{FieldsError}
+use Rattle.bits.specs.declared.FieldsError.TheVariants.{Short, Bad}
 
 -- bits are there
 module _ (s : List ℕ) (i n : ℕ) where
@@ -64,31 +63,16 @@ missed s i n e = case (bits_seen s i n) e
     case (present t) q = cc
 
 -- a case of the answer, by what it tells
-pub bits_case : {r x : Bits} {a : Answer ℕ} → r ≡ x → bits_answer r ≡ a → bits_answer x ≡ a
+pub bits_case : {r x : Option ℕ} {a : Answer ℕ} → r ≡ x → bits_answer r ≡ a → bits_answer x ≡ a
 bits_case e f = rw (← e) f
 
--- the greatest value of a field
-pub greatest-none : (w : ℕ) → greatest w 0 ≡ 2 ^ w - 1
-greatest-none w = refl
-
-pub greatest_given : (w h : ℕ) → (h ≡ 0 → ⊥) → greatest w h ≡ h
-greatest_given w zero n = absurd (n refl)
-greatest_given w (suc h) n = refl
-
 -- a table has a field for each three bytes, n at most
-pub table_all : (n : ℕ) (t : List ℕ) → 3 * n ≤ length t → length (table_of n t) ≡ n
-table_all zero t h = refl
-table_all (suc n) [] h = omega arith
-table_all (suc n) (w ∷ []) h = omega arith
-table_all (suc n) (w ∷ l ∷ []) h = omega arith
-table_all (suc n) (w ∷ l ∷ m ∷ t) h = ap suc (table_all n t (omega arith))
-
-pub table_part : (n : ℕ) (t : List ℕ) → length t / 3 ≤ n → length (table_of n t) ≡ length t / 3
-table_part zero t h = omega arith
-table_part (suc n) [] h = omega arith
-table_part (suc n) (w ∷ []) h = omega arith
-table_part (suc n) (w ∷ l ∷ []) h = omega arith
-table_part (suc n) (w ∷ l ∷ m ∷ t) h = omega (arith, table_part n t (omega arith))
+pub table_count : (n : ℕ) (t : List ℕ) → min (length t / 3) n ≡ length (table_of n t)
+table_count zero t = omega arith
+table_count (suc n) [] = omega arith
+table_count (suc n) (w ∷ []) = omega arith
+table_count (suc n) (w ∷ l ∷ []) = omega arith
+table_count (suc n) (w ∷ l ∷ m ∷ t) = omega (arith, table_count n t)
 
 pub table_room : (n : ℕ) (t : List ℕ) → (length (table_of n t) ≤ n) × (3 * length (table_of n t) ≤ length t)
 table_room zero t = omega arith
@@ -145,16 +129,8 @@ module _ (f : Field) (fs : List Field) (s : List ℕ) (i : ℕ) where
   unfolding read_fields pick
   read_more e o = rw (e, o)
 
--- a value below, above and within a field's range
+-- a value within a field's range
 module _ (f : Field) (v : ℕ) where
-  pub obeys-low : v < f.low → obeys f v ≡ false
-  unfolding obeys
-  obeys-low l = rw (lt-leb _ _ l)
-
-  pub obeys-high : f.low ≤ v → f.high < v → obeys f v ≡ false
-  unfolding obeys
-  obeys-high l h = rw (le-leb _ _ l, lt-leb _ _ h)
-
   pub obeys_is : f.low ≤ v → v ≤ f.high → obeys f v ≡ true
   unfolding obeys
   obeys_is l h = rw (le-leb _ _ l, le-leb _ _ h)
@@ -472,36 +448,37 @@ places-at vs k = zeros vs (24 - length vs) k
     zeros (u ∷ us) n (suc j) = zeros us n j
 
 -- what the answer says of the table
-answer_is : (r : Fields) {o : Outcome} (p : Answer (List ℕ)) → fields_answer r ≡ in_places p → r.outcome ≡ o → outcome_answer o r.values ≡ in_places p
-answer_is r p e o = rw (← o) e
+pub answer_refused : (r : Result (List ℕ) FieldsError) (p : Answer (List ℕ)) {x : FieldsError} → fields_answer r ≡ in_places p → r ≡ Err x
+    → p ≡ fields_answer (Err x)
+answer_refused r (value vs) {x = Short} e o = let z = ap number (rw o at e) in absurd (omega arith)
+answer_refused r (value vs) {x = Bad} e o = let z = ap number (rw o at e) in absurd (omega arith)
+answer_refused r (refused n k c x) e o = sym (rw o at e)
 
-pub answer-short : (r : Fields) (p : Answer (List ℕ)) → fields_answer r ≡ in_places p → r.outcome ≡ Short → p ≡ refused 1 0 0 0
-answer-short r (value vs) e o = let z = ap number (answer_is r (value vs) e o) in absurd (omega arith)
-answer-short r (refused n k c x) e o = sym (answer_is r (refused n k c x) e o)
+pub answer-short : (r : Result (List ℕ) FieldsError) (p : Answer (List ℕ)) → fields_answer r ≡ in_places p → r ≡ Err Short → p ≡ refused 1 0 0 0
+answer-short r p e o = answer_refused r p e o
 
-pub answer_bad : (r : Fields) (p : Answer (List ℕ)) → fields_answer r ≡ in_places p → r.outcome ≡ Bad → p ≡ refused 2 0 0 0
-answer_bad r (value vs) e o = let z = ap number (answer_is r (value vs) e o) in absurd (omega arith)
-answer_bad r (refused n k c x) e o = sym (answer_is r (refused n k c x) e o)
+pub answer_bad : (r : Result (List ℕ) FieldsError) (p : Answer (List ℕ)) → fields_answer r ≡ in_places p → r ≡ Err Bad → p ≡ refused 2 0 0 0
+answer_bad r p e o = answer_refused r p e o
 
-pub answer-done : (r : Fields) (p : Answer (List ℕ)) → fields_answer r ≡ in_places p → r.outcome ≡ Done
-    → (vs : List ℕ) × (p ≡ value vs) × (r.values ≡ places vs)
-answer-done r (value vs) e o = let z = answer_is r (value vs) e o in (vs, refl, (cc))
-answer-done r (refused n k c x) e o = let z = answer_is r (refused n k c x) e o in ([], (cc), (cc))
+pub answer-done : (r : Result (List ℕ) FieldsError) (p : Answer (List ℕ)) {values : List ℕ} → fields_answer r ≡ in_places p → r ≡ Ok values
+    → (vs : List ℕ) × (p ≡ value vs) × (values ≡ places vs)
+answer-done r (value vs) e o = let z = rw o at e in (vs, refl, (cc))
+answer-done r (refused n k c x) e o = let z = rw o at e in ([], (cc), (cc))
 
--- where it is Done: the values, each within its field's range
-pub record Read (fs : List Field) (p : Answer (List ℕ)) (r : Fields) : Type 0 where
+-- where it was read: the values, each within its field's range
+pub record Read (fs : List Field) (p : Answer (List ℕ)) (found : List ℕ) : Type 0 where
   pub vs : List ℕ
   pub parsed : p ≡ value vs
-  pub values : r.values ≡ places vs
-  pub same : (k : ℕ) → get_or r.values k 0 ≡ get_or vs k 0
-  pub low : (k : ℕ) → (get_or fs k (field 0 0 0)).low ≤ get_or r.values k 0
-  pub high : (k : ℕ) → get_or r.values k 0 ≤ (get_or fs k (field 0 0 0)).high
+  pub values : found ≡ places vs
+  pub same : (k : ℕ) → get_or found k 0 ≡ get_or vs k 0
+  pub low : (k : ℕ) → (get_or fs k (field 0 0 0)).low ≤ get_or found k 0
+  pub high : (k : ℕ) → get_or found k 0 ≤ (get_or fs k (field 0 0 0)).high
 
-read_by : (r : Fields) (fs : List Field) (p : Answer (List ℕ)) → fields_answer r ≡ in_places p → r.outcome ≡ Done
-    → ((vs : List ℕ) → p ≡ value vs → FieldsInRange fs vs) → Read fs p r
-read_by r fs p e o within =
+read_by : (r : Result (List ℕ) FieldsError) (fs : List Field) (p : Answer (List ℕ)) {found : List ℕ} → fields_answer r ≡ in_places p → r ≡ Ok found
+    → ((vs : List ℕ) → p ≡ value vs → FieldsInRange fs vs) → Read fs p found
+read_by r fs p {found} e o within =
     let d = answer-done r p e o in
-    let at : (k : ℕ) → get_or r.values k 0 ≡ get_or d.0 k 0 = λ k. ap (λ (x : List ℕ). get_or x k 0) d.2 ∙ places-at d.0 k in
+    let at : (k : ℕ) → get_or found k 0 ≡ get_or d.0 k 0 = λ k. ap (λ (x : List ℕ). get_or x k 0) d.2 ∙ places-at d.0 k in
     let in_range = within d.0 d.1 in
     record {
       vs = d.0;
@@ -512,11 +489,11 @@ read_by r fs p e o within =
       high = λ k. omega (arith, at k, in_range k);
     }
 
-pub fields-done : (r : Fields) (fs : List Field) (s : List ℕ) (i : ℕ) → fields_answer r ≡ in_places (read_fields fs s i) → r.outcome ≡ Done
-    → Read fs (read_fields fs s i) r
+pub fields-done : (r : Result (List ℕ) FieldsError) (fs : List Field) (s : List ℕ) (i : ℕ) {found : List ℕ}
+    → fields_answer r ≡ in_places (read_fields fs s i) → r ≡ Ok found → Read fs (read_fields fs s i) found
 fields-done r fs s i e o = read_by r fs (read_fields fs s i) e o (read_range fs s i)
 
-pub header_done : (r : Fields) (code : List ℕ) (fs : List Field) (s : List ℕ) → fields_answer r ≡ in_places (read_header code fs s) → r.outcome ≡ Done
-    → Read fs (read_header code fs s) r
+pub header_done : (r : Result (List ℕ) FieldsError) (code : List ℕ) (fs : List Field) (s : List ℕ) {found : List ℕ}
+    → fields_answer r ≡ in_places (read_header code fs s) → r ≡ Ok found → Read fs (read_header code fs s) found
 header_done r code fs s e o =
     read_by r fs (read_header code fs s) e o (λ vs q. read_range fs s 32 vs (header_got code fs s vs q).fields_read)

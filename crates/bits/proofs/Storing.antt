@@ -1,19 +1,23 @@
 -- What `append_bits` computes: the number of the bytes that it changes, and storing them from the last one on.
 -- Assumes nothing.
-use mathlib.Core.Path.{◌≡◌, sym, ap, ◌∙◌}
-use mathlib.Core.List.{List, ◌++◌}
+use mathlib.Core.Path.{◌≡◌, refl, sym, ap, ◌∙◌}
+use mathlib.Core.List.{List}
 use mathlib.Core.Bool.{true, false}
-use Prim.Native.Nat.{ℕ, suc, ◌+◌, ◌-◌, ◌*◌, ◌/◌, ◌%◌, ◌^◌, ◌≤◌, ◌<◌}
-use native.Mathlib.Nat.{add-zero, zero-add, lt_of_lt_of_le}
+use Prim.Native.Nat.{ℕ, zero, suc, ◌+◌, ◌-◌, ◌*◌, ◌/◌, ◌%◌, ◌^◌, ◌≤◌, ◌<◌}
+use native.Mathlib.Nat.{add-zero, zero-add, sub_self, pow-suc, lt_of_lt_of_le}
 use native.Mathlib.Omega.{arith}
-use lib.Pow.{high, pow_mono}
-use lib.ListN.{length, get_or, take, drop, set, length-drop, length-append, take-append-drop}
-use lib.Seq.{take-suc, drop-cons, append_snoc, set_at, length-take-le}
+use lib.Pow.{high, pow_mono, pow-add}
+use lib.ListN.{length, get_or, take, drop, take-append-drop}
+use lib.Seq.{drop-drop, drop-cons}
 use borrow.Author.Tests.{le-leb, lt-leb}
+use borrow.Rule.Slice.PartMut.{put_mid}
+use Rattle.std.specs.Int.{byte_at, bytes_high_first}
+use mathlib.Core.Logic.{◌⊎◌, inl, inr}
 use Rattle.bits.specs.Bits.{pick, num, bit_at, bits_at, there, digits, append_bits}
 use Rattle.bits.specs.Answers.{wrote_bits}
-use Rattle.bits.proofs.Laws.{bits_none, bit_bound, num_bound, num-same, num_split, length_digits, digits-num, byte_num, bytes-number}
-use Rattle.bits.proofs.Appending.{Below, digit_bound, num-zero, append-length, append_past, append-before, append_old, append-new, append_zeros, append_below}
+use Rattle.bits.proofs.Laws.{bits_none, bit_bound, num_bound, num-same, num_split, length_digits, digits-num, byte_num, bits_middle}
+use Rattle.bits.proofs.Reading.{rest_is}
+use Rattle.bits.proofs.Appending.{Below, digit_bound, num-zero, append-length, append_past, append-before, append_old, append-new, append_zeros, append_below, lt_or_le}
 
 -- the first o bits of a byte
 pub byte_high : (s : List ℕ) (m o : ℕ) → get_or s m 0 < 256 → o ≤ 8 → get_or s m 0 / 2 ^ (8 - o) ≡ bits_at s (8 * m) o
@@ -34,13 +38,41 @@ byte_count i n = (i % 8 + n + 7) / 8
 abbrev pub bits_left : ℕ → ℕ → ℕ
 bits_left i n = 8 * byte_count i n - i % 8 - n
 
--- k of the bytes from a on are still the old ones of s, and their new ones, of t, wait in acc
-pub record Storing (s t out : List ℕ) (a k acc : ℕ) : Type 0 where
-  pub room : a + k ≤ length s
-  pub same : length t ≡ length s
-  pub bytes : Below 256 t
-  pub out_is : out ≡ take (a + k) s ++ drop (a + k) t
-  pub waits : acc ≡ num (bit_at t) (8 * a) (8 * k)
+-- byte k of a number, and the c lowest of its k bytes
+power : (k : ℕ) → 256 ^ k ≡ 2 ^ (8 * k)
+power zero = refl
+power (suc k) =
+    let e : 8 * suc k ≡ 8 * k + 8 = omega arith in
+    rw (e, pow-suc, pow-add 2 (8 * k) 8, power k)
+
+byte_shifted : (k n : ℕ) → byte_at k n ≡ n / 2 ^ (8 * k) % 2 ^ 8
+byte_shifted zero n = omega arith
+byte_shifted (suc k) n = rw (power (suc k))
+
+high_last : (k c n : ℕ) → c ≤ k → drop (k - c) (bytes_high_first k n) ≡ bytes_high_first c n
+high_last zero c n h = let e : c ≡ 0 = omega arith in rw e
+high_last (suc k) c n h = case (lt_or_le k c) (λ l. high_last k c n l)
+  where
+    case : (k < c) ⊎ (c ≤ k) → (c ≤ k → drop (k - c) (bytes_high_first k n) ≡ bytes_high_first c n)
+        → drop (suc k - c) (bytes_high_first (suc k) n) ≡ bytes_high_first c n
+    case (inl l) r = let e : c ≡ suc k = omega arith in rw (e, sub_self (suc k))
+    case (inr l) r = let e : suc k - c ≡ suc (k - c) = omega arith in rw e (r l)
+
+byte_is : (t : List ℕ) (j : ℕ) → get_or t j 0 < 256 → bits_at t (8 * j) 8 ≡ get_or t j 0
+unfolding bits_at
+byte_is t j l = byte_num t j l
+
+-- the last k of c bytes of t, by their number
+number_bytes : (t : List ℕ) (a c n k j : ℕ) → j + k ≡ a + c → a ≤ j → a + c ≤ length t → Below 256 t → n ≡ num (bit_at t) (8 * a) (8 * c)
+    → bytes_high_first k n ≡ take k (drop j t)
+number_bytes t a c n zero j l h w b e = refl
+number_bytes t a c n (suc k) j l h w b e =
+    let d : 8 * (j - a) + 8 + 8 * k ≡ 8 * c = omega arith in
+    let p : 8 * a + 8 * (j - a) ≡ 8 * j = omega arith in
+    let x : byte_at k n ≡ get_or t j 0 =
+    byte_shifted k n ∙ rw e (bits_middle t a (8 * (j - a)) 8 (8 * k) c d)
+    ∙ ap (λ (x : ℕ). bits_at t x 8) p ∙ byte_is t j (b j) in
+    rw (drop-cons t j 0 (omega arith), x, number_bytes t a c n k (suc j) (omega arith) (omega arith) w b e)
 
 module _ (s : List ℕ) (i n v : ℕ) where
   abbrev pub result : List ℕ
@@ -93,52 +125,26 @@ module _ (s : List ℕ) (i n v : ℕ) where
         pub whole_small : n ≤ 32 → (o * p + u % q) * r < 2 ^ 40
         whole_small w = rw whole (lt_of_lt_of_le (num_bound _ _ _ (bit_bound result)) (pow_mono {j = 40} (omega arith)))
 
-        pub storing_all : Below 256 s → Storing s result s (i / 8) (byte_count i n) ((o * p + u % q) * r)
-        storing_all f = record {
-          room = omega arith;
-          same = append-length s i (digits n v) room;
-          bytes = append_below s i (digits n v) f (digit_bound n v);
-          out_is = sym (ap (λ (l : List ℕ). take (i / 8 + byte_count i n) s ++ l)
-              (append_past s i (digits n v) room (i / 8 + byte_count i n) (omega (arith, length_digits n v)))
-              ∙ take-append-drop (i / 8 + byte_count i n) s);
-          waits = whole;
-        }
-
-    pub storing_none : {out : List ℕ} {k acc : ℕ} → Below 256 s → Storing s result out (i / 8) k acc → k ≤ 0 → out ≡ result
-    storing_none {k = k} f r z =
-        let e : i / 8 + k ≡ i / 8 = omega arith in
-        r.out_is ∙ rw (e, ← append-before s i (digits n v) room (i / 8) (omega arith) f) (take-append-drop (i / 8) result)
-
--- one place more from another list
-pub store : (s t : List ℕ) (m : ℕ) → m < length s → length t ≡ length s → set (take (suc m) s ++ drop (suc m) t) m (get_or t m 0) ≡ take m s ++ drop m t
-store s t m h e =
-    rw (take-suc s m 0 h, append_snoc, set_at (take m s) _ _ _ m (length-take-le m s (omega arith)), drop-cons t m 0 (omega arith))
-
-module _ {s t out : List ℕ} {a k acc : ℕ} (r : Storing s t out a k acc) where
-  pub storing_length : length out ≡ length s
-  storing_length =
-      rw r.out_is (length-append (take (a + k) s) (drop (a + k) t)
-      ∙ omega (arith, length-take-le (a + k) s r.room, length-drop (a + k) t, r.room, r.same))
-
-  module _ (p : 0 < k) where
-    last : acc ≡ num (bit_at t) (8 * a) (8 * (k - 1)) * 256 + get_or t (a + (k - 1)) 0
-    last =
-        let e : k ≡ k - 1 + 1 = omega arith in
-        r.waits ∙ ap (λ (x : ℕ). num (bit_at t) (8 * a) (8 * x)) e ∙ bytes-number t a (k - 1) (r.bytes _)
-
-    byte : acc % 256 ≡ get_or t (a + (k - 1)) 0
-    byte = omega (arith, last, r.bytes (a + (k - 1)))
-
-    pub storing_less : Storing s t (set out (a + (k - 1)) (acc % 256)) a (k - 1) (acc / 256)
-    storing_less =
-        let e : a + k ≡ suc (a + (k - 1)) = omega arith in
-        record {
-          room = omega (arith, r.room);
-          same = r.same;
-          bytes = r.bytes;
-          out_is = rw (r.out_is, e, byte) (store s t (a + (k - 1)) (omega (arith, r.room)) r.same);
-          waits = omega (arith, last, r.bytes (a + (k - 1)));
-        }
+        pub stored : {ys : List ℕ} {m : ℕ} → n ≤ 32 → Below 256 s → m ≡ byte_count i n
+            → ys ≡ take (8 - (8 - byte_count i n)) (drop (8 - byte_count i n) (bytes_high_first 8 ((o * p + u % q) * r)))
+            → put_mid (i / 8) m s ys ≡ result
+        stored {ys} w f z y =
+            let a = i / 8 in
+            let c = byte_count i n in
+            let g = digit_bound n v in
+            let N = (o * p + u % q) * r in
+            let l : a + c ≤ length result = omega (arith, append-length s i (digits n v) room) in
+            let x : ys ≡ take c (drop a result) = y ∙ rest_is (bytes_high_first 8 N) (8 - c) ∙ high_last 8 c N (omega arith)
+            ∙ number_bytes result a c N c a refl (omega arith) l (append_below s i (digits n v) f g) whole in
+            rw (
+              x,
+              z,
+              ← append-before s i (digits n v) room a (omega arith) f,
+              drop-drop c a s,
+              ← append_past s i (digits n v) room (a + c) (omega (arith, length_digits n v)),
+              ← drop-drop c a result,
+              take-append-drop c (drop a result),
+            ) (take-append-drop a result)
 
 -- the ways of `append_bits`
 module _ (s : List ℕ) (i n v : ℕ) where

@@ -8,15 +8,15 @@ use Prim.Native.Nat.{ℕ, zero, suc, ◌+◌, ◌*◌, ◌/◌, ◌≤◌, ◌<�
 use native.Mathlib.Nat.{zero-add, add_assoc, mod-eq_of_lt}
 use native.Mathlib.Omega.{arith}
 use lib.Dec.{lit<}
-use lib.ListN.{length, get_or, take, drop, set, length-append, get_or-append}
-use lib.Seq.{get_or-append-add, take_at, take-add, drop_at, drop-append-add, drop-drop, take_all}
+use lib.ListN.{length, get_or, take, drop, length-append, get_or-append}
+use lib.Seq.{get_or-append-add, take_at, take-add, drop_at, drop-append-add, drop-drop}
 use borrow.Author.Tests.{le-ltb, lt-ltb}
 use Rattle.bits.specs.Bits.{pick, num, bit_at, bits_at, digits, bit_list, pack, append_bits}
 use Rattle.bits.specs.Refusals.{value, refused}
 use Rattle.bits.specs.Fields.{Field, read_fields, read_header, field_bits, write_fields, write_header, fits_all, total}
 use Rattle.bits.specs.Answers.{over, write_answer, write_result}
 use Rattle.bits.proofs.Laws.{num-same, bits_bound, bit_append, bit_drop, length_digits, digits-num, bit_list-length, bit_list-append}
-use Rattle.bits.proofs.Reading.{there_is, there_true, obeys_is, obeys_true, read_more, read_field, read_drop, same_self, four, header_more, header_got}
+use Rattle.bits.proofs.Reading.{there_is, there_true, obeys_is, obeys_true, read_more, read_field, read_drop, same_self, header_more, header_got}
 use Rattle.bits.proofs.Appending.{Below, lt_or_le, digits_bits, below_append, below_front, below_drop, length-pack, pack_bit, pack-take, pack-bytes, append-zero}
 use Rattle.bits.proofs.Checking.{Fits, fits_none, fits_more, fits-of, fits_all_lem, fits-length}
 use Rattle.bits.proofs.Putting.{field_bits_bound, length-field_bits}
@@ -62,19 +62,9 @@ written-append code fs vs s b =
     sym (append-zero s (bit_list code ++ field_bits fs vs) ∙ ap (λ (l : List ℕ). over l s) (pack-bytes code (field_bits fs vs) b))
 
 -- the ways of `write_header`
-four_stored : (a b c d : ℕ) (s : List ℕ) → 4 ≤ length s → set (set (set (set s 0 a) 1 b) 2 c) 3 d ≡ over (a ∷ b ∷ c ∷ d ∷ []) s
+pub over_four : (code s : List ℕ) {a : List ℕ} → length code ≡ 4 → a ≡ code → a ++ drop 4 s ≡ over code s
 unfolding over
-four_stored a b c d [] h = absurd (omega arith)
-four_stored a b c d (w ∷ []) h = absurd (omega arith)
-four_stored a b c d (w ∷ x ∷ []) h = absurd (omega arith)
-four_stored a b c d (w ∷ x ∷ y ∷ []) h = absurd (omega arith)
-four_stored a b c d (w ∷ x ∷ y ∷ z ∷ s) h = refl
-
-pub stored_code : (code s : List ℕ) → length code ≡ 4 → 4 ≤ length s
-    → set (set (set (set s 0 (get_or code 0 0)) 1 (get_or code 1 0)) 2 (get_or code 2 0)) 3 (get_or code 3 0) ≡ over code s
-stored_code code s l h =
-    four_stored (get_or code 0 0) (get_or code 1 0) (get_or code 2 0) (get_or code 3 0) s h
-    ∙ ap (λ (c : List ℕ). over c s) (sym (four code (omega arith)) ∙ take_all 4 code (omega arith))
+over_four code s l e = rw (e, l)
 
 module _ (code : List ℕ) (fs : List Field) (vs out : List ℕ) where
   pub write_unfit : fits_all fs vs ≡ false → (refused 16 0 0 0 ≡ write_answer code fs vs out) × (out ≡ write_result code fs vs out)

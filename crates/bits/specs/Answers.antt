@@ -1,18 +1,13 @@
 -- The code's side of the tables: a table as a byte string, and what the functions answer.
 -- Assumes nothing.
-use Rattle.std.specs.Prelude.{ℕ, zero, suc, ◌-◌, ◌^◌, List, [], ◌∷◌, ◌++◌, not, ltb, replicate, length, drop}
+use Rattle.std.specs.Prelude.{ℕ, zero, suc, ◌-◌, ◌^◌, List, [], ◌∷◌, ◌++◌, not, ltb, replicate, length, drop, Option, Some, None, Result, Ok, Err}
 use Rattle.bits.specs.Bits.{pick, bits_at, there, digits, append_bits}
 use Rattle.bits.specs.Refusals.{Answer, value, refused, refuse, and_then, or_else}
 use Rattle.bits.specs.Fields.{Field, field, fits_all, total, write_header}
-use Rattle.bits.specs.declared.Bits.{Bits}
-use Rattle.bits.specs.declared.Bits.TheVariants.{Value, Short as NoBits}
-use Rattle.bits.specs.declared.Checked.{Checked}
-use Rattle.bits.specs.declared.Checked.TheVariants.{Width, Misfit}
-use Rattle.bits.specs.declared.Wrote.{Wrote}
-use Rattle.bits.specs.declared.Wrote.TheVariants.{Unfit, Full, Bytes}
-use Rattle.bits.specs.declared.Outcome.{Outcome}
-use Rattle.bits.specs.declared.Outcome.TheVariants.{Done, Short, Bad}
-use Rattle.bits.specs.declared.Fields.{Fields}
+use Rattle.bits.specs.declared.FieldsError.{FieldsError}
+use Rattle.bits.specs.declared.FieldsError.TheVariants.{Short, Bad}
+use Rattle.bits.specs.declared.WriteError.{WriteError}
+use Rattle.bits.specs.declared.WriteError.TheVariants.{Unfit, Full}
 
 -- new ones laid over the first of the old ones
 unfoldable pub over : {X : Type 0} → List X → List X → List X
@@ -23,9 +18,9 @@ unfoldable pub read_bits : List ℕ → ℕ → ℕ → Answer ℕ
 read_bits s i n = refuse 1 (not (there s i n)) (value (bits_at s i n))
 
 -- the number and the value of each case
-abbrev pub bits_answer : Bits → Answer ℕ
-bits_answer (Value v) = value v
-bits_answer NoBits = refused 1 0 0 0
+abbrev pub bits_answer : Option ℕ → Answer ℕ
+bits_answer (Some v) = value v
+bits_answer None = refused 1 0 0 0
 
 -- the bytes after writing n bits of v at bit i: as they were where the bits do not fit
 unfoldable pub wrote_bits : List ℕ → ℕ → ℕ → ℕ → List ℕ
@@ -51,27 +46,20 @@ places vs = vs ++ replicate (24 - length vs) 0
 abbrev pub in_places : Answer (List ℕ) → Answer (List ℕ)
 in_places a = and_then a (λ vs. value (places vs))
 
--- 24 zeros stand beside a refusal
-abbrev pub no_values : List ℕ
-no_values = replicate 24 0
-
 -- the number and the values of each case: a table that was read, bits that end in it (1), a rule broken (2)
-abbrev pub outcome_answer : Outcome → List ℕ → Answer (List ℕ)
-outcome_answer Done vs = value vs
-outcome_answer Short vs = refused 1 0 0 0
-outcome_answer Bad vs = refused 2 0 0 0
-
-abbrev pub fields_answer : Fields → Answer (List ℕ)
-fields_answer r = outcome_answer r.outcome r.values
+abbrev pub fields_answer : Result (List ℕ) FieldsError → Answer (List ℕ)
+fields_answer (Ok vs) = value vs
+fields_answer (Err Short) = refused 1 0 0 0
+fields_answer (Err Bad) = refused 2 0 0 0
 
 -- how many bits a table has, where the values fit it (16)
 unfoldable pub check_fields : List Field → List ℕ → Answer ℕ
 check_fields fs vs = refuse 16 (not (fits_all fs vs)) (value (total fs))
 
 -- the number and the value of each case
-abbrev pub checked_answer : Checked → Answer ℕ
-checked_answer (Width n) = value n
-checked_answer Misfit = refused 16 0 0 0
+abbrev pub checked_answer : Option ℕ → Answer ℕ
+checked_answer (Some n) = value n
+checked_answer None = refused 16 0 0 0
 
 -- writing a header: a value that does not fit (16), then too few bytes (19), else so many bytes
 unfoldable pub write_answer : List ℕ → List Field → List ℕ → List ℕ → Answer ℕ
@@ -81,10 +69,10 @@ write_answer code fs vs out =
     (value (length (write_header code fs vs))))
 
 -- the number and the value of each case
-abbrev pub wrote_answer : Wrote → Answer ℕ
-wrote_answer (Bytes n) = value n
-wrote_answer Unfit = refused 16 0 0 0
-wrote_answer Full = refused 19 0 0 0
+abbrev pub wrote_answer : Result ℕ WriteError → Answer ℕ
+wrote_answer (Ok n) = value n
+wrote_answer (Err Unfit) = refused 16 0 0 0
+wrote_answer (Err Full) = refused 19 0 0 0
 
 -- and what is there then: the header over the first bytes; all as it was on a refusal
 unfoldable pub write_result : List ℕ → List Field → List ℕ → List ℕ → List ℕ

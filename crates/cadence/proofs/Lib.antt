@@ -1,4 +1,3 @@
-pub mod Ways
 pub mod Plain
 pub mod Keeping
 pub mod Table

@@ -5,10 +5,7 @@ ghost use Rattle.cases.specs.Bytes.{number_at};
 pub fn byte(s: &[u8], at: usize) -> u8
     ensures { result ≡ slice_index s.now at }
 {
-    if at < s.len() {
-        return s[at];
-    }
-    0
+    s.get(at).copied().unwrap_or(0)
 }
 
 pub fn is_set(s: &[u8], at: usize) -> bool
@@ -25,7 +22,7 @@ pub fn number16(s: &[u8], at: usize) -> u16
     }
     let low = byte(s, at);
     let high = byte(s, at + 1);
-    (low as u16) + 256 * (high as u16)
+    u16::from(low) + 256 * u16::from(high)
 }
 
 pub fn number32(s: &[u8], at: usize) -> u32
@@ -36,7 +33,7 @@ pub fn number32(s: &[u8], at: usize) -> u32
     }
     let low = number16(s, at);
     let high = number16(s, at + 2);
-    (low as u32) + 65536 * (high as u32)
+    u32::from(low) + 65536 * u32::from(high)
 }
 
 pub fn number64(s: &[u8], at: usize) -> u64
@@ -47,5 +44,5 @@ pub fn number64(s: &[u8], at: usize) -> u64
     }
     let low = number32(s, at);
     let high = number32(s, at + 4);
-    (low as u64) + 0x1_0000_0000 * (high as u64)
+    u64::from(low) + 0x1_0000_0000 * u64::from(high)
 }

@@ -19,13 +19,14 @@ fn answer(kind: u8, input: &[u8], out: &mut [u8]) -> usize {
 fn main(rt: HostRuntime) -> io::Result<()> {
     let mut buf = [0u8; 65536];
     let mut out = [0u8; 65536];
-    let mut counts = [0u64; cases::COUNTS];
+    let mut counts = cases::Counts::new();
     let mut from = rt.stdin();
-    let mut case = cases::first(&mut from, &mut buf, &mut counts)?;
-    while 0 < case.left {
-        let input = case.input;
-        let n = answer(case.kind, &buf[0..input], &mut out);
-        case = cases::next(&rt, &mut from, case, n, &mut buf, &out, &mut counts)?;
+    for _ in 0..u64::MAX {
+        let Some(case) = cases::read(&mut from, &mut buf, &mut counts)? else {
+            break;
+        };
+        let n = answer(case.kind, &buf[..case.input], &mut out);
+        cases::count(&rt, case, n, &buf, &out, &mut counts)?;
     }
     cases::report(&rt, &counts)
 }

@@ -1,16 +1,16 @@
 // What the writer answers to a list of calls, as oracle/FORMAT.md lays it out (kind 19).
+ghost use Rattle.std.specs.Prelude.{◌+◌, ◌≤◌, length};
+
 use cadence::{OpenField, VbvCadence};
 use cases::add_one;
 use cases::put::{put, put_bytes, put_pattern, put_words};
 use cases::take::{byte, number16, number32, number64};
 use layers::PictureKind;
-use rate_control::{
-    CbrAnswer, CbrConfig, CbrCreation, CbrError, CbrWithdrawal, CbrWriter, Pending,
-};
+use rate_control::{CbrConfig, CbrError, CbrGiven, CbrWriter};
 use vbv::{RemovalInterval, VbvCbrModel};
-use verify::{VbvMode, VbvRefusal, VbvStandard, VbvStreamReport, VbvVerified};
+use verify::{VbvMode, VbvRefusal, VbvStandard, VbvStreamReport, VbvVerifyError};
 
-// The numbers of answers that are no refusals, beside 0 of a placed picture.
+// The numbers of answers that are no refusals, beside 0 of a placed picture: oracle/FORMAT.md's.
 pub(crate) const PASSED: u8 = 128;
 
 pub(crate) const SET: u8 = 129;
@@ -21,6 +21,15 @@ pub(crate) const WITHDRAWN: u8 = 131;
 
 // The number of no answer: bytes or room are missing.
 pub(crate) const MISSING: u8 = 132;
+
+// What is called, by its number in oracle/FORMAT.md.
+#[derive(Clone, Copy)]
+enum Call {
+    Withdraw,
+    Offer,
+    Set,
+    Check,
+}
 
 // The writer after a call, the place of the next call, the place after the answer, and the answer's number.
 #[derive(Drop)]
@@ -35,7 +44,7 @@ struct Called {
 // part.
 #[derive(Drop)]
 struct Head {
-    which: u8,
+    call: Call,
     kind: PictureKind,
     mode: VbvMode,
     interval: RemovalInterval,
@@ -65,14 +74,13 @@ pub(crate) fn list(s: &[u8], out: &mut [u8], given: &mut [u64]) -> usize {
         b_between: byte(s, 11),
         anchors_per_gop: byte(s, 12),
     });
-    let answer = created.answer;
-    match answer {
-        CbrCreation::Refused(e) => {
+    match created {
+        Err(e) => {
             let number = e.number();
-            add_one(given, number as usize);
+            add_one(given, usize::from(number));
             put(out, 0, number)
         }
-        CbrCreation::Created => put_created(s, created.writer, out, given),
+        Ok(writer) => put_created(s, writer, out, given),
     }
 }
 
@@ -94,9 +102,8 @@ fn standard(number: u8) -> VbvStandard {
 
 // Creation's byte and the targets, and what each call is answered.
 fn put_created(s: &[u8], writer: CbrWriter, out: &mut [u8], given: &mut [u64]) -> usize {
-    let targets = writer.target_bits;
     let next = put(out, 0, 0);
-    let at = put_words(out, next, &targets);
+    let at = put_words(out, next, &writer.target_bits);
     put_calls(s, writer, out, at, given)
 }
 
@@ -104,20 +111,18 @@ fn put_calls(s: &[u8], writer: CbrWriter, out: &mut [u8], from: usize, given: &m
     let mut now = writer;
     let mut at: usize = 14;
     let mut next = from;
-    let mut left = byte(s, 13);
-    while left > 0 {
-        let called = call(s, at, now, out, next);
-        add_one(given, called.number as usize);
+    for _ in 0..byte(s, 13) {
+        let called = answer_call(s, at, now, out, next);
+        add_one(given, usize::from(called.number));
         now = called.writer;
         at = called.at;
         next = called.next;
-        left -= 1;
     }
     next
 }
 
 // Where bytes or room are missing nothing is done, so that the list differs.
-fn call(s: &[u8], at: usize, writer: CbrWriter, out: &mut [u8], next: usize) -> Called {
+fn answer_call(s: &[u8], at: usize, writer: CbrWriter, out: &mut [u8], next: usize) -> Called {
     let nothing = Called {
         writer,
         at,
@@ -128,23 +133,18 @@ fn call(s: &[u8], at: usize, writer: CbrWriter, out: &mut [u8], next: usize) -> 
         return nothing;
     }
     let h = read_head(&s[at..]);
-    let middle = 10 + h.headers as usize;
-    let end = middle + h.layer as usize;
-    let room = 85 + h.part as usize;
+    let middle = 10 + usize::from(h.headers);
+    let end = middle + usize::from(h.layer);
+    let room = 85 + usize::from(h.part);
     if s.len() - at < end || out.len() - next < room {
         return nothing;
     }
     let first = at + 10;
     let layer = at + middle;
     let after = at + end;
-    if h.which == 3 {
-        return check_sent(h, &s[first..layer], after, writer, out, next);
-    }
-    if h.which == 2 {
-        return set(writer, &s[first..layer], after, out, next);
-    }
-    if h.which == 1 {
-        return offer(
+    match h.call {
+        Call::Withdraw => withdraw(writer, after, out, next),
+        Call::Offer => offer(
             h,
             &s[first..layer],
             &s[layer..after],
@@ -152,14 +152,15 @@ fn call(s: &[u8], at: usize, writer: CbrWriter, out: &mut [u8], next: usize) -> 
             writer,
             out,
             next,
-        );
+        ),
+        Call::Set => set(writer, &s[first..layer], after, out, next),
+        Call::Check => check_sent(h, &s[first..layer], after, writer, out, next),
     }
-    withdraw(writer, after, out, next)
 }
 
 fn read_head(c: &[u8]) -> Head {
     Head {
-        which: byte(c, 0),
+        call: call_of(byte(c, 0)),
         kind: kind(byte(c, 1)),
         mode: mode(byte(c, 1)),
         interval: interval(byte(c, 2)),
@@ -167,6 +168,15 @@ fn read_head(c: &[u8]) -> Head {
         headers: number16(c, 4),
         layer: number16(c, 6),
         part: number16(c, 8),
+    }
+}
+
+fn call_of(number: u8) -> Call {
+    match number {
+        1 => Call::Offer,
+        2 => Call::Set,
+        3 => Call::Check,
+        _ => Call::Withdraw,
     }
 }
 
@@ -196,32 +206,18 @@ fn offer(
     writer: CbrWriter,
     out: &mut [u8],
     next: usize,
-) -> Called {
-    let nothing = Called {
-        writer,
-        at,
-        next,
-        number: MISSING,
-    };
-    let part = h.part as usize;
-    if out.len() < next {
-        return nothing;
-    }
-    if out.len() - next < 85 + part {
-        return nothing;
-    }
+) -> Called
+    requires { next + 85 + h.part ≤ length out.old }
+{
     let start = next + 85;
-    let end = start + part;
+    let end = start + usize::from(h.part);
     put_pattern(out, start, h.part);
-    let kind = h.kind;
-    let interval = h.interval;
-    let offered = writer.offer(headers, kind, interval, h.last, layer, &mut out[start..end]);
-    let after = offered.writer;
-    let answer = offered.answer;
-    let told = in_words(answer);
-    put_told(out, next, told, after);
+    let part = &mut out[start..end];
+    let offered = writer.offer(headers, h.kind, h.interval, h.last, layer, part);
+    let told = in_words(offered.answer);
+    put_told(out, next, told, offered.writer);
     Called {
-        writer: after,
+        writer: offered.writer,
         at,
         next: end,
         number: told.number,
@@ -236,25 +232,13 @@ fn check_sent(
     writer: CbrWriter,
     out: &mut [u8],
     next: usize,
-) -> Called {
-    let nothing = Called {
-        writer,
-        at,
-        next,
-        number: MISSING,
-    };
-    let part = h.part as usize;
-    if out.len() < next {
-        return nothing;
-    }
-    if out.len() - next < 85 + part {
-        return nothing;
-    }
+) -> Called
+    requires { next + 85 + h.part ≤ length out.old }
+{
     let start = next + 85;
-    let end = start + part;
+    let end = start + usize::from(h.part);
     put_pattern(out, start, h.part);
-    let mode = h.mode;
-    let told = verified_in_words(verify::verify_in_mode(stream, mode, &mut out[start..end]));
+    let told = verified_in_words(verify::verify_in_mode(stream, h.mode, &mut out[start..end]));
     put_told(out, next, told, writer);
     Called {
         writer,
@@ -264,10 +248,10 @@ fn check_sent(
     }
 }
 
-fn verified_in_words(verified: VbvVerified) -> Told {
+fn verified_in_words(verified: Result<VbvStreamReport, VbvVerifyError>) -> Told {
     match verified {
-        VbvVerified::Refused(e) => refusal_in_words(e.refusal()),
-        VbvVerified::Report(report) => report_in_words(report),
+        Err(e) => refusal_in_words(e.refusal()),
+        Ok(report) => report_in_words(report),
     }
 }
 
@@ -286,17 +270,14 @@ fn report_in_words(r: VbvStreamReport) -> Told {
 fn refusal_in_words(r: VbvRefusal) -> Told {
     Told {
         number: r.number,
-        words: [r.picture, r.coded as u64, r.expected as u64, 0],
+        words: [r.picture, u64::from(r.coded), u64::from(r.expected), 0],
     }
 }
 
 fn withdraw(writer: CbrWriter, at: usize, out: &mut [u8], next: usize) -> Called {
-    let withdrawn = writer.withdraw();
-    let after = withdrawn.writer;
-    let answer = withdrawn.answer;
-    let number = match answer {
-        CbrWithdrawal::Withdrawn => WITHDRAWN,
-        CbrWithdrawal::Refused(e) => e.number(),
+    let (after, number) = match writer.withdraw() {
+        Ok(after) => (after, WITHDRAWN),
+        Err(e) => (writer, e.number()),
     };
     let told = Told {
         number,
@@ -312,28 +293,16 @@ fn withdraw(writer: CbrWriter, at: usize, out: &mut [u8], next: usize) -> Called
 
 // The writer with an end and whole bits delivered that no list of calls comes to.
 fn set(writer: CbrWriter, far: &[u8], at: usize, out: &mut [u8], next: usize) -> Called {
-    let model = writer.model;
-    let params = model.params;
-    let target_bits = writer.target_bits;
-    let q = writer.q;
-    let pending = writer.pending;
-    let cadence = writer.cadence;
     let after = CbrWriter {
         model: VbvCbrModel {
-            params,
+            params: writer.model.params,
             whole: number64(far, 8),
             rest: 0,
             prev_end_bits: number64(far, 0),
             removed: 1,
             started: true,
         },
-        target_bits,
-        q,
-        pending,
-        stuffing_bytes: writer.stuffing_bytes,
-        finished: writer.finished,
-        cadence,
-        variable: writer.variable,
+        ..writer
     };
     let told = Told {
         number: SET,
@@ -347,46 +316,40 @@ fn set(writer: CbrWriter, far: &[u8], at: usize, out: &mut [u8], next: usize) ->
     }
 }
 
-fn in_words(answer: CbrAnswer) -> Told {
+fn in_words(answer: Result<CbrGiven, CbrError>) -> Told {
     match answer {
-        CbrAnswer::Placed {
-            q,
-            vbv_delay,
-            bytes,
-            stuffing_bytes,
-        } => Told {
+        Ok(
+            CbrGiven::Placed {
+                q,
+                vbv_delay,
+                bytes,
+                stuffing_bytes,
+            },
+        ) => Told {
             number: 0,
-            words: [q as u64, vbv_delay as u64, bytes, stuffing_bytes],
+            words: [u64::from(q), u64::from(vbv_delay), bytes, stuffing_bytes],
         },
-        CbrAnswer::Again(q) => Told {
+        Ok(CbrGiven::Again(q)) => Told {
             number: AGAIN,
-            words: [q as u64, 0, 0, 0],
+            words: [u64::from(q), 0, 0, 0],
         },
-        CbrAnswer::Refused(e) => refused(e),
+        Err(e) => refusal_in_words(e.refusal()),
     }
 }
 
-fn refused(e: CbrError) -> Told {
-    refusal_in_words(e.refusal())
-}
-
 fn put_told(out: &mut [u8], at: usize, told: Told, writer: CbrWriter) -> usize {
-    let words = told.words;
     let next = put(out, at, told.number);
-    let state = put_words(out, next, &words);
+    let state = put_words(out, next, &told.words);
     put_writer(out, state, writer)
 }
 
 // The state but for its parameters and targets.
 fn put_writer(out: &mut [u8], at: usize, w: CbrWriter) -> usize {
-    let q = w.q;
-    let waiting = w.pending;
     let model = w.model;
-    let cadence = w.cadence;
-    let pending = put_bytes(out, at, &q);
-    let finished = put_pending(out, pending, waiting);
-    let mode = put(out, finished, w.finished as u8);
-    let next = put_cadence(out, mode, w.variable, cadence);
+    let pending = put_bytes(out, at, &w.q);
+    let finished = put_pending(out, pending, w.pending);
+    let mode = put(out, finished, u8::from(w.finished));
+    let next = put_cadence(out, mode, w.variable, w.cadence);
     let words = [
         w.stuffing_bytes,
         model.whole,
@@ -399,14 +362,13 @@ fn put_writer(out: &mut [u8], at: usize, w: CbrWriter) -> usize {
 
 // The mode's number, the sequence's flags, the previous anchor's, and the open field.
 fn put_cadence(out: &mut [u8], at: usize, variable: bool, k: VbvCadence) -> usize {
-    let waiting = k.waiting;
     let bytes = [
         mode_number(k.film, variable),
-        k.progressive as u8,
-        k.low_delay as u8,
-        k.repeat as u8,
-        k.top as u8,
-        open_code(waiting),
+        u8::from(k.progressive),
+        u8::from(k.low_delay),
+        u8::from(k.repeat),
+        u8::from(k.top),
+        open_code(k.waiting),
     ];
     put_bytes(out, at, &bytes)
 }
@@ -427,16 +389,10 @@ fn open_code(waiting: OpenField) -> u8 {
 }
 
 // 0, or the kind's code and 1; and the quantiser.
-fn put_pending(out: &mut [u8], at: usize, pending: Pending) -> usize {
+fn put_pending(out: &mut [u8], at: usize, pending: Option<(PictureKind, u8)>) -> usize {
     match pending {
-        Pending::Nothing => {
-            let next = put(out, at, 0);
-            put(out, next, 0)
-        }
-        Pending::Waits(kind, q) => {
-            let next = put(out, at, code(kind));
-            put(out, next, q)
-        }
+        None => put_bytes(out, at, &[0, 0]),
+        Some((kind, q)) => put_bytes(out, at, &[code(kind), q]),
     }
 }
 

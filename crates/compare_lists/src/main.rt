@@ -15,6 +15,7 @@ fn answer(kind: u8, input: &[u8], out: &mut [u8], given: &mut [u64]) -> usize {
     }
 }
 
+// The names of the answers' numbers (oracle/FORMAT.md).
 fn print_name(rt: &impl Print, number: u8) -> io::Result<()> {
     match number {
         0 => rt.print("placed"),
@@ -22,7 +23,7 @@ fn print_name(rt: &impl Print, number: u8) -> io::Result<()> {
         SET => rt.print("set by hand"),
         AGAIN => rt.print("again"),
         WITHDRAWN => rt.print("withdrawn"),
-        _ => cases::print(rt, "refused ", number as u64),
+        _ => cases::print(rt, "refused ", u64::from(number)),
     }
 }
 
@@ -36,10 +37,8 @@ fn report_number(rt: &impl Print, number: u8, n: u64) -> io::Result<()> {
 }
 
 fn report_numbers(rt: &impl Print, given: &[u64]) -> io::Result<()> {
-    let mut number: u8 = 0;
-    while number < MISSING {
-        report_number(rt, number, cases::get(given, number as usize))?;
-        number += 1;
+    for number in 0..MISSING {
+        report_number(rt, number, cases::get(given, usize::from(number)))?;
     }
     Ok(())
 }
@@ -47,14 +46,15 @@ fn report_numbers(rt: &impl Print, given: &[u64]) -> io::Result<()> {
 fn main(rt: HostRuntime) -> io::Result<()> {
     let mut buf = [0u8; 65536];
     let mut out = [0u8; 65536];
-    let mut counts = [0u64; cases::COUNTS];
+    let mut counts = cases::Counts::new();
     let mut given = [0u64; MISSING as usize];
     let mut from = rt.stdin();
-    let mut case = cases::first(&mut from, &mut buf, &mut counts)?;
-    while 0 < case.left {
-        let input = case.input;
-        let n = answer(case.kind, &buf[0..input], &mut out, &mut given);
-        case = cases::next(&rt, &mut from, case, n, &mut buf, &out, &mut counts)?;
+    for _ in 0..u64::MAX {
+        let Some(case) = cases::read(&mut from, &mut buf, &mut counts)? else {
+            break;
+        };
+        let n = answer(case.kind, &buf[..case.input], &mut out, &mut given);
+        cases::count(&rt, case, n, &buf, &out, &mut counts)?;
     }
     report_numbers(&rt, &given)?;
     cases::report(&rt, &counts)

@@ -3,8 +3,7 @@
 use cases::put::{put, put_bytes, put_words, put64};
 use cases::take::{byte, number16, number64};
 use vbv::{
-    FrameRate, RemovalInterval, VbvBits, VbvCbrModel, VbvDelay, VbvModel, VbvParams, VbvPatch,
-    VbvRemoval, VbvViolation,
+    NotAPicture, RemovalInterval, VbvCbrModel, VbvError, VbvParams, VbvRemovalError, VbvViolation,
 };
 
 // The model after a call, and the place after its answer.
@@ -18,13 +17,11 @@ pub(crate) fn frame_rate(s: &[u8], out: &mut [u8]) -> usize {
     if s.len() != 3 {
         return 0;
     }
-    let rate = vbv::frame_rate_value(byte(s, 0), byte(s, 1), byte(s, 2));
-    match rate {
-        FrameRate::Refused(e) => put(out, 0, e.number()),
-        FrameRate::Rate(frn, frd) => {
+    match vbv::frame_rate_value(byte(s, 0), byte(s, 1), byte(s, 2)) {
+        Err(e) => put(out, 0, e.number()),
+        Ok((frn, frd)) => {
             let at = put(out, 0, 0);
-            let words = [frn, frd];
-            put_words(out, at, &words)
+            put_words(out, at, &[frn, frd])
         }
     }
 }
@@ -37,16 +34,11 @@ pub(crate) fn patch(s: &[u8], out: &mut [u8]) -> usize {
     if end < 1 || out.len() < end {
         return 0;
     }
-    let answer = vbv::patch_vbv_delay(&mut out[1..end], number16(s, 0));
-    put_patch(out, answer);
+    match vbv::patch_vbv_delay(&mut out[1..end], number16(s, 0)) {
+        Ok(()) => put(out, 0, 0),
+        Err(NotAPicture) => put(out, 0, 20),
+    };
     end
-}
-
-fn put_patch(out: &mut [u8], answer: VbvPatch) -> usize {
-    match answer {
-        VbvPatch::NotAPicture => put(out, 0, 20),
-        VbvPatch::Done => put(out, 0, 0),
-    }
 }
 
 // Four parameters and a list of calls, 11 bytes each.
@@ -58,8 +50,8 @@ pub(crate) fn calls(s: &[u8], out: &mut [u8]) -> usize {
         frd: number64(s, 24),
     });
     match made {
-        VbvModel::Refused(e) => put(out, 0, e.number()),
-        VbvModel::Model(model) => {
+        Err(e) => put(out, 0, e.number()),
+        Ok(model) => {
             let at = put(out, 0, 0);
             put_calls(out, at, s, model)
         }
@@ -70,15 +62,12 @@ fn put_calls(out: &mut [u8], at: usize, s: &[u8], model: VbvCbrModel) -> usize {
     if s.len() < 43 {
         return 0;
     }
-    let last = s.len() - 11;
     let mut now = model;
     let mut next = at;
-    let mut i: usize = 32;
-    while i <= last {
-        let called = call(out, next, &s[i..], now);
+    for c in s[32..].chunks_exact(11) {
+        let called = call(out, next, c, now);
         now = called.model;
         next = called.next;
-        i += 11;
     }
     next
 }
@@ -88,23 +77,28 @@ fn call(out: &mut [u8], at: usize, c: &[u8], model: VbvCbrModel) -> Called {
     let place = number64(c, 1);
     let small = number16(c, 9);
     match byte(c, 0) {
-        1 => put_started(out, at, model, model.start(small, place)),
+        1 => put_changed(
+            out,
+            at,
+            model,
+            model.start(small, place).map_err(VbvRemovalError::Model),
+        ),
         2 => Called {
             model,
-            next: put_delay(out, at, model.delay_for_picture(place)),
+            next: put_number(out, at, model.delay_for_picture(place).map(u64::from)),
         },
-        3 => put_removed(out, at, model, model.remove_picture(place, interval(small))),
+        3 => put_changed(out, at, model, model.remove_picture(place, interval(small))),
         4 => Called {
             model,
-            next: put_bits(out, at, model.max_end_bits()),
+            next: put_number(out, at, model.max_end_bits()),
         },
         5 => Called {
             model,
-            next: put_bits(out, at, model.min_end_bits(interval(small))),
+            next: put_number(out, at, model.min_end_bits(interval(small))),
         },
         _ => Called {
             model,
-            next: put_bits(out, at, model.occupancy_before_removal_bits()),
+            next: put_number(out, at, model.occupancy_before_removal_bits()),
         },
     }
 }
@@ -119,83 +113,48 @@ fn interval(code: u16) -> RemovalInterval {
     }
 }
 
-fn put_started(out: &mut [u8], at: usize, before: VbvCbrModel, started: VbvModel) -> Called {
-    match started {
-        VbvModel::Refused(e) => Called {
-            model: before,
-            next: put(out, at, e.number()),
-        },
-        VbvModel::Model(model) => Called {
-            model,
-            next: put_model(out, at, model),
-        },
+// The model after an answer that changes it.
+fn put_changed(
+    out: &mut [u8],
+    at: usize,
+    before: VbvCbrModel,
+    answer: Result<VbvCbrModel, VbvRemovalError>,
+) -> Called {
+    Called {
+        model: answer.unwrap_or(before),
+        next: put_answer(out, at, answer, put_model),
     }
 }
 
-fn put_removed(out: &mut [u8], at: usize, before: VbvCbrModel, removed: VbvRemoval) -> Called {
-    match removed {
-        VbvRemoval::Refused(e) => Called {
-            model: before,
-            next: put(out, at, e.number()),
-        },
-        VbvRemoval::Violation(v) => Called {
-            model: before,
-            next: put_violation(out, at, v),
-        },
-        VbvRemoval::Model(model) => Called {
-            model,
-            next: put_model(out, at, model),
-        },
+fn put_number(out: &mut [u8], at: usize, answer: Result<u64, VbvError>) -> usize {
+    put_answer(out, at, answer.map_err(VbvRemovalError::Model), put64)
+}
+
+// 0 and what `put_value` puts, or the refusal.
+fn put_answer<T, F: FnOnce(&mut [u8], usize, T) -> usize>(
+    out: &mut [u8],
+    at: usize,
+    answer: Result<T, VbvRemovalError>,
+    put_value: F,
+) -> usize
+    requires { F.IsAlwaysCallable put_value }
+{
+    match answer {
+        Ok(value) => {
+            let next = put(out, at, 0);
+            put_value(out, next, value)
+        }
+        Err(VbvRemovalError::Model(e)) => put(out, at, e.number()),
+        Err(VbvRemovalError::Violation(v)) => put_violation(out, at, v),
     }
 }
 
 fn put_model(out: &mut [u8], at: usize, m: VbvCbrModel) -> usize {
-    let next = put(out, at, 0);
-    let words = [m.whole, m.rest, m.prev_end_bits, m.removed];
-    put_words(out, next, &words)
+    put_words(out, at, &[m.whole, m.rest, m.prev_end_bits, m.removed])
 }
 
 fn put_violation(out: &mut [u8], at: usize, v: VbvViolation) -> usize {
-    match v {
-        VbvViolation::Overflow {
-            picture,
-            coded: _,
-            expected: _,
-        } => put_picture(out, at, 9, picture),
-        VbvViolation::Underflow {
-            picture,
-            coded: _,
-            expected: _,
-        } => put_picture(out, at, 10, picture),
-        VbvViolation::DelayMismatch {
-            picture,
-            coded: _,
-            expected: _,
-        } => put_picture(out, at, 11, picture),
-    }
-}
-
-fn put_picture(out: &mut [u8], at: usize, number: u8, picture: u64) -> usize {
-    let next = put(out, at, number);
-    put64(out, next, picture)
-}
-
-fn put_delay(out: &mut [u8], at: usize, delay: VbvDelay) -> usize {
-    match delay {
-        VbvDelay::Refused(e) => put(out, at, e.number()),
-        VbvDelay::Delay(ticks) => {
-            let next = put(out, at, 0);
-            put64(out, next, ticks as u64)
-        }
-    }
-}
-
-fn put_bits(out: &mut [u8], at: usize, bits: VbvBits) -> usize {
-    match bits {
-        VbvBits::Refused(e) => put(out, at, e.number()),
-        VbvBits::Bits(n) => {
-            let next = put(out, at, 0);
-            put64(out, next, n)
-        }
-    }
+    let r = v.refusal();
+    let next = put(out, at, r.number);
+    put64(out, next, r.picture)
 }

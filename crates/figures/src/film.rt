@@ -7,10 +7,7 @@ use std::io;
 use vbv::periods;
 
 fn is_picture(letter: u8) -> bool {
-    match letter {
-        b'I' | b'P' | b'B' | b'i' | b'p' | b'b' => true,
-        _ => false,
-    }
+    matches!(letter, b'I' | b'P' | b'B' | b'i' | b'p' | b'b')
 }
 
 // What a picture shows, by its letter and what stands after it.
@@ -23,31 +20,7 @@ pub(crate) fn facts(letter: u8, mark: u8) -> PictureFacts {
     }
 }
 
-// Prints how long a picture lasts; what it leaves to the next one.
-fn print_picture(rt: &impl Print, k: VbvCadence, facts: PictureFacts) -> io::Result<VbvCadence> {
-    rt.print(" ")?;
-    rt.print(periods(k.interval(facts)))?;
-    Ok(k.after(facts))
-}
-
-// The same, where there is a picture at a place.
-fn print_place(
-    rt: &impl Print,
-    k: VbvCadence,
-    letters: &[u8],
-    at: usize,
-) -> io::Result<VbvCadence> {
-    if letters.len() <= at {
-        return Ok(k);
-    }
-    let letter = letters[at];
-    if is_picture(letter) {
-        return print_picture(rt, k, facts(letter, byte(letters, at + 1)));
-    }
-    Ok(k)
-}
-
-// The periods of a list of pictures.
+// Prints the periods of a list of pictures.
 fn print_periods(
     rt: &impl Print,
     letters: &[u8],
@@ -55,18 +28,20 @@ fn print_periods(
     low_delay: bool,
 ) -> io::Result<()> {
     let mut k = VbvCadence::opened(true, progressive, low_delay);
-    let mut at: usize = 0;
-    while at < letters.len() {
-        k = print_place(rt, k, letters, at)?;
-        at += 1;
+    for (at, letter) in letters.iter().enumerate() {
+        if is_picture(*letter) {
+            let shown = facts(*letter, byte(letters, at + 1));
+            print!(rt; " {}", periods(k.interval(shown)))?;
+            k = k.after(shown);
+        }
     }
     Ok(())
 }
 
 // In an interlaced sequence, with low_delay 1, in a progressive one, with low_delay 1.
-fn print_list(rt: &impl Print, letters: &[u8]) -> io::Result<()> {
-    rt.write_all(letters)?;
-    rt.print(":")?;
+fn print_list(rt: &impl Print, list: &str) -> io::Result<()> {
+    let letters = list.as_bytes();
+    print!(rt; "{list}:")?;
     print_periods(rt, letters, false, false)?;
     rt.print(",")?;
     print_periods(rt, letters, false, true)?;
@@ -77,32 +52,29 @@ fn print_list(rt: &impl Print, letters: &[u8]) -> io::Result<()> {
     rt.print("\n")
 }
 
-fn print_frames(rt: &impl Print) -> io::Result<()> {
-    print_list(rt, b"I' P P")?;
-    print_list(rt, b"I' B' P")?;
-    print_list(rt, b"B' I")?;
-    print_list(rt, b"I\" P")?;
-    print_list(rt, b"I^ P")?;
-    print_list(rt, b"I\" B\" P")?;
-    print_list(rt, b"I' P' B' B P B' P")
-}
+const FRAMES: [&str; 7] = [
+    "I' P P",
+    "I' B' P",
+    "B' I",
+    "I\" P",
+    "I^ P",
+    "I\" B\" P",
+    "I' P' B' B P B' P",
+];
 
-fn print_fields(rt: &impl Print) -> io::Result<()> {
-    print_list(rt, b"I' ip P")?;
-    print_list(rt, b"I' p P")?;
-    print_list(rt, b"I' p B P")?;
-    print_list(rt, b"I' bb P")?;
-    print_list(rt, b"I' b P")?;
-    print_list(rt, b"I' pb P")?;
-    print_list(rt, b"I' bp P")?;
-    print_list(rt, b"ip P")?;
-    print_list(rt, b"I' ppp P")
-}
+const FIELDS: [&str; 9] = [
+    "I' ip P", "I' p P", "I' p B P", "I' bb P", "I' b P", "I' pb P", "I' bp P", "ip P", "I' ppp P",
+];
 
 pub(crate) fn print_film(rt: &impl Print) -> io::Result<()> {
     rt.print(
         "field periods: interlaced, low_delay 1, progressive, progressive with low_delay 1\n",
     )?;
-    print_frames(rt)?;
-    print_fields(rt)
+    for list in FRAMES {
+        print_list(rt, list)?;
+    }
+    for list in FIELDS {
+        print_list(rt, list)?;
+    }
+    Ok(())
 }

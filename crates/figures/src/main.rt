@@ -6,65 +6,30 @@ mod channel; // request 05: a channel that a film writer sends
 mod film; // request 05: how long pictures last
 mod rates; // request 02
 
-use headers::Written;
-use headers::gop_header::{Mpeg2Gop, TimeCode, TimeCodeAnswer};
-use headers::quant_matrix_extension::no_matrix;
+use headers::Error;
+use headers::gop_header::{Mpeg2Gop, TimeCode};
 use headers::sequence_extension::ChromaFormat;
 use headers::stream_writer::SequenceHeaderParams;
 use std::io;
-use vbv::{RemovalInterval, VbvCbrModel, VbvModel, VbvParams, VbvRemoval};
+use vbv::{RemovalInterval, VbvCbrModel, VbvParams, VbvRemovalError};
 use writers::gop_header::write_gop_header;
 use writers::stream_writer::{write_sequence_extension, write_sequence_header};
 
-const DIGITS: [u8; 16] = *b"0123456789ABCDEF";
-
-fn digit(n: u8) -> u8 {
-    DIGITS[(n % 16) as usize]
-}
-
-// Writes a byte as two digits, with a space before it unless it is the first.
-fn print_byte(rt: &impl Print, b: u8, first: bool) -> io::Result<()> {
-    if !first {
-        rt.print(" ")?;
-    }
-    let text = [digit(b / 16), digit(b)];
-    rt.write_all(&text)
-}
-
-// Writes the first n bytes, or as many as there are.
-fn print_bytes(rt: &impl Print, bytes: &[u8], n: usize) -> io::Result<()> {
-    let mut k: usize = 0;
-    while k < bytes.len() {
-        if n <= k {
-            return Ok(());
-        }
-        print_byte(rt, bytes[k], k == 0)?;
-        k += 1;
-    }
-    Ok(())
-}
-
-fn end_line(rt: &impl Print) -> io::Result<()> {
-    rt.print("\n")
-}
-
-fn print_written(rt: &impl Print, written: Written, bytes: &[u8]) -> io::Result<()> {
+// Writes the bytes that were written, as two digits each, or the number of a refusal.
+fn print_written(rt: &impl Print, written: Result<usize, Error>, bytes: &[u8]) -> io::Result<()> {
     match written {
-        Written::Bytes(n) => {
-            print_bytes(rt, bytes, n)?;
-            end_line(rt)
+        Ok(n) => {
+            for (k, b) in bytes.iter().take(n).enumerate() {
+                let space = if k == 0 { "" } else { " " };
+                print!(rt; "{space}{b:02X}")?;
+            }
+            rt.print("\n")
         }
-        Written::Refused(error) => {
-            rt.print("refused ")?;
-            rt.print(error.number())?;
-            end_line(rt)
-        }
+        Err(error) => println!(rt; "refused {}", error.number()),
     }
 }
 
 fn sequence_header(rt: &impl Print) -> io::Result<()> {
-    let intra_quantiser_matrix = no_matrix();
-    let non_intra_quantiser_matrix = no_matrix();
     let params = SequenceHeaderParams {
         horizontal_size: 16,
         vertical_size: 16,
@@ -72,8 +37,8 @@ fn sequence_header(rt: &impl Print) -> io::Result<()> {
         frame_rate_code: 3,
         bit_rate_value: 2500,
         vbv_buffer_size_value: 20,
-        intra_quantiser_matrix,
-        non_intra_quantiser_matrix,
+        intra_quantiser_matrix: None,
+        non_intra_quantiser_matrix: None,
     };
     let mut out = [0xFFu8; 16];
     let written = write_sequence_header(&mut out, params);
@@ -90,8 +55,7 @@ fn sequence_extension(rt: &impl Print) -> io::Result<()> {
 
 fn group_header(rt: &impl Print) -> io::Result<()> {
     rt.print("group header, closed, at 0\n")?;
-    let answer = TimeCode::from_display_index(0, 3);
-    let TimeCodeAnswer::Code(time_code) = answer else {
+    let Some(time_code) = TimeCode::from_display_index(0, 3) else {
         return Ok(());
     };
     let gop = Mpeg2Gop {
@@ -104,36 +68,23 @@ fn group_header(rt: &impl Print) -> io::Result<()> {
     print_written(rt, written, &out)
 }
 
-// Whether the end is accepted, at R = 1,000,000, B = 327,680 and 25 frames, after a start at 1,000 with the delay 22,118.
-fn accepts(end_bits: u64) -> bool {
+// A removal with this end, at R = 1,000,000, B = 327,680 and 25 frames, after a start at 1,000 with the delay 22,118.
+fn remove(end_bits: u64) -> Result<VbvCbrModel, VbvRemovalError> {
     let params = VbvParams {
         bit_rate: 1000000,
         buffer_size_bits: 327680,
         frn: 25,
         frd: 1,
     };
-    let made = VbvCbrModel::new(params);
-    let VbvModel::Model(fresh) = made else {
-        return false;
-    };
-    let started = fresh.start(22118, 1000);
-    let VbvModel::Model(model) = started else {
-        return false;
-    };
-    let removal = model.remove_picture(end_bits, RemovalInterval::Frame);
-    if let VbvRemoval::Model(_) = removal {
-        true
-    } else {
-        false
-    }
+    let started = VbvCbrModel::new(params)?.start(22118, 1000)?;
+    started.remove_picture(end_bits, RemovalInterval::Frame)
 }
 
 fn model_end(rt: &impl Print) -> io::Result<()> {
     rt.print("end 246755 after a start at 1000 with delay 22118\n")?;
-    if accepts(246755) {
-        rt.print("accepted\n")
-    } else {
-        rt.print("refused\n")
+    match remove(246755) {
+        Ok(_) => rt.print("accepted\n"),
+        Err(_) => rt.print("refused\n"),
     }
 }
 

@@ -1,8 +1,8 @@
 // The figures of request 02 (paper 02, 'Rates with extensions'): frame rates of a code, n and d, which of them have one value, and the
 // targets that follow.
-use rate_control::{CbrConfig, CbrCreation, CbrWriter};
+use rate_control::{CbrConfig, CbrWriter};
 use std::io;
-use vbv::{FrameRate, VbvParams, frame_rate_value, params_of};
+use vbv::{VbvError, VbvParams, frame_rate_value, params_of};
 use verify::{VbvMode, VbvStandard};
 
 // Codes 1 to 8, n 0 to 3, d 0 to 31.
@@ -24,79 +24,50 @@ fn triple_at(k: u16) -> Triple {
     }
 }
 
-fn print_number(rt: &impl Print, value: u64) -> io::Result<()> {
-    rt.print(value)
-}
-
 fn print_triple(rt: &impl Print, t: Triple) -> io::Result<()> {
-    print_number(rt, t.code as u64)?;
-    rt.print(" ")?;
-    print_number(rt, t.n as u64)?;
-    rt.print(" ")?;
-    print_number(rt, t.d as u64)
+    print!(rt; "{} {} {}", t.code, t.n, t.d)
 }
 
 // A rate, or the number of its refusal.
 fn print_rate(rt: &impl Print, code: u8, n: u8, d: u8) -> io::Result<()> {
     print_triple(rt, Triple { code, n, d })?;
     match frame_rate_value(code, n, d) {
-        FrameRate::Rate(frn, frd) => {
-            rt.print(": ")?;
-            print_number(rt, frn)?;
-            rt.print("/")?;
-            print_number(rt, frd)?;
-        }
-        FrameRate::Refused(error) => {
-            rt.print(": refused ")?;
-            print_number(rt, error.number() as u64)?;
-        }
+        Ok((frn, frd)) => println!(rt; ": {frn}/{frd}"),
+        Err(error) => println!(rt; ": refused {}", error.number()),
     }
-    rt.print("\n")
 }
 
 // Fields 2500 and 20 with the frame rate of a triple.
-fn params(t: Triple) -> VbvParams {
-    match frame_rate_value(t.code, t.n, t.d) {
-        FrameRate::Rate(frn, frd) => params_of(2500, 20, frn, frd),
-        FrameRate::Refused(_) => params_of(0, 0, 0, 0),
+fn params(t: Triple) -> Result<VbvParams, VbvError> {
+    let (frn, frd) = frame_rate_value(t.code, t.n, t.d)?;
+    Ok(params_of(2500, 20, frn, frd))
+}
+
+// Whether two triples have one value.
+fn same(a: Triple, b: Triple) -> bool {
+    match (params(a), params(b)) {
+        (Ok(p), Ok(q)) => p.same(q),
+        _ => false,
     }
 }
 
 // Whether a triple before k has its value.
 fn met_before(k: u16) -> bool {
-    let own = params(triple_at(k));
-    let mut j: u16 = 0;
-    while j < k {
-        if own.same(params(triple_at(j))) {
-            return true;
-        }
-        j += 1;
-    }
-    false
+    (0..k).any(|j| same(triple_at(j), triple_at(k)))
 }
 
-fn count_values() -> u64 {
-    let mut values: u64 = 0;
-    let mut k: u16 = 0;
-    while k < TRIPLES {
-        if !met_before(k) {
-            values = values.wrapping_add(1);
-        }
-        k += 1;
-    }
-    values
+fn count_values() -> usize {
+    (0..TRIPLES).filter(|k| !met_before(*k)).count()
 }
 
-// The triples of a rate's value.
-fn print_same(rt: &impl Print, rate: VbvParams) -> io::Result<()> {
-    let mut k: u16 = 0;
-    while k < TRIPLES {
+// The triples of a triple's value.
+fn print_same(rt: &impl Print, of: Triple) -> io::Result<()> {
+    for k in 0..TRIPLES {
         let t = triple_at(k);
-        if rate.same(params(t)) {
+        if same(of, t) {
             print_triple(rt, t)?;
             rt.print("\n")?;
         }
-        k += 1;
     }
     Ok(())
 }
@@ -115,24 +86,13 @@ fn print_targets(rt: &impl Print, code: u8, n: u8, d: u8) -> io::Result<()> {
         anchors_per_gop: 4,
     });
     print_triple(rt, Triple { code, n, d })?;
-    let answer = made.answer;
-    match answer {
-        CbrCreation::Created => {
-            let writer = made.writer;
-            let targets = writer.target_bits;
-            rt.print(": ")?;
-            print_number(rt, targets[0])?;
-            rt.print(" ")?;
-            print_number(rt, targets[1])?;
-            rt.print(" ")?;
-            print_number(rt, targets[2])?;
+    match made {
+        Ok(writer) => {
+            let [i, p, b] = writer.target_bits;
+            println!(rt; ": {i} {p} {b}")
         }
-        CbrCreation::Refused(error) => {
-            rt.print(": refused ")?;
-            print_number(rt, error.number() as u64)?;
-        }
+        Err(error) => println!(rt; ": refused {}", error.number()),
     }
-    rt.print("\n")
 }
 
 fn print_lookups(rt: &impl Print) -> io::Result<()> {
@@ -148,14 +108,16 @@ fn print_lookups(rt: &impl Print) -> io::Result<()> {
 pub(crate) fn print_rates(rt: &impl Print) -> io::Result<()> {
     print_lookups(rt)?;
     rt.print("values of the 1024 triples\n")?;
-    print_number(rt, count_values())?;
+    print!(rt; "{}", count_values())?;
     rt.print("\ntriples of the value 25\n")?;
-    let rate = params(Triple {
-        code: 3,
-        n: 0,
-        d: 0,
-    });
-    print_same(rt, rate)?;
+    print_same(
+        rt,
+        Triple {
+            code: 3,
+            n: 0,
+            d: 0,
+        },
+    )?;
     rt.print("targets of I, P and B, fields 2500 and 20, 2 and 4\n")?;
     print_targets(rt, 3, 0, 0)?;
     print_targets(rt, 3, 1, 1)?;

@@ -6,19 +6,23 @@ pub(crate) struct Tally {
     pub other: u64,
 }
 
-fn one_more(n: u64, counts: bool) -> u64 {
-    if n < 1000000000 {
-        if counts {
-            return n + 1;
+impl Tally {
+    pub(crate) fn new() -> Tally {
+        Tally {
+            done: 0,
+            refused: 0,
+            other: 0,
         }
     }
-    n
-}
 
-pub(crate) fn counted(tally: Tally, accepted: bool, same: bool) -> Tally {
-    Tally {
-        done: one_more(tally.done, accepted),
-        refused: one_more(tally.refused, !accepted),
-        other: one_more(tally.other, !same),
+    pub(crate) fn count(&mut self, accepted: bool, same: bool) {
+        if accepted {
+            self.done = self.done.wrapping_add(1);
+        } else {
+            self.refused = self.refused.wrapping_add(1);
+        }
+        if !same {
+            self.other = self.other.wrapping_add(1);
+        }
     }
 }

@@ -1,13 +1,26 @@
--- Flags and their bits, and a list by its elements.
+-- A table's refusals as a header's; flags and their bits, and a list by its elements.
 -- Assumes nothing.
-use mathlib.Core.Path.{◌≡◌, refl, ap}
+use mathlib.Core.Path.{◌≡◌, refl, ap, ◌∙◌}
 use mathlib.Core.List.{List, [], ◌∷◌}
 use mathlib.Core.Bool.{Bool, true, false}
 use Prim.Native.Nat.{ℕ, zero, suc, ◌≤◌}
 use native.Mathlib.Omega.{arith}
 use lib.Dec.{eqb, lit≤}
 use lib.ListN.{length, get_or}
-use Rattle.headers.specs.Answers.{flag_of}
+use Rattle.std.specs.Prelude.{Err}
+use Rattle.bits.specs.Refusals.{Answer}
+use Rattle.bits.specs.Answers.{in_places, fields_answer}
+use Rattle.bits.specs.declared.FieldsError.{FieldsError}
+use Rattle.bits.specs.declared.FieldsError.TheVariants.{Short, Bad}
+use Rattle.bits.proofs.Reading.{answer_refused}
+use Rattle.headers.specs.Answers.{header_refusal, fields_error, flag_of}
+
+pub fields_refused : {p : Answer (List ℕ)} (e : FieldsError) → fields_answer (Err e) ≡ in_places p → p ≡ header_refusal (fields_error e)
+fields_refused e h = answer_refused (Err e) _ h refl ∙ same e
+  where
+    same : (e : FieldsError) → fields_answer (Err e) ≡ header_refusal (fields_error e)
+    same Short = refl
+    same Bad = refl
 
 pub flag_same : (b : Bool) → eqb (flag_of b) 1 ≡ b
 flag_same true = refl

@@ -16,8 +16,7 @@ use Rattle.bits.proofs.Flags.{both_true, clash}
 use Rattle.bits.proofs.Reading.{total-none, total-more}
 use Rattle.bits.proofs.Checking.{fits_none, fits_more, fits_all_lem}
 use Rattle.headers.specs.Answers.{flag_of}
-use Rattle.headers.specs.GroupHeader.{group_fields, group_values, nominal_rates, nominal_rate, time_code, time_code_at, nominal_answer}
-use Rattle.headers.specs.declared.gop_header.NominalRate.{NominalRate}
+use Rattle.headers.specs.GroupHeader.{group_fields, group_values, nominal_rates, nominal_rate, time_code, time_code_at}
 use Rattle.headers.specs.declared.gop_header.TimeCode.{TimeCode}
 use Rattle.headers.specs.declared.gop_header.Mpeg2Gop.{Mpeg2Gop}
 use Rattle.headers.proofs.Answers.{flag-bound}
@@ -35,10 +34,6 @@ module _ (c : ℕ) where
   pub rate_is : 1 ≤ c → c ≤ 8 → value (get_or nominal_rates c 0) ≡ nominal_rate c
   unfolding nominal_rate pick
   rate_is l h = rw (le-leb 1 c l, le-leb c 8 h)
-
--- a case of the answer, by what it tells
-pub nominal_case : {r x : NominalRate} {a : Answer ℕ} → r ≡ x → nominal_answer r ≡ a → nominal_answer x ≡ a
-nominal_case e f = rw (← e) f
 
 -- the ways of `from_display_index`
 module _ (n c : ℕ) where

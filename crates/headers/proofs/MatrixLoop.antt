@@ -11,14 +11,13 @@ use Rattle.bits.specs.Refusals.{value, refused}
 use Rattle.bits.specs.Fields.{any_value, read_fields}
 use Rattle.bits.specs.Answers.{read_bits}
 use Rattle.bits.proofs.Reading.{prepended, prepended_none, after-after, read_none, any_missed, any_found}
-use Rattle.headers.specs.QuantMatrix.{matrix_bytes, loaded}
-use Rattle.headers.specs.Steps.{loaded_at}
+use Rattle.headers.specs.QuantMatrix.{matrix_bytes}
 
 -- the code's loop, after k of 64 bytes: they stand first in bytes, and the others are read after them
 pub record MatrixReading (s : List ℕ) (at : ℕ) (bytes : List ℕ) (k : ℕ) : Type 0 where
   pub within : k ≤ 64
   pub long : length bytes ≡ 64
-  pub progress : read_fields (matrix_bytes 1) s at ≡ prepended (take k bytes) (read_fields (replicate (64 - k) (any_value 8)) s (at + 8 * k))
+  pub progress : read_fields (matrix_bytes) s at ≡ prepended (take k bytes) (read_fields (replicate (64 - k) (any_value 8)) s (at + 8 * k))
 
 pub matrix_reading_none : (s : List ℕ) (at : ℕ) → MatrixReading s at (replicate 64 0) 0
 unfolding matrix_bytes
@@ -32,12 +31,12 @@ matrix_reading_none s at = record {
 
 module _ {s : List ℕ} {at : ℕ} {bytes : List ℕ} {k : ℕ} (r : MatrixReading s at bytes k) where
   module _ (h : k < 64) where
-    next : read_fields (matrix_bytes 1) s at ≡ prepended (take k bytes) (read_fields (any_value 8 ∷ replicate (64 - suc k) (any_value 8)) s (at + 8 * k))
+    next : read_fields (matrix_bytes) s at ≡ prepended (take k bytes) (read_fields (any_value 8 ∷ replicate (64 - suc k) (any_value 8)) s (at + 8 * k))
     next =
         let e : 64 - k ≡ suc (64 - suc k) = omega arith in
         r.progress ∙ rw e
 
-    pub reading_short : refused 1 0 0 0 ≡ read_bits s (at + 8 * k) 8 → loaded_at s at ≡ refused 1 0 0 0
+    pub reading_short : refused 1 0 0 0 ≡ read_bits s (at + 8 * k) 8 → refused 1 0 0 0 ≡ read_fields matrix_bytes s at
     reading_short m = rw (next, any_missed 8 (replicate (64 - suc k) (any_value 8)) s (at + 8 * k) m)
 
     pub reading_more : {v : ℕ} → value v ≡ read_bits s (at + 8 * k) 8 → MatrixReading s at (set bytes k v) (k + 1)
@@ -49,7 +48,7 @@ module _ {s : List ℕ} {at : ℕ} {bytes : List ℕ} {k : ℕ} (r : MatrixReadi
           next ∙ rw (any_found 8 (replicate (64 - suc k) (any_value 8)) s (at + 8 * k) v f, after-after (take k bytes) (v ∷ []) (read_fields (replicate (64 - suc k) (any_value 8)) s (at + 8 * k + 8)), add-one k, take-suc-set bytes k v (omega arith), e);
     }
 
-  pub reading_end : 64 ≤ k → loaded_at s at ≡ value (loaded bytes)
+  pub reading_end : 64 ≤ k → value bytes ≡ read_fields matrix_bytes s at
   reading_end h =
       let e : 64 - k ≡ 0 = omega arith in
       rw (r.progress, e, read_none s (at + 8 * k), append-nil (take k bytes), take_all k bytes (omega arith))

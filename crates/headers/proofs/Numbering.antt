@@ -20,7 +20,7 @@ next_numbered s k = pick_elim Header _ (λ e. by_number refl) λ e. a_value
 
 matrix_numbered : (s : List ℕ) (i : ℕ) → Header (read_matrix s i)
 unfolding read_matrix
-matrix_numbered s i = and_then_lem _ (fields_numbered _ s i) λ flag. and_then_lem _ (fields_numbered _ s _) λ bytes. a_value
+matrix_numbered s i = and_then_lem _ (fields_numbered _ s i) λ flag. pick_elim Header _ (λ e. a_value) λ e. and_then_lem _ (fields_numbered _ s _) λ bytes. a_value
 
 sequence_header_numbered : (s : List ℕ) → Header (sequence_header s)
 unfolding sequence_header

@@ -6,56 +6,40 @@ use Prim.Native.Nat.{ℕ, ◌-◌, ◌≤◌}
 use native.Mathlib.Omega.{arith}
 use lib.ListN.{length, take, drop}
 use lib.Seq.{drop-append-le}
-use Rattle.bits.specs.Refusals.{Answer, value, refused, and_then, number, or_else}
+use Rattle.bits.specs.Refusals.{value, refused, number}
 use Rattle.bits.proofs.Reading.{rest_is}
 use Rattle.bits.proofs.Following.{then_value}
-use Rattle.headers.specs.Answers.{header_refusal, flagged, header_answer, sequence_answer}
 use Rattle.headers.specs.StartCode.{next_start_code}
 use Rattle.headers.specs.SequenceHeader.{sequence_header, sequence_header_bytes}
 use Rattle.headers.specs.SequenceExtension.{sequence_extension}
-use Rattle.headers.specs.Sequence.{sequence_of, no_sequence, sequence}
+use Rattle.headers.specs.Sequence.{sequence_of, sequence}
 use Rattle.headers.specs.RoundTrips.{SequenceStays}
 use Rattle.headers.proofs.StartCode.{next-found, next-append}
-use Rattle.headers.proofs.SequenceHeader.{HeaderBounds, sequence_header_bounds, sequence_header-append}
+use Rattle.headers.proofs.SequenceHeader.{sequence_header-append}
 use Rattle.headers.proofs.SequenceExtension.{extension_bounds, extension_append}
-use Rattle.headers.specs.declared.Error.{Error}
-use Rattle.headers.specs.declared.sequence_header.Answer.{Answer as Flag}
 use Rattle.headers.specs.declared.sequence_header.Mpeg2SequenceHeader.{Mpeg2SequenceHeader}
-use Rattle.headers.specs.declared.sequence_header.SequenceHeaderRead.{SequenceHeaderRead}
 use Rattle.headers.specs.declared.sequence_extension.Mpeg2SequenceExtension.{Mpeg2SequenceExtension}
 use Rattle.headers.specs.declared.sequence_extension.Mpeg2Sequence.{Mpeg2Sequence}
-use Rattle.headers.specs.declared.sequence_extension.SequenceRead.{SequenceRead}
-
--- what the code answers: its number, and the sequence or none
-abbrev SequenceTold : SequenceRead → Answer Mpeg2Sequence → Type 0
-SequenceTold r a = (sequence_answer r ≡ a) × (r.sequence ≡ or_else no_sequence a)
-
-pub sequence_told_refused : (r : SequenceRead) {a : Answer Mpeg2Sequence} (e : Error) → (sequence_answer r ≡ header_refusal e) × (r.sequence ≡ no_sequence) → a ≡ header_refusal e → SequenceTold r a
-sequence_told_refused r e t q = (t.0 ∙ sym q, rw q t.1)
-
--- a case of the header's answer, by what it tells
-pub header_case : (r : SequenceHeaderRead) {f : Flag} {a : Answer Mpeg2SequenceHeader} → r.answer ≡ f → header_answer r ≡ a → flagged f r.header ≡ a
-header_case r e f = rw (← e) f
 
 -- the ways of from_buf
 module _ (s : List ℕ) where
-  pub sequence-refused : {n p c x : ℕ} → refused n p c x ≡ sequence_header s → sequence s ≡ refused n p c x
+  pub sequence-refused : {n p c x : ℕ} → refused n p c x ≡ sequence_header s → refused n p c x ≡ sequence s
   unfolding sequence
   sequence-refused e = rw (← e)
 
-  module _ (h : Mpeg2SequenceHeader) (e : value h ≡ sequence_header s) where
-    pub header_bounds : HeaderBounds h
-    header_bounds = sequence_header_bounds s h (sym e)
+  module _ (h : Mpeg2SequenceHeader) (e : value h ≡ sequence_header s) (n : ℕ) (b : n ≡ sequence_header_bytes h) where
+    pub sequence_missing : refused 2 0 0 0 ≡ next_start_code s n → refused 2 0 0 0 ≡ sequence s
+    unfolding sequence
+    sequence_missing m = rw (← e, ← b, ← m)
 
-    module _ (n : ℕ) (b : n ≡ sequence_header_bytes h) where
-      pub sequence_missing : refused 2 0 0 0 ≡ next_start_code s n → sequence s ≡ refused 2 0 0 0
+    module _ (p : ℕ) (f : value p ≡ next_start_code s n) where
+      pub extension_refused : {a b d x : ℕ} → refused a b d x ≡ sequence_extension (take (length s - p) (drop p s)) → refused a b d x ≡ sequence s
       unfolding sequence
-      sequence_missing m = rw (← e, ← b, ← m)
+      extension_refused g = rw (← e, ← b, ← f, ← rest_is s p, ← g)
 
-      pub sequence-at : (p : ℕ) → value p ≡ next_start_code s n
-          → sequence s ≡ and_then (sequence_extension (take (length s - p) (drop p s))) (λ x. value (sequence_of h x))
+      pub sequence_parsed : (x : Mpeg2SequenceExtension) → value x ≡ sequence_extension (take (length s - p) (drop p s)) → value (sequence_of h x) ≡ sequence s
       unfolding sequence
-      sequence-at p f = rw (← e, ← b, ← f, rest_is s p)
+      sequence_parsed x g = rw (← e, ← b, ← f, ← rest_is s p, ← g)
 
 -- what a parsed sequence is
 pub record SequenceParts (s : List ℕ) (q : Mpeg2Sequence) : Type 0 where

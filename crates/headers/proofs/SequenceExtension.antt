@@ -9,14 +9,15 @@ use lib.Dec.{eqb}
 use lib.ListN.{get_or}
 use Rattle.bits.specs.Bits.{pick}
 use Rattle.bits.specs.Fields.{Field, read_header, write_header, fits_all, total}
-use Rattle.bits.specs.Refusals.{Answer, value}
-use Rattle.bits.specs.Answers.{places}
+use Rattle.bits.specs.Refusals.{value}
+use Rattle.bits.specs.Answers.{places, in_places, fields_answer}
 use Rattle.bits.specs.StartCodes.{start_code, extension_start_code}
-use Rattle.bits.proofs.Reading.{places-at, ParseOutcome, whole, then_seen, header_seen, header_got, read_range, read_length, header_append, total-none, total-more}
+use Rattle.bits.proofs.Reading.{Read, header_done, places-at, ParseOutcome, whole, then_seen, header_seen, header_got, read_range, read_length, header_append, total-none, total-more}
 use Rattle.bits.proofs.Following.{then_value, then_stays, short_cut}
 use Rattle.bits.proofs.Checking.{Fits, fits_none, fits_more, fits_all_lem}
 use Rattle.bits.proofs.Writing.{header_read_written, header_write_read, read_fits}
-use Rattle.headers.specs.Answers.{flag_of, extension_answer}
+use Rattle.std.specs.Prelude.{Ok}
+use Rattle.headers.specs.Answers.{flag_of}
 use Rattle.headers.specs.SequenceExtension.{sequence_extension_fields, chroma_format, chroma_code, extension_of, sequence_extension, extension_values}
 use Rattle.headers.specs.StreamWriter.{plain_extension}
 use Rattle.headers.specs.RoundTrips.{ExtensionWrittenReads, ExtensionReadWrites, PlainWrittenReads, ExtensionStays, ExtensionCut}
@@ -24,12 +25,16 @@ use Rattle.headers.proofs.Answers.{flag-bound, flag_same, flag-back, spread, spr
 use Rattle.headers.specs.declared.sequence_extension.ChromaFormat.{ChromaFormat}
 use Rattle.headers.specs.declared.sequence_extension.ChromaFormat.TheVariants.{Yuv420, Yuv422, Yuv444}
 use Rattle.headers.specs.declared.sequence_extension.Mpeg2SequenceExtension.{Mpeg2SequenceExtension}
-use Rattle.headers.specs.declared.sequence_extension.SequenceExtensionRead.{SequenceExtensionRead}
 
 -- the zeros after the values do not matter
 pub extension_places : (vs : List ℕ) → extension_of (places vs) ≡ extension_of vs
 unfolding extension_of
 extension_places vs = simp places-at
+
+-- what the code reads
+pub extension_read : (s : List ℕ) {found : List ℕ} → fields_answer (Ok found) ≡ in_places (read_header (start_code extension_start_code) sequence_extension_fields s)
+    → Read sequence_extension_fields (read_header (start_code extension_start_code) sequence_extension_fields s) found
+extension_read s e = header_done (Ok _) (start_code extension_start_code) sequence_extension_fields _ e refl
 
 -- a parsed extension is the one that its values make
 pub extension_got : (s : List ℕ) (e : Mpeg2SequenceExtension) → sequence_extension s ≡ value e
@@ -76,10 +81,6 @@ extension_seen s = then_seen (header_seen (start_code extension_start_code) sequ
 
 pub extension_short_cut : ExtensionCut
 extension_short_cut s t = short_cut (extension_seen s) (extension_append s t)
-
--- a case of the answer, by what it tells
-pub extension_case : {r x : SequenceExtensionRead} {a : Answer Mpeg2SequenceExtension} → r ≡ x → extension_answer r ≡ a → extension_answer x ≡ a
-extension_case e f = rw (← e) f
 
 -- chroma formats and their codes
 chroma_same : (c : ChromaFormat) → chroma_format (chroma_code c) ≡ c

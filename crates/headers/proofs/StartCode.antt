@@ -11,14 +11,12 @@ use lib.ListN.{length, get_or, take, drop, length-drop, drop_of_length-le}
 use lib.Seq.{drop-cons, drop-append-le, take-append-le}
 use borrow.Author.Tests.{eqb-true, eqb-false}
 use Rattle.bits.specs.Bits.{pick}
-use Rattle.bits.specs.Refusals.{Answer, value, refused}
+use Rattle.bits.specs.Refusals.{value, refused}
 use Rattle.bits.specs.Fields.{same_bytes}
 use Rattle.bits.specs.StartCodes.{start_code_prefix}
-use Rattle.bits.proofs.Flags.{pick_elim, clash}
-use Rattle.bits.proofs.Reading.{ParseOutcome, broken, whole, same_bytes_lem, same_self, rest_is}
+use Rattle.bits.proofs.Flags.{clash}
+use Rattle.bits.proofs.Reading.{same_bytes_lem, same_self}
 use Rattle.headers.specs.StartCode.{leading_zeros, prefix_at, next_start_code}
-use Rattle.headers.specs.Answers.{next_answer}
-use Rattle.headers.specs.declared.NextStartCode.{NextStartCode}
 
 -- the first byte from byte k on that is not zero: k itself past the end or where it is not zero, else the first from k + 1 on
 module _ (s : List ℕ) (k : ℕ) where
@@ -51,13 +49,10 @@ zeros_append [] t h = omega arith
 zeros_append (zero ∷ s) t h = ap suc (zeros_append s t (omega arith))
 zeros_append (suc b ∷ s) t h = refl
 
--- the prefix, in the list and in the slice from its byte on
+-- the prefix
 pub prefix_is : (s : List ℕ) (p : ℕ) → prefix_at s p ≡ same_bytes (take 3 (drop p s)) start_code_prefix
 unfolding prefix_at
 prefix_is s p = refl
-
-pub prefix_rest : (s : List ℕ) (p : ℕ) → same_bytes (take 3 (take (length s - p) (drop p s))) start_code_prefix ≡ prefix_at s p
-prefix_rest s p = rw (rest_is s p, prefix_is s p)
 
 pub record Prefix (s : List ℕ) (p : ℕ) : Type 0 where
   pub room : p + 3 ≤ length s
@@ -74,13 +69,6 @@ prefix_true s p e =
     long (a ∷ []) q l = absurd (clash cc)
     long (a ∷ b ∷ []) q l = absurd (clash cc)
     long (a ∷ b ∷ c ∷ d) q l = omega arith
-
-pub prefix_none : (s : List ℕ) (p : ℕ) → length s < p + 3 → prefix_at s p ≡ false
-prefix_none s p h = case (prefix_at s p) refl
-  where
-    case : (b : Bool) → prefix_at s p ≡ b → prefix_at s p ≡ false
-    case true e = absurd (omega (arith, (prefix_true s p e).room))
-    case false e = e
 
 -- a prefix at byte 0 has two zeros to pass over, so that none ends before byte 2
 first_zeros : (s : List ℕ) (k : ℕ) → take 3 s ≡ start_code_prefix → 2 ≤ k + leading_zeros (drop k s)
@@ -132,15 +120,6 @@ next_here s k e =
         let y : b ≡ 0 = cc in
         let z : c ≡ 1 = cc in
         rw (x, y, z)
-
--- it is there, or missing (2)
-pub next_seen_lem : (s : List ℕ) (k : ℕ) → ParseOutcome (next_start_code s k)
-unfolding next_start_code
-next_seen_lem s k = pick_elim ParseOutcome (not (prefix_at s (k + leading_zeros (drop k s) - 2))) (λ e. broken) (λ e. whole _)
-
--- a case of the answer, by what it tells
-pub next_case : {r x : NextStartCode} {a : Answer ℕ} → r ≡ x → next_answer r ≡ a → next_answer x ≡ a
-next_case e f = rw (← e) f
 
 -- what a prefix that was found says: it stands there, and ends with the first byte that is not zero
 pub record Found (s : List ℕ) (k p : ℕ) : Type 0 where

@@ -7,7 +7,7 @@ use Prim.Native.Nat.{ℕ, zero, suc, ◌+◌, ◌*◌, ◌/◌, ◌≤◌, ◌<�
 use native.Mathlib.Omega.{arith}
 use lib.Dec.{lit<}
 use lib.ListN.{length}
-use Rattle.bits.specs.Bits.{pick, digits, bit_list, append_bits}
+use Rattle.bits.specs.Bits.{digits, bit_list, append_bits}
 use Rattle.bits.specs.Fields.{any_value, field_bits, write_header, fits_all, total}
 use Rattle.bits.specs.Answers.{over, wrote_bits, write_answer, write_result}
 use Rattle.bits.specs.StartCodes.{start_code, sequence_header_code}
@@ -18,68 +18,54 @@ use Rattle.bits.proofs.Checking.{Fits, fits_none, fits_more, fits_all_lem, fits-
 use Rattle.bits.proofs.Putting.{total-append, field_bits-bytes, wrote_there}
 use Rattle.bits.proofs.Writing.{write_unfit, write_full}
 use Rattle.bits.proofs.Joining.{field_bits-more, field_bits-none, fits-append, fits-bytes, write_on, write_over}
-use Rattle.headers.specs.Answers.{written_answer, flag_of}
-use Rattle.headers.specs.QuantMatrix.{matrix_bytes, matrix_fields, matrix_values}
+use Rattle.headers.specs.Answers.{header_answer, flag_of}
+use Rattle.headers.specs.QuantMatrix.{load_flag, matrix_bytes, matrix_fields, matrix_values}
 use Rattle.headers.specs.SequenceHeader.{sequence_header_fields}
 use Rattle.headers.specs.SequenceExtension.{extension_values, chroma_code}
 use Rattle.headers.specs.StreamWriter.{params_fields, base_values, params_values, profile_and_level, plain_extension}
 use Rattle.headers.specs.declared.sequence_extension.ChromaFormat.{ChromaFormat}
+use Rattle.std.specs.Prelude.{Option, Some, None, Result, Ok, Err, IfSome}
+use Rattle.headers.specs.declared.Error.{Error}
 use Rattle.headers.specs.declared.Error.TheVariants.{FieldToWrite, ShortOutput}
-use Rattle.headers.specs.declared.Written.{Written}
-use Rattle.headers.specs.declared.Written.TheVariants.{Bytes, Refused}
-use Rattle.headers.specs.declared.quant_matrix_extension.QuantiserMatrix.{QuantiserMatrix}
 use Rattle.headers.specs.declared.stream_writer.SequenceHeaderParams.{SequenceHeaderParams}
-use Rattle.headers.proofs.Answers.{flag-bound}
 use Rattle.headers.proofs.QuantMatrix.{matrix_count, matrix_total}
 
--- the 64 bytes, where a flag is set
-loaded_bits : (b : Bool) (s : List ℕ) → length s ≡ 64 → field_bits (matrix_bytes (flag_of b)) (pick b s []) ≡ pick b (bit_list s) []
-unfolding matrix_bytes pick
-loaded_bits true s l = field_bits-bytes 64 s l
-loaded_bits false s l = field_bits-none []
-
-loaded-fits : (b : Bool) (s : List ℕ) → length s ≡ 64 → Below 256 s → Fits (matrix_bytes (flag_of b)) (pick b s [])
-unfolding matrix_bytes pick
-loaded-fits true s l h = fits-bytes 64 s l h
-loaded-fits false s l h = fits_none
-
 -- a matrix with its flag
-pub matrix_most : (m : QuantiserMatrix) → total (matrix_fields m) ≤ 513
-matrix_most m = omega (arith, matrix_total m, flag-bound m.load)
+pub matrix_most : (m : Option (List ℕ)) → total (matrix_fields m) ≤ 513
+matrix_most (Some bytes) = omega (arith, matrix_total (Some bytes))
+matrix_most None = omega (arith, matrix_total None)
 
-pub matrix_loaded : (m : QuantiserMatrix) → m.load ≡ true → total (matrix_fields m) ≡ 513
-matrix_loaded m n = matrix_total m ∙ rw n
+-- a matrix as the code holds it
+abbrev pub Held : Option (List ℕ) → Type 0
+Held m = IfSome m (λ bytes. (length bytes ≡ 64) × Below 256 bytes)
 
-module _ (m : QuantiserMatrix) (l : length m.bytes ≡ 64) where
-  pub matrix_bits : field_bits (matrix_fields m) (matrix_values m) ≡ digits 1 (flag_of m.load) ++ pick m.load (bit_list m.bytes) []
+pub matrix_fits : (m : Option (List ℕ)) → Held m → Fits (matrix_fields m) (matrix_values m)
+unfolding matrix_fields matrix_values matrix_bytes
+matrix_fits (Some bytes) h = fits_more {f = any_value 1} {v = 1} (omega arith) (omega arith) zero-le (omega arith) (fits-bytes 64 bytes h.0 h.1)
+matrix_fits None h = fits_more {f = any_value 1} {v = 0} (omega arith) (omega arith) zero-le (omega arith) fits_none
+
+-- the ways of `append_matrix`
+module _ (s : List ℕ) (i : ℕ) {o : List ℕ} where
+  flagged : (v : ℕ) → i + 1 ≤ 8 * length s → o ≡ wrote_bits s i 1 v → o ≡ append_bits s i (digits 1 v)
+  flagged v h e = e ∙ wrote_there s i 1 v (there_is s i 1 (omega arith) (omega arith))
+
+  pub appended_flag : i + total (matrix_fields None) ≤ 8 * length s → o ≡ wrote_bits s i 1 0
+      → (i + 1 ≡ i + total (matrix_fields None)) × (o ≡ append_bits s i (field_bits (matrix_fields None) (matrix_values None)))
   unfolding matrix_fields matrix_values
-  matrix_bits = field_bits-more (any_value 1) _ _ _ ∙ rw (loaded_bits m.load m.bytes l)
+  appended_flag h e =
+      let t = matrix_total None in
+      (omega arith, flagged 0 (omega arith) e ∙ rw (field_bits-more (any_value 1) [] 0 [], field_bits-none [], append-nil))
 
-  pub matrix_fits : Below 256 m.bytes → Fits (matrix_fields m) (matrix_values m)
-  unfolding matrix_fields matrix_values
-  matrix_fits h =
-      let b = flag-bound m.load in
-      fits_more {f = any_value 1} {v = flag_of m.load} (omega arith) (omega arith) zero-le (omega arith)
-      (loaded-fits m.load m.bytes l h)
-
-  -- the ways of `append_matrix`
-  module _ (s : List ℕ) (i : ℕ) {o : List ℕ} {f : ℕ} (h : i + total (matrix_fields m) ≤ 8 * length s) (v : f ≡ flag_of m.load) (e : o ≡ wrote_bits s i 1 f) where
-    flagged : o ≡ append_bits s i (digits 1 (flag_of m.load))
-    flagged = e ∙ rw v (wrote_there s i 1 (flag_of m.load) (there_is s i 1 (omega arith) (omega (arith, matrix_total m))))
-
-    pub appended_flag : m.load ≡ false
-        → (i + 1 ≡ i + total (matrix_fields m)) × (o ≡ append_bits s i (field_bits (matrix_fields m) (matrix_values m)))
-    unfolding pick
-    appended_flag n = (rw (matrix_total m, n), flagged ∙ rw (matrix_bits, n, append-nil))
-
-    pub appended_bytes : {q : List ℕ} → m.load ≡ true → q ≡ append_bits o (i + 1) (bit_list m.bytes)
-        → (i + 513 ≡ i + total (matrix_fields m)) × (q ≡ append_bits s i (field_bits (matrix_fields m) (matrix_values m)))
-    unfolding pick
-    appended_bytes n p =
-        let d : length (digits 1 1) ≡ 1 = length_digits 1 1 in
-        let b : length (bit_list m.bytes) ≡ 512 = bit_list-length m.bytes ∙ rw l in
-        let a = append-append s i (digits 1 1) (bit_list m.bytes) (digit_bound 1 1) (omega (arith, matrix_loaded m n)) in
-        (rw (matrix_loaded m n), p ∙ rw (flagged, matrix_bits, n) (rw d at (a)))
+  pub appended_bytes : {q : List ℕ} (bytes : List ℕ) → length bytes ≡ 64 → i + total (matrix_fields (Some bytes)) ≤ 8 * length s → o ≡ wrote_bits s i 1 1
+      → q ≡ append_bits o (i + 1) (bit_list bytes)
+      → (i + 513 ≡ i + total (matrix_fields (Some bytes))) × (q ≡ append_bits s i (field_bits (matrix_fields (Some bytes)) (matrix_values (Some bytes))))
+  unfolding matrix_fields matrix_values matrix_bytes
+  appended_bytes bytes l h e p =
+      let t = matrix_total (Some bytes) in
+      let d : length (digits 1 1) ≡ 1 = length_digits 1 1 in
+      let b : length (bit_list bytes) ≡ 512 = bit_list-length bytes ∙ rw l in
+      let a = append-append s i (digits 1 1) (bit_list bytes) (digit_bound 1 1) (omega arith) in
+      (omega arith, p ∙ rw (flagged 1 (omega arith) e, field_bits-more (any_value 1) matrix_bytes 1 bytes, field_bits-bytes 64 bytes l) (rw d at (a)))
 
 pub total_fixed : total sequence_header_fields ≡ 62
 total_fixed = simp (total-more, total-none)
@@ -91,10 +77,10 @@ code_small (suc (suc zero)) = lit< tt
 code_small (suc (suc (suc zero))) = lit< tt
 code_small (suc (suc (suc (suc k)))) = lit< tt
 
-abbrev intra : SequenceHeaderParams → QuantiserMatrix
+abbrev intra : SequenceHeaderParams → Option (List ℕ)
 intra p = p.intra_quantiser_matrix
 
-abbrev non_intra : SequenceHeaderParams → QuantiserMatrix
+abbrev non_intra : SequenceHeaderParams → Option (List ℕ)
 non_intra p = p.non_intra_quantiser_matrix
 
 pub params-total : (p : SequenceHeaderParams) → total (params_fields p) ≡ 62 + total (matrix_fields (intra p)) + total (matrix_fields (non_intra p))
@@ -109,7 +95,7 @@ params-total p =
 
 -- the fixed fields, gone on with at bit 94
 pub params-laid : (p : SequenceHeaderParams) (out : List ℕ) {m q r : List ℕ}
-    → length (intra p).bytes ≡ 64 → length (non_intra p).bytes ≡ 64 → fits_all sequence_header_fields (base_values p) ≡ true
+    → IfSome (intra p) (λ bytes. length bytes ≡ 64) → IfSome (non_intra p) (λ bytes. length bytes ≡ 64) → fits_all sequence_header_fields (base_values p) ≡ true
     → 32 + total (params_fields p) ≤ 8 * length out
     → m ≡ write_result (start_code sequence_header_code) sequence_header_fields (base_values p) out
     → q ≡ append_bits m 94 (field_bits (matrix_fields (intra p)) (matrix_values (intra p)))
@@ -132,28 +118,23 @@ params-laid p out {q = q} a b f h x y z =
     (write_on (start_code sequence_header_code) (fs ++ i) (vs ++ v) out _ (matrix_values (non_intra p)) code_small refl (omega arith) (matrix_count (non_intra p) b) (omega arith))
 
 -- what `write_sequence_header` promises of its answer and of the bytes that it leaves
-abbrev HeaderPromised : SequenceHeaderParams → List ℕ → Written → List ℕ → Type 0
+abbrev HeaderPromised : SequenceHeaderParams → List ℕ → Result ℕ Error → List ℕ → Type 0
 HeaderPromised p out r o =
-    (written_answer r ≡ write_answer (start_code sequence_header_code) (params_fields p) (params_values p) out)
+    (header_answer r ≡ write_answer (start_code sequence_header_code) (params_fields p) (params_values p) out)
     × (o ≡ write_result (start_code sequence_header_code) (params_fields p) (params_values p) out)
 
 pub params-unfit : (p : SequenceHeaderParams) (out : List ℕ) → fits_all sequence_header_fields (base_values p) ≡ false
-    → HeaderPromised p out (Refused FieldToWrite) out
+    → HeaderPromised p out (Err FieldToWrite) out
 unfolding params_fields params_values base_values
 params-unfit p out f =
     write_unfit (start_code sequence_header_code) (params_fields p) (params_values p) out (fits-append sequence_header_fields _ (base_values p) _ refl ∙ rw f)
-
--- a matrix as the code holds it
-pub record Held (m : QuantiserMatrix) : Type 0 where
-  pub long : length m.bytes ≡ 64
-  pub small : Below 256 m.bytes
 
 -- a header that fits, of k bytes
 pub record Sized (p : SequenceHeaderParams) (k : ℕ) : Type 0 where
   pub intra_held : Held (intra p)
   pub non_intra_held : Held (non_intra p)
   pub fit : fits_all sequence_header_fields (base_values p) ≡ true
-  pub count : k ≡ 12 + 64 * flag_of (intra p).load + 64 * flag_of (non_intra p).load
+  pub count : k ≡ 12 + 64 * load_flag (intra p) + 64 * load_flag (non_intra p)
 
 pub params-bytes : {p : SequenceHeaderParams} {k : ℕ} → Sized p k → k ≡ 4 + (total (params_fields p) + 7) / 8
 params-bytes {p} d = omega (arith, d.count, params-total p, matrix_total (intra p), matrix_total (non_intra p))
@@ -162,17 +143,17 @@ module _ {p : SequenceHeaderParams} {k : ℕ} (d : Sized p k) (out : List ℕ) w
   params_fit : fits_all (params_fields p) (params_values p) ≡ true
   unfolding params_fields params_values base_values
   params_fit =
-      let i = matrix_fits (intra p) d.intra_held.long d.intra_held.small in
-      let n = matrix_fits (non_intra p) d.non_intra_held.long d.non_intra_held.small in
+      let i = matrix_fits (intra p) d.intra_held in
+      let n = matrix_fits (non_intra p) d.non_intra_held in
       fits-append sequence_header_fields _ (base_values p) _ refl
       ∙ rw (d.fit, fits-append (matrix_fields (intra p)) _ (matrix_values (intra p)) _ (fits-length i)) (rw (fits_all_lem i, fits_all_lem n))
 
-  pub params-full : length out < k → HeaderPromised p out (Refused ShortOutput) out
+  pub params-full : length out < k → HeaderPromised p out (Err ShortOutput) out
   params-full h =
       write_full (start_code sequence_header_code) (params_fields p) (params_values p) out refl params_fit (omega (arith, params-bytes d))
 
   pub params-written : {r : List ℕ} → k ≤ length out → r ≡ over (write_header (start_code sequence_header_code) (params_fields p) (params_values p)) out
-      → HeaderPromised p out (Bytes k) r
+      → HeaderPromised p out (Ok k) r
   params-written h x =
       write_over (start_code sequence_header_code) (params_fields p) (params_values p) out refl params_fit (params-bytes d) h x
 

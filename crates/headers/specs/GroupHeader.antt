@@ -1,14 +1,10 @@
 -- group_of_pictures_header() (ISO/IEC 13818-2 6.2.2.6, 6.3.8; 11172-2 2.4.2.4): its fields in stream order, and the time code of a display index.
 -- Assumes nothing.
-use Rattle.std.specs.Prelude.{ℕ, ◌/◌, ◌%◌, List, [], ◌∷◌, false, not, ◌&&◌, leb, get_or}
+use Rattle.std.specs.Prelude.{ℕ, ◌/◌, ◌%◌, List, [], ◌∷◌, false, not, ◌&&◌, leb, get_or, Option, Some, None}
 use Rattle.bits.specs.Refusals.{Answer, value, refused, refuse, and_then}
 use Rattle.bits.specs.Fields.{Field, any_value, exactly}
 use Rattle.headers.specs.Answers.{flag_of}
 use Rattle.headers.specs.declared.gop_header.TimeCode.{TimeCode}
-use Rattle.headers.specs.declared.gop_header.TimeCodeAnswer.{TimeCodeAnswer}
-use Rattle.headers.specs.declared.gop_header.TimeCodeAnswer.TheVariants.{Code, Refused as NoCode}
-use Rattle.headers.specs.declared.gop_header.NominalRate.{NominalRate}
-use Rattle.headers.specs.declared.gop_header.NominalRate.TheVariants.{PicturesPerSecond, Refused}
 use Rattle.headers.specs.declared.gop_header.Mpeg2Gop.{Mpeg2Gop}
 
 -- Table 6-11; the writer holds its values to their widths alone (docs/DIFFERENCES.md)
@@ -57,10 +53,6 @@ unfoldable pub time_code_at : ℕ → ℕ → Answer TimeCode
 time_code_at n c = and_then (nominal_rate c) (λ p. value (time_code n p))
 
 -- the number and the value of each case
-abbrev pub nominal_answer : NominalRate → Answer ℕ
-nominal_answer (PicturesPerSecond p) = value p
-nominal_answer Refused = refused 6 0 0 0
-
-abbrev pub time_code_answer : TimeCodeAnswer → Answer TimeCode
-time_code_answer (Code t) = value t
-time_code_answer NoCode = refused 6 0 0 0
+abbrev pub rate_code_answer : {X : Type 0} → Option X → Answer X
+rate_code_answer (Some x) = value x
+rate_code_answer None = refused 6 0 0 0

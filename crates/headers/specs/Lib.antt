@@ -1,7 +1,6 @@
 pub mod Answers
 pub mod StartCode
 pub mod QuantMatrix
-pub mod Steps
 pub mod SequenceHeader
 pub mod SequenceExtension
 pub mod Sequence

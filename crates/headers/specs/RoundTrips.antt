@@ -1,6 +1,6 @@
 -- The round trips of paper 01 ('Headers read and written'), as statements: what is owed of the sequence header and of its extension; and that bytes after them do not matter.
 -- Assumes nothing.
-use Rattle.std.specs.Prelude.{ℕ, ◌<◌, ◌≡◌, List, ◌++◌, Bool, true, false, length, get_or, take}
+use Rattle.std.specs.Prelude.{ℕ, ◌<◌, ◌≡◌, List, ◌++◌, Bool, true, false, length, get_or, take, IfSome}
 use Rattle.bits.specs.Refusals.{value, refused}
 use Rattle.bits.specs.Fields.{fits_all, write_header}
 use Rattle.bits.specs.StartCodes.{start_code, sequence_header_code, extension_start_code}
@@ -25,11 +25,11 @@ sequence_written p = write_header (start_code sequence_header_code) (params_fiel
 abbrev pub extension_written : Mpeg2SequenceExtension → List ℕ
 extension_written e = write_header (start_code extension_start_code) sequence_extension_fields (extension_values e)
 
--- what is not refused with 16: every field fits; a matrix always has its 64 places
+-- what is not refused with 16: every field fits; a matrix has 64 places
 pub record Writable (p : SequenceHeaderParams) : Type 0 where
   pub fields_fit : fits_all (params_fields p) (params_values p) ≡ true
-  pub intra_places : length p.intra_quantiser_matrix.bytes ≡ 64
-  pub non_intra_places : length p.non_intra_quantiser_matrix.bytes ≡ 64
+  pub intra_places : IfSome p.intra_quantiser_matrix (λ bytes. length bytes ≡ 64)
+  pub non_intra_places : IfSome p.non_intra_quantiser_matrix (λ bytes. length bytes ≡ 64)
 
 -- a written sequence header parses to the fields given, whatever stands after it
 abbrev pub WrittenReads : Type 0

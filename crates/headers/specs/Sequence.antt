@@ -1,12 +1,11 @@
 -- A sequence header and the sequence extension after it (ISO/IEC 13818-2 6.2.2), with the sizes, the rate and the buffer that the two make (6.3.3, 6.3.5).
 -- Assumes nothing.
-use Rattle.std.specs.Prelude.{ℕ, ◌+◌, ◌*◌, List, false, drop}
+use Rattle.std.specs.Prelude.{ℕ, ◌+◌, ◌*◌, List, drop}
 use Rattle.bits.specs.Refusals.{Answer, value, and_then}
 use Rattle.headers.specs.StartCode.{next_start_code}
-use Rattle.headers.specs.SequenceHeader.{sequence_header, sequence_header_bytes, no_header}
+use Rattle.headers.specs.SequenceHeader.{sequence_header, sequence_header_bytes}
 use Rattle.headers.specs.SequenceExtension.{sequence_extension}
 use Rattle.headers.specs.declared.sequence_header.Mpeg2SequenceHeader.{Mpeg2SequenceHeader}
-use Rattle.headers.specs.declared.sequence_extension.ChromaFormat.TheVariants.{Yuv420}
 use Rattle.headers.specs.declared.sequence_extension.Mpeg2SequenceExtension.{Mpeg2SequenceExtension}
 use Rattle.headers.specs.declared.sequence_extension.Mpeg2Sequence.{Mpeg2Sequence}
 
@@ -28,21 +27,3 @@ sequence s =
     and_then (next_start_code s (sequence_header_bytes h)) (λ place.
     and_then (sequence_extension (drop place s)) (λ extension.
     value (sequence_of h extension))))
-
--- what stands beside a refusal
-unfoldable pub no_extension : Mpeg2SequenceExtension
-no_extension = record {
-  profile_and_level = 0;
-  progressive_sequence = false;
-  chroma_format = Yuv420;
-  horizontal_size_extension = 0;
-  vertical_size_extension = 0;
-  bit_rate_extension = 0;
-  vbv_buffer_size_extension = 0;
-  low_delay = false;
-  frame_rate_extension_n = 0;
-  frame_rate_extension_d = 0;
-}
-
-abbrev pub no_sequence : Mpeg2Sequence
-no_sequence = sequence_of no_header no_extension

@@ -2,7 +2,7 @@
 -- Assumes nothing.
 use Rattle.std.specs.Prelude.{ℕ, List, [], ◌∷◌, ◌++◌, Bool, false}
 use Rattle.bits.specs.Fields.{Field}
-use Rattle.headers.specs.QuantMatrix.{matrix_fields, matrix_values, as_read}
+use Rattle.headers.specs.QuantMatrix.{matrix_fields, matrix_values}
 use Rattle.headers.specs.SequenceHeader.{sequence_header_fields, aspect_ratio}
 use Rattle.headers.specs.declared.sequence_header.AspectRatio.{AspectRatio}
 use Rattle.headers.specs.declared.sequence_header.AspectRatio.TheVariants.{Square, Dar3x4, Dar9x16, Dar1x221, Reserved}
@@ -41,8 +41,8 @@ header_of_params p = record {
   bit_rate = p.bit_rate_value;
   vbv_buffer_size = p.vbv_buffer_size_value;
   constrained_parameters = false;
-  intra_quant = as_read p.intra_quantiser_matrix;
-  non_intra_quant = as_read p.non_intra_quantiser_matrix;
+  intra_quant = p.intra_quantiser_matrix;
+  non_intra_quant = p.non_intra_quantiser_matrix;
 }
 
 -- Table 6-3, and the other way: what writes a header again

@@ -1,6 +1,6 @@
 // group_of_pictures_header() (ISO/IEC 13818-2 6.2.2.6, 11172-2 2.4.2.4): what it holds, and the time code; the crate `writers` writes it.
 ghost use Rattle.std.specs.Prelude.{◌≡◌};
-ghost use Rattle.headers.specs.GroupHeader.{nominal_rate, nominal_answer, time_code_at, time_code_answer};
+ghost use Rattle.headers.specs.GroupHeader.{nominal_rate, time_code_at, rate_code_answer};
 
 // drop_frame_flag, time_code_hours, time_code_minutes, marker_bit, time_code_seconds, time_code_pictures, closed_gop,
 // broken_link
@@ -17,19 +17,6 @@ pub struct TimeCode {
     pub pictures: u8,
 }
 
-// Refused is a frame rate code other than 1 to 8 (6), in both.
-#[derive(Drop)]
-pub enum TimeCodeAnswer {
-    Code(TimeCode),
-    Refused,
-}
-
-#[derive(Drop)]
-pub enum NominalRate {
-    PicturesPerSecond(u8),
-    Refused,
-}
-
 #[derive(Drop)]
 pub struct Mpeg2Gop {
     pub time_code: TimeCode,
@@ -40,43 +27,31 @@ pub struct Mpeg2Gop {
 // Table 6-4, rounded to whole pictures a second.
 const NOMINAL_RATES: [u8; 9] = [0, 24, 24, 25, 30, 30, 50, 60, 60];
 
-// The pictures that a second counts without dropped numbers (6.3.8).
-pub fn nominal_pictures_per_second(picture_rate_code: u8) -> NominalRate
-    ensures { nominal_answer result ≡ nominal_rate picture_rate_code }
+// The pictures that a second counts without dropped numbers (6.3.8); None at a frame rate code other than 1 to 8 (6).
+#[tactic(auto, unfolding(crate::specs::GroupHeader::nominal_rate, bits::specs::Bits::pick))]
+pub fn nominal_pictures_per_second(picture_rate_code: u8) -> Option<u8>
+    ensures { rate_code_answer result ≡ nominal_rate picture_rate_code }
 {
-    if picture_rate_code == 0 {
-        return NominalRate::Refused;
+    match picture_rate_code {
+        1..=8 => Some(NOMINAL_RATES[picture_rate_code as usize]),
+        _ => None,
     }
-    if 8 < picture_rate_code {
-        return NominalRate::Refused;
-    }
-    NominalRate::PicturesPerSecond(NOMINAL_RATES[picture_rate_code as usize])
 }
 
 impl TimeCode {
-    // The time code of a picture by its index in display order.
-    pub fn from_display_index(display_index: u64, picture_rate_code: u8) -> TimeCodeAnswer
-        ensures { time_code_answer result ≡ time_code_at display_index picture_rate_code }
+    // The time code of a picture by its index in display order; None at a frame rate code other than 1 to 8 (6).
+    pub fn from_display_index(display_index: u64, picture_rate_code: u8) -> Option<TimeCode>
+        ensures { rate_code_answer result ≡ time_code_at display_index picture_rate_code }
     {
-        let rate = nominal_pictures_per_second(picture_rate_code);
-        match rate {
-            NominalRate::Refused => TimeCodeAnswer::Refused,
-            NominalRate::PicturesPerSecond(p) => {
-                let fps = p as u64;
-                let total_seconds = display_index / fps;
-                let total_minutes = total_seconds / 60;
-                let hours = (total_minutes / 60 % 24) as u8;
-                let minutes = (total_minutes % 60) as u8;
-                let seconds = (total_seconds % 60) as u8;
-                let pictures = (display_index % fps) as u8;
-                TimeCodeAnswer::Code(TimeCode {
-                    drop_frame: false,
-                    hours,
-                    minutes,
-                    seconds,
-                    pictures,
-                })
-            }
-        }
+        let fps = nominal_pictures_per_second(picture_rate_code)? as u64;
+        let total_seconds = display_index / fps;
+        let total_minutes = total_seconds / 60;
+        Some(TimeCode {
+            drop_frame: false,
+            hours: (total_minutes / 60 % 24) as u8,
+            minutes: (total_minutes % 60) as u8,
+            seconds: (total_seconds % 60) as u8,
+            pictures: (display_index % fps) as u8,
+        })
     }
 }

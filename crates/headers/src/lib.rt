@@ -2,8 +2,8 @@
 // headers share; the crate `picture_header` reads those of pictures, `writers` writes.
 #![tactic(auto)]
 
-ghost use Rattle.std.specs.Prelude.{◌≡◌, ◌+◌, ◌*◌, ◌≤◌, drop};
-ghost use Rattle.headers.specs.Answers.{error_number, next_answer, flag_of};
+ghost use Rattle.std.specs.Prelude.{◌≡◌, ◌+◌, drop};
+ghost use Rattle.headers.specs.Answers.{error_number, fields_error, write_error, next_answer};
 ghost use Rattle.headers.specs.StartCode.{leading_zeros, prefix_at, next_start_code};
 
 pub mod gop_header; // group_of_pictures_header(), and the time code
@@ -13,9 +13,10 @@ pub mod sequence_header; // sequence_header()
 pub mod stream_writer; // what the writer of a sequence header is given
 
 use bits::start_codes::START_CODE_PREFIX;
+use bits::{FieldsError, WriteError};
 
 // Why a header is refused, or not written.
-#[derive(Clone, Copy)]
+#[derive(Clone, Copy, PartialEq, Eq)]
 pub enum Error {
     // The bytes end inside the header.
     ShortHeader,
@@ -28,7 +29,7 @@ pub enum Error {
 }
 
 impl Error {
-    // The refusal's number (docs/REFUSALS.md).
+    // The refusal's number (docs/REFUSALS.md), which C is given; `u8::from` would not say what the number is.
     pub fn number(self) -> u8
         ensures { result ≡ error_number self }
     {
@@ -41,24 +42,33 @@ impl Error {
     }
 }
 
-// What a writer answers: how many bytes it wrote.
-#[derive(Drop)]
-pub enum Written {
-    Bytes(usize),
-    Refused(Error),
+impl From<FieldsError> for Error {
+    ghost from_gives = { λ e r. r ≡ fields_error e };
+
+    fn from(e: FieldsError) -> Error {
+        match e {
+            FieldsError::Short => Error::ShortHeader,
+            FieldsError::Bad => Error::InvalidBitstream,
+        }
+    }
 }
 
-// Where the next start code prefix is, from a byte on.
-#[derive(Drop)]
-pub enum NextStartCode {
-    At(usize),
-    Missing,
+impl From<WriteError> for Error {
+    ghost from_gives = { λ e r. r ≡ write_error e };
+
+    fn from(e: WriteError) -> Error {
+        match e {
+            WriteError::Unfit => Error::FieldToWrite,
+            WriteError::Full => Error::ShortOutput,
+        }
+    }
 }
 
 // The byte after the zero bytes from `from` on.
 fn past_zeros(buf: &[u8], from: usize) -> usize
     ensures { result ≡ from + leading_zeros (drop from buf.now) }
 {
+    // As a chain of iterators (`skip`, `take_while`, `count`; `position`) it was tried, and the proof did not close.
     let mut at = from;
     while at < buf.len() && buf[at] == 0 {
         at += 1;
@@ -67,36 +77,21 @@ fn past_zeros(buf: &[u8], from: usize) -> usize
 }
 
 // Whether 00 00 01 stands at a byte.
+#[tactic(auto, unfolding(crate::specs::StartCode::prefix_at))]
 pub fn prefix_at(buf: &[u8], at: usize) -> bool
     ensures { result ≡ prefix_at buf.now at }
 {
-    if buf.len() < at {
-        return false;
-    }
-    bits::starts_with(&buf[at..], &START_CODE_PREFIX)
+    bits::bytes_at(buf, at, &START_CODE_PREFIX)
 }
 
 // next_start_code() (5.2.3): zero bytes are passed over; the byte after them must be 01, with two zero bytes before it,
 // which may lie before `from`. Most often it stands at `from`.
-pub fn next_start_code(buf: &[u8], from: usize) -> NextStartCode
+pub fn next_start_code(buf: &[u8], from: usize) -> Option<usize>
     ensures { next_answer result ≡ next_start_code buf.now from }
 {
     if prefix_at(buf, from) {
-        return NextStartCode::At(from);
+        return Some(from);
     }
-    let end = past_zeros(buf, from);
-    if end < 2 {
-        return NextStartCode::Missing;
-    }
-    if prefix_at(buf, end - 2) {
-        return NextStartCode::At(end - 2);
-    }
-    NextStartCode::Missing
-}
-
-// The bytes of a matrix in a header.
-fn matrix_bytes(load: bool) -> usize
-    ensures { (result ≡ 64 * flag_of load) × (result ≤ 64) }
-{
-    if load { 64 } else { 0 }
+    let at = past_zeros(buf, from).checked_sub(2)?;
+    if prefix_at(buf, at) { Some(at) } else { None }
 }

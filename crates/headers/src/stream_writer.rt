@@ -1,5 +1,4 @@
 // What the writer of sequence_header() (6.2.2.1) is given.
-use crate::quant_matrix_extension::QuantiserMatrix;
 
 #[derive(Clone, Copy)]
 pub struct SequenceHeaderParams {
@@ -9,6 +8,7 @@ pub struct SequenceHeaderParams {
     pub frame_rate_code: u8,
     pub bit_rate_value: u32,
     pub vbv_buffer_size_value: u16,
-    pub intra_quantiser_matrix: QuantiserMatrix,
-    pub non_intra_quantiser_matrix: QuantiserMatrix,
+    // The matrices to load, in zigzag order.
+    pub intra_quantiser_matrix: Option<[u8; 64]>,
+    pub non_intra_quantiser_matrix: Option<[u8; 64]>,
 }

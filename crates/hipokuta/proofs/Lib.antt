@@ -1,4 +1,3 @@
-pub mod Patching
 pub mod Checking
 pub mod Reporting
 pub mod Places

@@ -14,7 +14,7 @@ use Rattle.headers.specs.RoundTrips.{Bytes}
 use Rattle.rate_control.specs.Answers.{Given}
 use Rattle.rate_control.specs.Offer.{Offer, offer, left, out_after, withdraw}
 use Rattle.rate_control.specs.declared.CbrWriter.{CbrWriter}
-use Rattle.rate_control.specs.declared.Pending.TheVariants.{Nothing}
+use Rattle.std.specs.Prelude.{None}
 use Rattle.rate_control.proofs.Placing.{room-enough}
 use Rattle.rate_control.proofs.Keeping.{refused_keeps, refused-closes, refused-out, withdraw_unpending}
 use Rattle.rate_control.proofs.States.{withdraw-answer}
@@ -99,7 +99,7 @@ module _ (s : List ℕ) (o : COffer) (b : Bytes s) where
       go (value g) e h = absurd (omega arith)
       go (refused n k c x) e h = refused-out w p e
 
-  withdrawal_kept : w.pending ≡ Nothing → state_after (withdraw_in s) s ≡ s
+  withdrawal_kept : w.pending ≡ None → state_after (withdraw_in s) s ≡ s
   unfolding withdraw_in state_after pick
   withdrawal_kept n = go (state_fits s) refl
     where

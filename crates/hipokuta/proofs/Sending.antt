@@ -10,51 +10,45 @@ use lib.ListN.{length}
 use borrow.Author.Tests.{lt-ltb, le-ltb}
 use Rattle.bits.specs.Bits.{pick}
 use Rattle.bits.specs.Refusals.{value, refused, number}
-use Rattle.vbv.specs.Answers.{model_number, model_refusal}
+use Rattle.std.specs.Prelude.{Option, Some, None, Result, Ok, Err}
+use Rattle.vbv.specs.Answers.{model_number, model_answer}
 use Rattle.vbv.specs.declared.RemovalInterval.{RemovalInterval}
 use Rattle.vbv.specs.declared.VbvError.{VbvError}
 use Rattle.bits.specs.Refusals.{plain}
 use Rattle.bits.specs.declared.VbvRefusal.{VbvRefusal}
-use Rattle.bits.proofs.Flags.{clash}
 use Rattle.layers.specs.declared.PictureKind.{PictureKind}
-use Rattle.rate_control.specs.Answers.{offer_answer, created_answer, withdrawal_answer, withdrawn_answer}
+use Rattle.rate_control.specs.Answers.{offer_answer}
 use Rattle.rate_control.specs.Create.{create}
 use Rattle.rate_control.specs.Offer.{Offer, offer, left, out_after, withdraw}
 use Rattle.rate_control.specs.declared.CbrConfig.{CbrConfig}
-use Rattle.rate_control.specs.declared.CbrCreated.{CbrCreated}
-use Rattle.rate_control.specs.declared.CbrCreation.TheVariants.{Created, Refused as NotCreated}
+use Rattle.rate_control.specs.declared.CbrWriter.{CbrWriter}
 use Rattle.rate_control.specs.declared.CbrOffered.{CbrOffered}
-use Rattle.rate_control.specs.declared.CbrWithdrawal.TheVariants.{Withdrawn, Refused as NotWithdrawn}
-use Rattle.rate_control.specs.declared.CbrWithdrawn.{CbrWithdrawn}
 use Rattle.rate_control.proofs.Creation.{within_is}
-use Rattle.rate_control.proofs.States.{withdraw-answer}
 use Rattle.layout.specs.Answers.{answer_size, answer_words}
 use Rattle.layout.specs.Config.{config_size, config_in}
-use Rattle.layout.specs.State.{state_size, state_bytes, writer_at, state_at}
+use Rattle.layout.specs.State.{state_size, state_bytes, state_at}
 use Rattle.words.specs.Words.{words_bytes, laid, word_at}
-use Rattle.layout.specs.declared.CbrState.{CbrState}
 use Rattle.layout.proofs.Answering.{length-refused-answer}
 use Rattle.layout.specs.Mode.{is_mode}
 use Rattle.layout.proofs.Configured.{mode_fits_lem}
 use Rattle.layout.proofs.Held.{holds, holds_none}
-use Rattle.layout.proofs.RoundTrip.{state_fits_lem}
 use Rattle.words.proofs.Laying.{laid-short}
 use Rattle.hipokuta.specs.Send.{state_after, create_in, create_with, COffer, kind_for, interval_for, choices_fit, offer_of, reach, offer_in, offer_state, offer_out, offer_place, withdraw_in}
 
 -- ---- creation: the number, and the place afterwards
 
--- of what a creation has answered
-module _ (r : CbrCreated) (place : List ℕ) where
+-- of a writer, or why there is none
+module _ (r : Result CbrWriter VbvError) (place : List ℕ) where
   abbrev pub Puts : ℕ → List ℕ → Type 0
-  Puts n after = (n ≡ number (created_answer r)) × (after ≡ state_after (created_answer r) place)
+  Puts n after = (n ≡ number (model_answer r)) × (after ≡ state_after (model_answer r) place)
 
-  pub is_created : (after : List ℕ) → r.answer ≡ Created → after ≡ laid (state_bytes r.writer) place → Puts 0 after
+  pub is_put : (w : CbrWriter) (after : List ℕ) → r ≡ Ok w → after ≡ laid (state_bytes w) place → Puts 0 after
   unfolding state_after
-  is_created after h g = rw h (refl, g)
+  is_put w after h g = rw h (refl, g)
 
-  pub not_created_lem : (v : VbvError) (n : ℕ) → r.answer ≡ NotCreated v → n ≡ model_number v → Puts n place
+  pub not_put : (v : VbvError) (n : ℕ) → r ≡ Err v → n ≡ model_number v → Puts n place
   unfolding state_after
-  not_created_lem v n h g = rw h (g, refl)
+  not_put v n h g = rw h (g, refl)
 
 module _ (c : CbrConfig) (place : List ℕ) where
   abbrev Creates : ℕ → List ℕ → Type 0
@@ -64,7 +58,7 @@ module _ (c : CbrConfig) (place : List ℕ) where
   unfolding create_in state_after pick
   no_state_place h = rw (lt-ltb (length place) state_size h) (refl, refl)
 
-  pub created_in : state_size ≤ length place → (r : CbrCreated) → created_answer r ≡ create c → (n : ℕ) (after : List ℕ) → Puts r place n after → Creates n after
+  pub created_in : state_size ≤ length place → (r : Result CbrWriter VbvError) → model_answer r ≡ create c → (n : ℕ) (after : List ℕ) → Puts r place n after → Creates n after
   unfolding create_in pick
   created_in room r e n after h = rw (le-ltb (length place) state_size room, ← e) h
 
@@ -95,7 +89,7 @@ module _ (config place : List ℕ) where
       unfolding create_with create_in pick
       with_mode h = rw (le-ltb (length config) config_size long, le-ltb (length place) state_size room, mode_fits_lem config, ← m, h)
 
-      pub created-with : b ≡ true → (r : CbrCreated) → created_answer r ≡ create (config_in config) → (n : ℕ) (after : List ℕ) → Puts r place n after
+      pub created-with : b ≡ true → (r : Result CbrWriter VbvError) → model_answer r ≡ create (config_in config) → (n : ℕ) (after : List ℕ) → Puts r place n after
           → CreatesWith n after
       created-with h r e n after t = rw (with_mode h) (created_in (config_in config) place room r e n after t)
 
@@ -124,12 +118,12 @@ module _ (s : List ℕ) (o : COffer) where
   unfolding choices_fit
   codes_told = rw (within_is 1 2 o.interval)
 
-  module _ (x : CbrState) (e : x ≡ state_at s) where
-    pub no_state_lem : x.fits ≡ false → {r : VbvRefusal} {answer : List ℕ} → r ≡ plain 12 → answer ≡ worded r → Leaves 12 s o.out answer
+  module _ (x : Option CbrWriter) (e : x ≡ state_at s) where
+    pub no_state_lem : x ≡ None → {r : VbvRefusal} {answer : List ℕ} → r ≡ plain 12 → answer ≡ worded r → Leaves 12 s o.out answer
     unfolding reach pick
     no_state_lem h f g = stopped 12 (rw (holds_none s x e h)) f g
 
-    module _ (h : x.fits ≡ true) where
+    module _ (w : CbrWriter) (h : x ≡ Some w) where
       pub no_answer_place : length o.answer < answer_size → Leaves 19 s o.out o.answer
       unfolding reach pick
       no_answer_place l =
@@ -143,16 +137,16 @@ module _ (s : List ℕ) (o : COffer) where
 
         -- the writer is asked
         module _ (t : codes ≡ true) where
-          reaches : reach s o ≡ value (x.writer, offer_of o)
+          reaches : reach s o ≡ value (w, offer_of o)
           unfolding reach pick
           reaches =
               let k = holds s x e h in
               rw (k.0, le-ltb (length o.answer) answer_size l, sym codes_told ∙ t, k.1)
 
           pub asked : (k : PictureKind) (i : RemovalInterval) → k ≡ kind_for o.kind → i ≡ interval_for o.interval
-              → (r : CbrOffered) → offer_answer r.answer ≡ offer x.writer (offered k i) → r.writer ≡ left x.writer (offered k i)
+              → (r : CbrOffered) → offer_answer r.answer ≡ offer w (offered k i) → r.writer ≡ left w (offered k i)
               → {n : ℕ} {after out answer : List ℕ} → n ≡ number (offer_answer r.answer) → after ≡ laid (state_bytes r.writer) s
-              → out ≡ out_after x.writer (offered k i)
+              → out ≡ out_after w (offered k i)
               → answer ≡ laid (words_bytes (answer_words (offer_answer r.answer))) o.answer
               → Leaves n after out answer
           unfolding offer_in offer_state offer_out offer_place state_after offer_of
@@ -162,26 +156,14 @@ module _ (s : List ℕ) (o : COffer) where
 
 -- ---- a withdrawal: the number, and the state afterwards
 
-module _ (s : List ℕ) (x : CbrState) (e : x ≡ state_at s) where
+module _ (s : List ℕ) (x : Option CbrWriter) (e : x ≡ state_at s) where
   abbrev Withdraws : ℕ → List ℕ → Type 0
   Withdraws n after = (n ≡ number (withdraw_in s)) × (after ≡ state_after (withdraw_in s) s)
 
-  pub no_writer_lem : x.fits ≡ false → Withdraws 12 s
+  pub no_writer_lem : x ≡ None → Withdraws 12 s
   unfolding withdraw_in state_after pick
   no_writer_lem h = rw (holds_none s x e h) (refl, refl)
 
-  module _ (h : x.fits ≡ true) (r : CbrWithdrawn) (f : withdrawn_answer r ≡ withdraw x.writer) where
-    told : r.answer ≡ Withdrawn → withdraw (writer_at s) ≡ value r.writer
-    told a = ap withdraw (sym (holds s x e h).1) ∙ (sym f ∙ ap (λ y. withdrawal_answer y r.writer) a)
-
-    pub is_withdrawn : {after : List ℕ} → after ≡ laid (state_bytes r.writer) s → r.answer ≡ Withdrawn → Withdraws 0 after
-    unfolding withdraw_in state_after pick
-    is_withdrawn g a = rw ((holds s x e h).0, told a) (refl, g)
-
-    -- a writer that fits is not refused
-    pub not_withdrawn : (v : VbvError) {n : ℕ} {after : List ℕ} → r.answer ≡ NotWithdrawn v → Withdraws n after
-    not_withdrawn v a =
-        let k = holds s x e h in
-        let b : model_refusal v ≡ withdraw x.writer = sym (ap (λ y. withdrawal_answer y r.writer) a) ∙ f in
-        let d : withdraw x.writer ≡ value _ = ap withdraw k.1 ∙ withdraw-answer (writer_at s) (state_fits_lem s k.0).2 in
-        absurd (clash cc)
+  pub withdraws : (w : CbrWriter) → x ≡ Some w → (r : Result CbrWriter VbvError) → model_answer r ≡ withdraw w → (n : ℕ) (after : List ℕ) → Puts r s n after → Withdraws n after
+  unfolding withdraw_in pick
+  withdraws w h r f n after t = let k = holds s x e h in rw ((holds s x e h).0, ← (holds s x e h).1, ← f) t

@@ -1,7 +1,7 @@
 -- Lists of calls from C on the state that `cbr_create` or `cbr_create_config` left (paper 01, 'Rust forms to replace'): demand 3 covers them, since those that reach the writer are answered as the same
 -- calls on the writer itself; a refusal leaves the state's bytes alone, but for 21; and what output part is large enough.
 -- Assumes nothing.
-use Rattle.std.specs.Prelude.{ℕ, ◌*◌, ◌^◌, ◌≤◌, ◌<◌, ◌≡◌, List, [], ◌∷◌, ◌++◌, false, not, ltb, length, get_or}
+use Rattle.std.specs.Prelude.{ℕ, ◌*◌, ◌^◌, ◌≤◌, ◌<◌, ◌≡◌, List, [], ◌∷◌, ◌++◌, false, not, ltb, length, get_or, None}
 use Rattle.bits.specs.Bits.{pick}
 use Rattle.bits.specs.Refusals.{Answer, value, refused, number}
 use Rattle.headers.specs.RoundTrips.{Bytes}
@@ -13,7 +13,6 @@ use Rattle.rate_control.specs.Calls.{Call, offering, withdrawing, Step, offered,
 use Rattle.rate_control.specs.Demand.{AllBytes, DemandOf}
 use Rattle.rate_control.specs.declared.CbrConfig.{CbrConfig}
 use Rattle.rate_control.specs.declared.CbrWriter.{CbrWriter}
-use Rattle.rate_control.specs.declared.Pending.TheVariants.{Nothing}
 use Rattle.layout.specs.Mode.{mode_number}
 use Rattle.layout.specs.Config.{config_in}
 use Rattle.layout.specs.State.{state_bytes, state_fits, writer_at}
@@ -158,7 +157,7 @@ pub record Keeps (s : List ℕ) (o : COffer) : Type 0 where
   pub state : 1 ≤ number (offer_in s o) → (number (offer_in s o) ≡ 21 → ⊥) → offer_state s o ≡ s
   pub closes : number (offer_in s o) ≡ 21 → offer_state s o ≡ state_after (withdraw_in s) s
   -- which with nothing pending has nothing to close
-  pub not_pending : (writer_at s).pending ≡ Nothing → state_after (withdraw_in s) s ≡ s
+  pub not_pending : (writer_at s).pending ≡ None → state_after (withdraw_in s) s ≡ s
   pub out : 1 ≤ number (offer_in s o) → offer_out s o ≡ o.out
   -- an output part as large as the buffer always has room
   pub room : answer_size ≤ length o.answer → (writer_at s).model.params.buffer_size_bits ≤ 8 * length o.out → number (offer_in s o) ≡ 19 → ⊥

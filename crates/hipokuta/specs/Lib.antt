@@ -1,4 +1,5 @@
 pub mod Lent
+pub mod Steps
 pub mod Check
 pub mod Send
 pub mod Calls

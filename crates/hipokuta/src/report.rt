@@ -3,9 +3,7 @@ ghost use Rattle.std.specs.Prelude.{◌≡◌};
 ghost use Rattle.bits.specs.Refusals.{number};
 ghost use Rattle.hipokuta.specs.Check.{report_alone_in, report_after, refusal_after};
 
-use crate::check::{answer, refuse};
-use bits::plain;
-use layout::{REFUSAL_BYTES, REPORT_BYTES, is_mode, mode_for};
+use crate::check::{answer, asked, refuse};
 use verify::check_in_mode;
 
 // The buffer report of a stream, or why it is refused, but never for want of record places: 0, or the refusal's number. A
@@ -16,17 +14,9 @@ pub extern "C" fn vbv_report(stream: &[u8], mode: u8, report: &mut [u8], refusal
     ensures report_after { report.new ≡ report_after (report_alone_in stream mode report refusal) report.old }
     ensures refusal_after { refusal.new ≡ refusal_after (report_alone_in stream mode report refusal) refusal.old }
 {
-    if (refusal.len() < REFUSAL_BYTES) | (report.len() < REPORT_BYTES) {
-        return refuse(refusal, plain(19));
-    }
     let places = stream.len();
-    let number = mode as u64;
-    if is_mode(number) {
-        return answer(
-            check_in_mode(stream, mode_for(number), places),
-            report,
-            refusal,
-        );
+    match asked(mode, report, refusal) {
+        Ok(mode) => answer(check_in_mode(stream, mode, places), report, refusal),
+        Err(why) => refuse(refusal, why),
     }
-    refuse(refusal, plain(12))
 }

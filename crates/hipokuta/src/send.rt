@@ -1,7 +1,8 @@
 // The writer, its state as bytes.
 ghost use Rattle.std.specs.Prelude.{◌≡◌};
 ghost use Rattle.bits.specs.Refusals.{number};
-ghost use Rattle.rate_control.specs.Answers.{created_answer, offer_answer};
+ghost use Rattle.vbv.specs.Answers.{model_answer};
+ghost use Rattle.rate_control.specs.Answers.{offer_answer};
 ghost use Rattle.hipokuta.specs.Send.{state_after, config_of, create_in, create_with, brought, kind_for, interval_for, offer_in, offer_state, offer_out, offer_place, withdraw_in};
 
 use bits::plain;
@@ -10,23 +11,22 @@ use layout::{
     ANSWER_BYTES, CONFIG_BYTES, STATE_BYTES, create_from, is_mode, put_answer, put_refused,
     put_state, read_state,
 };
-use rate_control::{CbrAnswer, CbrConfig, CbrCreated, CbrCreation, CbrWithdrawal, CbrWriter};
-use vbv::RemovalInterval;
+use rate_control::{CbrConfig, CbrError, CbrGiven, CbrWriter};
+use vbv::{RemovalInterval, VbvError};
 use verify::{VbvMode, VbvStandard};
 use words::word_at;
 
-// A created writer's state in a place: 0, or the refusal's number.
-fn put_created(state: &mut [u8], made: CbrCreated) -> u64
-    ensures value { result ≡ number (created_answer made) }
-    ensures state_after { state.new ≡ state_after (created_answer made) state.old }
+// The state of a writer, if there is one, in a place: 0, or the refusal's number.
+fn put_writer(state: &mut [u8], writer: Result<CbrWriter, VbvError>) -> u64
+    ensures value { result ≡ number (model_answer writer) }
+    ensures state_after { state.new ≡ state_after (model_answer writer) state.old }
 {
-    let answer = made.answer;
-    match answer {
-        CbrCreation::Created => {
-            put_state(state, made.writer);
+    match writer {
+        Ok(writer) => {
+            put_state(state, writer);
             0
         }
-        CbrCreation::Refused(error) => error.number() as u64,
+        Err(error) => u64::from(error.number()),
     }
 }
 
@@ -58,7 +58,7 @@ pub extern "C" fn cbr_create(
         b_between,
         anchors_per_gop,
     };
-    put_created(state, CbrWriter::create(config))
+    put_writer(state, CbrWriter::create(config))
 }
 
 // A new writer by a configuration's words: mode, bit_rate_value, vbv_buffer_size_value, frame_rate_code, n, d, quantiser,
@@ -76,12 +76,12 @@ pub extern "C" fn cbr_create_config(config: &[u8], state: &mut [u8]) -> u64
         return 19;
     }
     if is_mode(word_at(config, 0)) {
-        return put_created(state, create_from(config));
+        return put_writer(state, create_from(config));
     }
     12
 }
 
-// Kinds 0 I, 1 P, 2 B.
+// Kinds 0 I, 1 P, 2 B: the C interface passes numbers.
 #[tactic(auto, unfolding(crate::specs::Send::kind_for, bits::specs::Bits::pick))]
 fn kind_of(kind: u8) -> PictureKind
     ensures { result ≡ kind_for kind }
@@ -93,7 +93,7 @@ fn kind_of(kind: u8) -> PictureKind
     }
 }
 
-// Intervals 1 a field, 2 a frame.
+// Intervals 1 a field, 2 a frame: numbers of the C interface too.
 #[tactic(auto, unfolding(crate::specs::Send::interval_for, bits::specs::Bits::pick))]
 fn interval_of(interval: u8) -> RemovalInterval
     ensures { result ≡ interval_for interval }
@@ -104,18 +104,12 @@ fn interval_of(interval: u8) -> RemovalInterval
     RemovalInterval::Frame
 }
 
-fn answer_number(answer: CbrAnswer) -> u64
+fn answer_number(answer: Result<CbrGiven, CbrError>) -> u64
     ensures { result ≡ number (offer_answer answer) }
 {
     match answer {
-        CbrAnswer::Placed {
-            q: _,
-            vbv_delay: _,
-            bytes: _,
-            stuffing_bytes: _,
-        } => 0,
-        CbrAnswer::Again(_) => 0,
-        CbrAnswer::Refused(error) => error.refusal().number as u64,
+        Ok(_) => 0,
+        Err(error) => u64::from(error.refusal().number),
     }
 }
 
@@ -136,13 +130,11 @@ pub extern "C" fn cbr_offer(
     ensures out_after { out.new ≡ offer_out state.old (brought headers kind interval last layer out answer) }
     ensures answer_after { answer.new ≡ offer_place state.old (brought headers kind interval last layer out answer) }
 {
-    let held = read_state(state);
-    if held.fits {
+    if let Some(writer) = read_state(state) {
         if answer.len() < ANSWER_BYTES {
             return 19;
         }
         if (kind <= 2) & (((1 <= interval) & (interval <= 2)) & (last <= 1)) {
-            let writer = held.writer;
             let offered = writer.offer(
                 headers,
                 kind_of(kind),
@@ -167,15 +159,8 @@ pub extern "C" fn cbr_withdraw(state: &mut [u8]) -> u64
     ensures value { result ≡ number (withdraw_in state.old) }
     ensures state_after { state.new ≡ state_after (withdraw_in state.old) state.old }
 {
-    let held = read_state(state);
-    if held.fits {
-        let withdrawn = held.writer.withdraw();
-        put_state(state, withdrawn.writer);
-        let answer = withdrawn.answer;
-        return match answer {
-            CbrWithdrawal::Withdrawn => 0,
-            CbrWithdrawal::Refused(error) => error.number() as u64,
-        };
+    match read_state(state) {
+        Some(writer) => put_writer(state, writer.withdraw()),
+        None => 12,
     }
-    12
 }

@@ -1,5 +1,5 @@
 // The entries of `hipokuta` as C calls them (include/hipokuta.h): each calls the library's function of its name and promises
-// the same.
+// the same. (A crate is a library, for the crates above, or a static library, for C.)
 #![tactic(auto)]
 
 ghost use Rattle.std.specs.Prelude.{◌≡◌};

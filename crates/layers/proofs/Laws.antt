@@ -29,7 +29,8 @@ use Rattle.bits.specs.Refusals.{Answer, value, refused, and_then, or_else}
 use Rattle.vbv.specs.declared.VbvParams.{VbvParams}
 use Rattle.vbv.specs.declared.RemovalInterval.{RemovalInterval}
 use Rattle.vbv.proofs.Patching.{starts_picture_is, patched-length, patched-front, patched-rest, patched_below, patched-delay, patched-before, patched-after}
-use Rattle.scan.specs.Codes.{Code, codes, codes_from, every, ends_prefix}
+use Rattle.scan.specs.declared.StartCode.{StartCode}
+use Rattle.scan.specs.Codes.{codes, codes_from, every, ends_prefix}
 use Rattle.scan.specs.Pictures.{is_slice, not_slice, not_picture, skip}
 use Rattle.scan.proofs.Laying.{OnePicture, Opened, Piece}
 use Rattle.scan.proofs.Pieces.{piece_after}
@@ -64,7 +65,7 @@ extension_no_slice c e = case (eqb c extension_start_code) (eqb c user_data_star
     case false true p q e = not_slice_above c (omega (arith, eqb-true c user_data_start_code q))
     case false false p q e = cc
 
-one_of : (cs : List Code) → layer_codes cs ≡ true → OnePicture cs 0
+one_of : (cs : List StartCode) → layer_codes cs ≡ true → OnePicture cs 0
 unfolding layer_codes slices
 one_of [] e = absurd (let z : ◌≡◌ {A = ℕ} 0 1 = cc in omega arith)
 one_of (c ∷ cs) e = case (skip is_extension cs) refl b.1
@@ -78,7 +79,7 @@ one_of (c ∷ cs) e = case (skip is_extension cs) refl b.1
     first : c ≡ record { offset = 0; code = 0 }
     first = rw (eqb-true c.offset 0 a.0, eqb-true c.code 0 b.0)
 
-    case : (ds : List Code) → skip is_extension cs ≡ ds → slices ds ≡ true → OnePicture (c ∷ cs) 0
+    case : (ds : List StartCode) → skip is_extension cs ≡ ds → slices ds ≡ true → OnePicture (c ∷ cs) 0
     case [] q z = absurd (let z : ◌≡◌ {A = ℕ} 0 1 = cc in omega arith)
     case (d ∷ ds) q z =
         let p = skip_split is_extension cs in
@@ -88,7 +89,7 @@ one_of (c ∷ cs) e = case (skip is_extension cs) refl b.1
           extensions = p.front;
           slice = d;
           slices = ds;
-          shape = rw first (ap (λ (l : List Code). record { offset = 0; code = 0 } ∷ l) (p.split ∙ ap (λ (l : List Code). p.front ++ l) q));
+          shape = rw first (ap (λ (l : List StartCode). record { offset = 0; code = 0 } ∷ l) (p.split ∙ ap (λ (l : List StartCode). p.front ++ l) q));
           no_picture = every_empty not_picture;
           no_slice = every_by is_extension not_slice extension_no_slice p.front p.all;
           a_slice = t.0;
@@ -277,7 +278,7 @@ pub first-declares : (p : VbvParams) (h : List ℕ) → headers_fit p false h �
 unfolding sequence_fits
 first-declares p h e = declares-same p h (both_true (sequence_first (codes h)) _ (conditions p false h e).3).1
 
-sequence_first_lem : (c : Code) (cs : List Code) → sequence_first (c ∷ cs) ≡ true → c.code ≡ sequence_header_code
+sequence_first_lem : (c : StartCode) (cs : List StartCode) → sequence_first (c ∷ cs) ≡ true → c.code ≡ sequence_header_code
 unfolding sequence_first
 sequence_first_lem c cs e =
     let a = both_true (eqb c.offset 0) _ e in
@@ -286,7 +287,7 @@ sequence_first_lem c cs e =
 
 -- headers that fit before the first picture, and whatever follows them: the first code is B3 at byte 0
 record Begins (s : List ℕ) : Type 0 where
-  others : List Code
+  others : List StartCode
   codes_are : codes s ≡ record { offset = 0; code = sequence_header_code } ∷ others
 
 headers_begin : (p : VbvParams) (h : List ℕ) → headers_fit p false h ≡ true → (x : List ℕ) → Begins (h ++ x)

@@ -22,8 +22,7 @@ use Rattle.picture_header.specs.PictureHeader.{picture_header, picture_header_by
 use Rattle.picture_header.specs.Picture.{picture}
 use Rattle.picture_header.specs.declared.PictureCodingType.{PictureCodingType}
 use Rattle.picture_header.specs.declared.PictureCodingType.TheVariants.{Intra, Predictive, Bidirectional, DcIntra}
-use Rattle.picture_header.specs.declared.OptionCode.{OptionCode}
-use Rattle.picture_header.specs.declared.OptionCode.TheVariants.{Some as SomeCode, None as NoCode}
+use Rattle.std.specs.Prelude.{Option, Some, None}
 use Rattle.picture_header.specs.declared.Mpeg2PictureHeader.{Mpeg2PictureHeader}
 use Rattle.picture_header.specs.declared.PictureCodingExtension.{PictureCodingExtension}
 use Rattle.headers.proofs.StartCode.{zeros_zero}
@@ -101,10 +100,10 @@ facts_delayed f d =
 abbrev pub LowBits : List ℕ → Type 0
 LowBits s = (1 ≤ bits_at s 61 3) ⊎ (2 ≤ leading_zeros (drop 8 s))
 
-seven_is : (c : OptionCode) (v : ℕ) → c ≡ SomeCode v → code_seven c ≡ true → v ≡ 7
+seven_is : (c : Option ℕ) (v : ℕ) → c ≡ Some v → code_seven c ≡ true → v ≡ 7
 unfolding code_seven
-seven_is NoCode v e q = cc
-seven_is (SomeCode w) v e q = let z : w ≡ v = cc in rw (← z) (eqb-true w 7 q)
+seven_is None v e q = cc
+seven_is (Some w) v e q = let z : w ≡ v = cc in rw (← z) (eqb-true w 7 q)
 
 low_bits : (s : List ℕ) (h : Mpeg2PictureHeader) → picture_header s ≡ value h → (h.picture_coding_type ≡ DcIntra → ⊥)
     → code_seven h.fwd_f_code ≡ true → 2 ≤ leading_zeros (drop (picture_header_bytes h) s) → LowBits s

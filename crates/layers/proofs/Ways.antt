@@ -1,17 +1,18 @@
 -- What the code's tests say: bytes at an index, the codes that a search finds, and the bits and bytes after a picture header.
 -- Assumes nothing.
 use mathlib.Core.Path.{◌≡◌, refl, sym, ◌∙◌}
-use Prim.Native.Nat.{ℕ, ◌+◌, ◌-◌, ◌*◌, ◌/◌, ◌%◌, ◌≤◌, ◌<◌}
+use Prim.Native.Nat.{ℕ, zero, suc, ◌+◌, ◌-◌, ◌*◌, ◌/◌, ◌%◌, ◌≤◌, ◌<◌}
 use mathlib.Core.List.{List, [], ◌∷◌}
 use mathlib.Core.Bool.{Bool, true, false, not, ◌&&◌, ◌||◌, and_assoc}
 use native.Mathlib.Omega.{arith}
 use lib.Dec.{eqb, leb}
 use lib.ListN.{length, get_or, take, drop}
-use borrow.Author.Tests.{le-leb, lt-leb, leb-true, leb-false}
+use borrow.Author.Tests.{le-leb, ne_eqb}
 use Rattle.picture_header.specs.Facts.{is_field}
 use Rattle.bits.specs.StartCodes.{sequence_header_code}
 use Rattle.bits.specs.Bits.{there}
-use Rattle.bits.specs.Answers.{read_bits}
+use Rattle.bits.specs.Fields.{same_bytes}
+use Rattle.bits.specs.Answers.{read_bits, bits_answer}
 use Rattle.bits.specs.Refusals.{Answer, value, refused}
 use Rattle.bits.proofs.Laws.{bits_drop}
 use Rattle.bits.proofs.Reading.{there_is, there-drop, bits_found as read_found, missed, rest_is}
@@ -20,81 +21,66 @@ use Rattle.picture_header.specs.Picture.{picture}
 use Rattle.picture_header.specs.PictureHeader.{picture_header, picture_header_bits, picture_header_bytes}
 use Rattle.picture_header.specs.declared.Mpeg2PictureHeader.{Mpeg2PictureHeader}
 use Rattle.picture_header.specs.declared.PictureCodingExtension.{PictureCodingExtension}
-use Rattle.headers.proofs.StartCode.{zeros_past, zeros_none, zeros_more, prefix_is}
 use Rattle.picture_header.proofs.PictureHeader.{picture_header-parsed}
 use Rattle.picture_header.proofs.Extent.{header_bits, header_bytes_lem}
 use Rattle.vbv.specs.declared.RemovalInterval.{RemovalInterval}
-use Rattle.scan.specs.declared.Found.TheVariants.{At, Nothing}
-use Rattle.scan.specs.Codes.{codes, codes_at, every, next_code, ends_prefix, found}
+use Rattle.std.specs.Prelude.{Option, Some, None}
+use Rattle.std.specs.Option.{option_eq}
+use Rattle.scan.specs.declared.StartCode.{StartCode}
+use Rattle.scan.specs.Codes.{codes, codes_at, every, next_code, found}
 use Rattle.scan.specs.Pictures.{is_slice, not_sequence, skip}
 use Rattle.scan.proofs.Walk.{code_seen, unseen, sought, unsought}
 use Rattle.scan.proofs.Search.{codes_from-zero}
-use Rattle.scan.proofs.Prefix.{ends-last_three}
 use Rattle.layers.specs.Headers.{opens_headers, sequence_first}
 use Rattle.layers.specs.declared.PictureKind.{PictureKind}
 use Rattle.layers.specs.Layer.{same_kind, agrees, flag_clear, code_seven, headers_tell, header_fits, padding, slices, is_extension, layer_codes}
 
 -- ---- 00 00 01
 
-pub opens_empty : (s : List ℕ) → length s ≡ 0 → true ≡ opens_headers s
+pub opens_test : (s : List ℕ) → (eqb (length s) 0 || prefix_at s 0) ≡ opens_headers s
 unfolding opens_headers
-opens_empty [] h = refl
-opens_empty (b ∷ s) h = absurd (omega arith)
-
-pub opens_by : (s : List ℕ) → (length s ≡ 0 → ⊥) → prefix_at s 0 ≡ opens_headers s
-unfolding opens_headers
-opens_by [] h = absurd (h refl)
-opens_by (b ∷ s) h = refl
-
-pub ends_by : (s : List ℕ) → 3 ≤ length s → prefix_at s (length s - 3) ≡ ends_prefix s
-ends_by s h = prefix_is s (length s - 3) ∙ ends-last_three s h
+opens_test [] = refl
+opens_test (b ∷ s) = rw (ne_eqb (length (b ∷ s)) 0 (λ e. omega arith))
 
 -- ---- codes
 
-pub first-none : (s : List ℕ) → next_code s 0 ≡ Nothing → false ≡ sequence_first (codes s)
+pub first-none : (s : List ℕ) → next_code s 0 ≡ None → false ≡ sequence_first (codes s)
 unfolding sequence_first
 first-none s e = rw (codes_from-zero s, unseen s 0 e)
 
-pub first_some : (s : List ℕ) (o c : ℕ) → next_code s 0 ≡ At o c
-    → (eqb o 0 && (eqb c sequence_header_code && every not_sequence (codes_at s (o + 4)))) ≡ sequence_first (codes s)
+pub first_some : (s : List ℕ) (c : StartCode) → next_code s 0 ≡ Some c
+    → (eqb c.offset 0 && (eqb c.code sequence_header_code && every not_sequence (codes_at s (c.offset + 4)))) ≡ sequence_first (codes s)
 unfolding sequence_first
-first_some s o c e = rw (codes_from-zero s, (code_seen s 0 o c e).list)
+first_some s c e = rw (codes_from-zero s, (code_seen s 0 c e).list)
 
-pub layer-none : (s : List ℕ) → next_code s 0 ≡ Nothing → false ≡ layer_codes (codes s)
+pub layer-none : (s : List ℕ) → next_code s 0 ≡ None → false ≡ layer_codes (codes s)
 unfolding layer_codes
 layer-none s e = rw (codes_from-zero s, unseen s 0 e)
 
-pub layer-some : (s : List ℕ) (o c : ℕ) → next_code s 0 ≡ At o c
-    → (eqb o 0 && (eqb c 0 && slices (skip is_extension (codes_at s (o + 4))))) ≡ layer_codes (codes s)
+pub layer-some : (s : List ℕ) (c : StartCode) → next_code s 0 ≡ Some c
+    → (eqb c.offset 0 && (eqb c.code 0 && slices (skip is_extension (codes_at s (c.offset + 4))))) ≡ layer_codes (codes s)
 unfolding layer_codes
-layer-some s o c e = rw (codes_from-zero s, (code_seen s 0 o c e).list)
+layer-some s c e = rw (codes_from-zero s, (code_seen s 0 c e).list)
 
-pub slices-none : (s : List ℕ) (i : ℕ) → found (skip is_extension (codes_at s i)) ≡ Nothing → false ≡ slices (skip is_extension (codes_at s i))
+pub slices-none : (s : List ℕ) (i : ℕ) → found (skip is_extension (codes_at s i)) ≡ None → false ≡ slices (skip is_extension (codes_at s i))
 unfolding slices
 slices-none s i e = rw (unsought (skip is_extension (codes_at s i)) e)
 
-pub slices-some : (s : List ℕ) (i o c : ℕ) → found (skip is_extension (codes_at s i)) ≡ At o c
-    → (is_slice c && every is_slice (codes_at s (o + 4))) ≡ slices (skip is_extension (codes_at s i))
+pub slices-some : (s : List ℕ) (i : ℕ) (c : StartCode) → found (skip is_extension (codes_at s i)) ≡ Some c
+    → (is_slice c.code && every is_slice (codes_at s (c.offset + 4))) ≡ slices (skip is_extension (codes_at s i))
 unfolding slices
-slices-some s i o c e = rw (sought is_extension s i o c e).list
+slices-some s i c e = rw (sought is_extension s i c e).list
 
 -- ---- zero bytes
 
-pub zeros_few : (s : List ℕ) (k : ℕ) → length s < k + 2 → false ≡ leb 2 (leading_zeros (drop k s))
-zeros_few s k h = sym (lt-leb 2 (leading_zeros (drop k s)) (case (eqb (get_or s k 0) 0) refl (leb (length s) k) refl))
-  where
-    case : (b : Bool) → eqb (get_or s k 0) 0 ≡ b → (t : Bool) → leb (length s) k ≡ t → leading_zeros (drop k s) < 2
-    case b e true t = omega (arith, zeros_past s k (leb-true _ _ t))
-    case true e false t = omega (arith, zeros_more s k (leb-false _ _ t) e, zeros_past s (k + 1) (omega arith))
-    case false e false t = omega (arith, zeros_none s k (leb-false _ _ t) e)
-
-pub zeros_test : (s : List ℕ) (k : ℕ) → k + 2 ≤ length s → (eqb (get_or s k 0) 0 && eqb (get_or s (k + 1) 0) 0) ≡ leb 2 (leading_zeros (drop k s))
-zeros_test s k h = case (eqb (get_or s k 0) 0) refl (eqb (get_or s (k + 1) 0) 0) refl
-  where
-    case : (a : Bool) → eqb (get_or s k 0) 0 ≡ a → (b : Bool) → eqb (get_or s (k + 1) 0) 0 ≡ b → (a && b) ≡ leb 2 (leading_zeros (drop k s))
-    case false e b f = sym (lt-leb 2 (leading_zeros (drop k s)) (omega (arith, zeros_none s k (omega arith) e)))
-    case true e false f = sym (lt-leb 2 (leading_zeros (drop k s)) (omega (arith, zeros_more s k (omega arith) e, zeros_none s (k + 1) (omega arith) f)))
-    case true e true f = sym (le-leb 2 (leading_zeros (drop k s)) (omega (arith, zeros_more s k (omega arith) e, zeros_more s (k + 1) (omega arith) f)))
+pub zeros_test : (s : List ℕ) → same_bytes (take 2 s) (0 ∷ 0 ∷ []) ≡ leb 2 (leading_zeros s)
+unfolding leading_zeros same_bytes
+zeros_test [] = refl
+zeros_test (zero ∷ []) = refl
+zeros_test (suc a ∷ []) = rw (ne_eqb (suc a) 0 (λ e. omega arith))
+zeros_test (zero ∷ zero ∷ s) = sym (le-leb 2 (suc (suc (leading_zeros s))) (omega arith))
+zeros_test (zero ∷ suc b ∷ s) = rw (ne_eqb (suc b) 0 (λ e. omega arith))
+zeros_test (suc a ∷ b ∷ s) = rw (ne_eqb (suc a) 0 (λ e. omega arith))
 
 -- ---- after a picture header
 
@@ -123,7 +109,7 @@ module _ (s : List ℕ) (h : Mpeg2PictureHeader) (e : picture_header s ≡ value
   abbrev read : Answer ℕ
   read = read_bits (take (length s - n) (drop n s)) (last + 1) (7 - last % 8)
 
-  pub padding_read : (v : ℕ) → value v ≡ read → eqb v 0 ≡ eqb (padding s h) 0
+  padding_read : (v : ℕ) → value v ≡ read → eqb v 0 ≡ eqb (padding s h) 0
   unfolding padding
   padding_read v q = rw ((read_found (drop n s) (last + 1) (7 - last % 8) v (rw rest_is at (q))).1, bits_drop n s (last + 1) (7 - last % 8), bits_by, width_by)
 
@@ -133,11 +119,15 @@ module _ (s : List ℕ) (h : Mpeg2PictureHeader) (e : picture_header s ≡ value
       (there_is s (8 * n + (last + 1)) (7 - last % 8) (omega arith) (omega (arith, extra-room)))
 
   -- it lies in the header's last byte
-  pub padding_missed : refused 1 0 0 0 ≡ read → false ≡ eqb (padding s h) 0
+  padding_missed : refused 1 0 0 0 ≡ read → false ≡ eqb (padding s h) 0
   padding_missed q =
       let m : there (drop n s) (last + 1) (7 - last % 8) ≡ false = missed (drop n s) (last + 1) (7 - last % 8) (rw rest_is at (q)) in
       let z : true ≡ false = sym padding-there ∙ m in
       cc
+
+  pub padding_told : (r : Option ℕ) → bits_answer r ≡ read → option_eq eqb r (Some 0) ≡ eqb (padding s h) 0
+  padding_told (Some v) q = padding_read v q
+  padding_told None q = padding_missed q
 
 -- headers that do not parse
 pub tests_none : (film : Bool) (k : PictureKind) (i : RemovalInterval) (s : List ℕ) (n : ℕ) → refused n 0 0 0 ≡ picture s → false ≡ header_fits film k i s

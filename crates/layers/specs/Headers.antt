@@ -10,7 +10,8 @@ use Rattle.vbv.specs.Answers.{frame_rate}
 use Rattle.vbv.specs.Model.{params_in_range}
 use Rattle.vbv.specs.Params.{rate_unit, buffer_unit, same_params}
 use Rattle.vbv.specs.declared.VbvParams.{VbvParams}
-use Rattle.scan.specs.Codes.{Code, codes, every, ends_prefix}
+use Rattle.scan.specs.declared.StartCode.{StartCode}
+use Rattle.scan.specs.Codes.{codes, every, ends_prefix}
 use Rattle.scan.specs.Pictures.{not_sequence}
 use Rattle.pictures.specs.Sequence.{declared_by}
 use Rattle.pictures.specs.declared.VbvStandard.TheVariants.{Mpeg2}
@@ -29,7 +30,7 @@ unfoldable pub declares : VbvParams → List ℕ → Bool
 declares p h = or_else false (and_then (declared_by Mpeg2 h) (λ q. value (same_params p q)))
 
 -- B3 exactly once, at byte 0
-unfoldable pub sequence_first : List Code → Bool
+unfoldable pub sequence_first : List StartCode → Bool
 sequence_first [] = false
 sequence_first (c ∷ cs) = eqb c.offset 0 && (eqb c.code sequence_header_code && every not_sequence cs)
 

@@ -1,6 +1,6 @@
 -- A picture layer that fits: picture header, extensions and slices of one coded picture (paper 01, 'A placed picture'; paper 02, request 05); and the facts that its headers tell.
 -- Assumes nothing.
-use Rattle.std.specs.Prelude.{ℕ, ◌-◌, ◌*◌, ◌≡◌, List, [], ◌∷◌, Bool, true, false, not, ◌&&◌, ◌||◌, eqb, leb, drop}
+use Rattle.std.specs.Prelude.{ℕ, ◌-◌, ◌*◌, ◌≡◌, Option, Some, None, List, [], ◌∷◌, Bool, true, false, not, ◌&&◌, ◌||◌, eqb, leb, drop}
 use Rattle.vbv.specs.Model.{interval_of}
 use Rattle.picture_header.specs.Facts.{is_field, picture_told}
 use Rattle.picture_header.specs.declared.PictureFacts.{PictureFacts}
@@ -12,15 +12,12 @@ use Rattle.picture_header.specs.PictureHeader.{picture_header_bits, picture_head
 use Rattle.picture_header.specs.Picture.{picture}
 use Rattle.picture_header.specs.declared.PictureCodingType.{PictureCodingType}
 use Rattle.picture_header.specs.declared.PictureCodingType.TheVariants.{Intra, Predictive, Bidirectional, DcIntra}
-use Rattle.picture_header.specs.declared.OptionFlag.{OptionFlag}
-use Rattle.picture_header.specs.declared.OptionFlag.TheVariants.{Some as SomeFlag, None as NoFlag}
-use Rattle.picture_header.specs.declared.OptionCode.{OptionCode}
-use Rattle.picture_header.specs.declared.OptionCode.TheVariants.{Some as SomeCode, None as NoCode}
 use Rattle.picture_header.specs.declared.Mpeg2PictureHeader.{Mpeg2PictureHeader}
 use Rattle.picture_header.specs.declared.PictureCodingExtension.{PictureCodingExtension}
 use Rattle.vbv.specs.declared.RemovalInterval.{RemovalInterval}
 use Rattle.vbv.specs.declared.RemovalInterval.TheVariants.{Frame, Field, ThreeFields, TwoFrames, ThreeFrames}
-use Rattle.scan.specs.Codes.{Code, codes, every, ends_prefix}
+use Rattle.scan.specs.declared.StartCode.{StartCode}
+use Rattle.scan.specs.Codes.{codes, every, ends_prefix}
 use Rattle.scan.specs.Pictures.{is_slice, skip}
 use Rattle.layers.specs.declared.PictureKind.{PictureKind}
 use Rattle.layers.specs.declared.PictureKind.TheVariants.{I, P, B}
@@ -49,13 +46,13 @@ agrees TwoFrames field = false
 agrees ThreeFrames field = false
 
 -- a full-pel flag is 0 and its code 7, where the type has them (6.3.9)
-unfoldable pub flag_clear : OptionFlag → Bool
-flag_clear NoFlag = true
-flag_clear (SomeFlag f) = not f
+unfoldable pub flag_clear : Option Bool → Bool
+flag_clear None = true
+flag_clear (Some f) = not f
 
-unfoldable pub code_seven : OptionCode → Bool
-code_seven NoCode = true
-code_seven (SomeCode c) = eqb c 7
+unfoldable pub code_seven : Option ℕ → Bool
+code_seven None = true
+code_seven (Some c) = eqb c 7
 
 -- the bits that pad the picture header to a byte
 unfoldable pub padding : List ℕ → Mpeg2PictureHeader → ℕ
@@ -79,7 +76,7 @@ unfoldable pub header_fits : Bool → PictureKind → RemovalInterval → List �
 header_fits film k i s = or_else false (and_then (picture s) (λ p. value (headers_tell film k i s p.0 p.1)))
 
 -- at least one slice and only slices
-unfoldable pub slices : List Code → Bool
+unfoldable pub slices : List StartCode → Bool
 slices [] = false
 slices (c ∷ cs) = is_slice c.code && every is_slice cs
 
@@ -88,7 +85,7 @@ unfoldable pub is_extension : ℕ → Bool
 is_extension c = eqb c extension_start_code || eqb c user_data_start_code
 
 -- 00 once at byte 0, then any of B5 and B2, then the slices
-unfoldable pub layer_codes : List Code → Bool
+unfoldable pub layer_codes : List StartCode → Bool
 layer_codes [] = false
 layer_codes (c ∷ cs) = eqb c.offset 0 && (eqb c.code 0 && slices (skip is_extension cs))
 

@@ -8,10 +8,10 @@ use native.Mathlib.Omega.{arith}
 use lib.Dec.{leb}
 use lib.ListN.{get_or}
 use borrow.Author.Tests.{leb-true}
+use Rattle.layers.specs.declared.PictureKind.{PictureKind}
 use Rattle.layers.specs.declared.PictureKind.TheVariants.{I, P, B}
 use Rattle.rate_control.specs.Writer.{quantiser_fits, all_fit, pending_fits, writer_fits}
-use Rattle.rate_control.specs.declared.Pending.{Pending}
-use Rattle.rate_control.specs.declared.Pending.TheVariants.{Nothing, Waits}
+use Rattle.std.specs.Prelude.{Option, Some, None}
 use Rattle.rate_control.specs.declared.CbrWriter.{CbrWriter}
 use Rattle.headers.proofs.Answers.{flag-bound}
 use Rattle.vbv.specs.Model.{farthest}
@@ -22,17 +22,17 @@ use Rattle.layout.specs.State.{pending_code, pending_quantiser, state_words}
 use Rattle.words.proofs.Bytes.{AllWords, some, each_small, small_append}
 use Rattle.layout.proofs.Cadences.{cadence_small}
 
-pub code_low : (p : Pending) → pending_code p ≤ 3
+pub code_low : (p : Option (PictureKind × ℕ)) → pending_code p ≤ 3
 unfolding pending_code
-code_low Nothing = omega arith
-code_low (Waits I q) = omega arith
-code_low (Waits P q) = omega arith
-code_low (Waits B q) = omega arith
+code_low None = omega arith
+code_low (Some (I, q)) = omega arith
+code_low (Some (P, q)) = omega arith
+code_low (Some (B, q)) = omega arith
 
-quantiser_low : (p : Pending) → pending_fits p ≡ true → pending_quantiser p ≤ 31
+quantiser_low : (p : Option (PictureKind × ℕ)) → pending_fits p ≡ true → pending_quantiser p ≤ 31
 unfolding pending_quantiser pending_fits
-quantiser_low Nothing h = omega arith
-quantiser_low (Waits k q) h = (quantiser_is h).high
+quantiser_low None h = omega arith
+quantiser_low (Some (k, q)) h = (quantiser_is h).high
 
 targets_small : (vs : List ℕ) → all_fit (λ t. leb t farthest) vs ≡ true → AllWords vs
 targets_small vs h = each_small vs (λ k g. omega (arith, leb-true (get_or vs k 0) farthest (all_fit-at _ vs k h g)))

@@ -13,10 +13,8 @@ use Rattle.bits.specs.Bits.{pick}
 use Rattle.vbv.specs.declared.VbvCbrModel.{VbvCbrModel}
 use Rattle.layers.specs.declared.PictureKind.{PictureKind}
 use Rattle.layers.specs.declared.PictureKind.TheVariants.{I, P, B}
-use Rattle.rate_control.specs.Create.{no_writer}
 use Rattle.rate_control.specs.Writer.{quantiser_fits, pending_fits, writer_fits}
-use Rattle.rate_control.specs.declared.Pending.{Pending}
-use Rattle.rate_control.specs.declared.Pending.TheVariants.{Waits}
+use Rattle.std.specs.Prelude.{Option, Some, None}
 use Rattle.rate_control.specs.declared.CbrWriter.{CbrWriter}
 use Rattle.rate_control.proofs.Fitting.{all_fit-at, quantiser_is, writer_fits_lem}
 use Rattle.cadence.specs.declared.VbvCadence.{VbvCadence}
@@ -25,14 +23,7 @@ use Rattle.verify.specs.declared.VbvMode.{VbvMode}
 use Rattle.layout.specs.Mode.{mode_for}
 use Rattle.layout.specs.State.{state_size, cadence_codes_fit, codes_fit, pending_of, cadence_in, writer_at, state_fits, state_at}
 use Rattle.layout.specs.Steps.{Narrow, narrow}
-use Rattle.layout.specs.declared.CbrState.{CbrState}
 use Rattle.layout.proofs.RoundTrip.{state_fits_lem}
-
-abbrev no_state : CbrState
-no_state = record { fits = false; writer = no_writer }
-
-pub unfit_told : (w : CbrWriter) → w ≡ no_writer → record { fits = false; writer = w } ≡ no_state
-unfit_told w e = rw e
 
 -- a test in strict operations, and the definition's
 or-pick : (a b : Bool) → (not a || b) ≡ pick a b true
@@ -47,10 +38,10 @@ waits-low code q h =
     pick_elim Low (eqb code 0) (λ e f. omega (arith, eqb-true q 0 (rw e at (h))))
     (λ e. pick_elim Low (eqb code 1) (λ e. low I) (λ e. pick_elim Low (eqb code 2) (λ e. low P) (λ e. low B)))
   where
-    Low : Pending → Type 0
+    Low : Option (PictureKind × ℕ) → Type 0
     Low x = pending_fits x ≡ true → q ≤ 31
 
-    low : (k : PictureKind) → pending_fits (Waits k q) ≡ true → q ≤ 31
+    low : (k : PictureKind) → pending_fits (Some (k, q)) ≡ true → q ≤ 31
     low k f = (quantiser_is f).high
 
 module _ (s : List ℕ) where
@@ -87,7 +78,7 @@ module _ (s : List ℕ) where
   unfolding narrow
   is_narrow h n = simp (h, le-leb _ _ n.i, le-leb _ _ n.p, le-leb _ _ n.b, le-leb _ _ n.waits)
 
-  pub writer_told : (m : VbvCbrModel) (a b c i p q code waits n f : ℕ) (x : Pending) (k : VbvCadence) (o : VbvMode) (y : ℕ) → m ≡ (writer_at s).model
+  pub writer_told : (m : VbvCbrModel) (a b c i p q code waits n f : ℕ) (x : Option (PictureKind × ℕ)) (k : VbvCadence) (o : VbvMode) (y : ℕ) → m ≡ (writer_at s).model
       → a ≡ word_at s 9 → b ≡ word_at s 10 → c ≡ word_at s 11 → i ≡ word_at s 12 → p ≡ word_at s 13 → q ≡ word_at s 14
       → code ≡ word_at s 15 → waits ≡ word_at s 16 → x ≡ pending_of code waits → n ≡ word_at s 17 → f ≡ word_at s 18 → k ≡ cadence_in s → o ≡ mode_for y → y ≡ word_at s 19
       → ◌≡◌ {A = CbrWriter}
@@ -113,22 +104,21 @@ module _ (s : List ℕ) where
       }
 
   -- the ways through
-  not-state : (r : CbrState) → (state_fits s ≡ true → ⊥) → r ≡ no_state → r ≡ state_at s
+  not-state : (state_fits s ≡ true → ⊥) → None ≡ state_at s
   unfolding state_at
-  not-state r f e = pick_elim (λ x. r ≡ x) (state_fits s) (λ h. absurd (f h)) (λ h. e)
+  not-state f = pick_elim (λ (x : Option CbrWriter). None ≡ x) (state_fits s) (λ h. absurd (f h)) (λ h. refl)
 
-  pub way_short : (r : CbrState) → length s < state_size → r ≡ no_state → r ≡ state_at s
-  way_short r h = not-state r (λ e. absurd (omega (arith, (state_fits_lem s e).0)))
+  pub way_short : length s < state_size → None ≡ state_at s
+  way_short h = not-state (λ e. absurd (omega (arith, (state_fits_lem s e).0)))
 
   module _ (n : Bool) (e : n ≡ narrow s) where
-    pub way_wide : (r : CbrState) → n ≡ false → r ≡ no_state → r ≡ state_at s
-    way_wide r h =
-        not-state r (λ f. let g = state_fits_lem s f in true≢false (sym (is_narrow g.1 (fits-narrow g.1 g.2)) ∙ sym e ∙ h))
+    pub way_wide : n ≡ false → None ≡ state_at s
+    way_wide h = not-state (λ f. let g = state_fits_lem s f in true≢false (sym (is_narrow g.1 (fits-narrow g.1 g.2)) ∙ sym e ∙ h))
 
     module _ (w : CbrWriter) (f : Bool) (g : w ≡ writer_at s) (k : f ≡ writer_fits w) where
-      pub way_unfit : (r : CbrState) → f ≡ false → r ≡ no_state → r ≡ state_at s
-      way_unfit r h = not-state r (λ z. true≢false (sym (state_fits_lem s z).2 ∙ rw (← g, ← k) h))
+      pub way_unfit : f ≡ false → None ≡ state_at s
+      way_unfit h = not-state (λ z. true≢false (sym (state_fits_lem s z).2 ∙ rw (← g, ← k) h))
 
-      pub way_held : state_size ≤ length s → n ≡ true → f ≡ true → ◌≡◌ {A = CbrState} (record { fits = true; writer = w }) (state_at s)
+      pub way_held : state_size ≤ length s → n ≡ true → f ≡ true → Some w ≡ state_at s
       unfolding state_at state_fits pick
       way_held h t u = rw (le-leb state_size (length s) h, (narrow_is (sym e ∙ t)).0, ← g, ← k, u)

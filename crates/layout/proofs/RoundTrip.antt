@@ -14,11 +14,11 @@ use Rattle.bits.proofs.Over.{over_is}
 use Rattle.bits.proofs.Flags.{both_true}
 use Rattle.headers.specs.Answers.{flag_of}
 use Rattle.headers.proofs.Answers.{flag_same, flag-back, flag-bound}
+use Rattle.layers.specs.declared.PictureKind.{PictureKind}
 use Rattle.layers.specs.declared.PictureKind.TheVariants.{I, P, B}
 use Rattle.vbv.specs.declared.VbvCbrModel.{VbvCbrModel}
 use Rattle.rate_control.specs.Writer.{writer_fits}
-use Rattle.rate_control.specs.declared.Pending.{Pending}
-use Rattle.rate_control.specs.declared.Pending.TheVariants.{Nothing, Waits}
+use Rattle.std.specs.Prelude.{Option, Some, None}
 use Rattle.rate_control.specs.declared.CbrWriter.{CbrWriter}
 use Rattle.rate_control.proofs.States.{Three, of_three, is_three}
 use Rattle.words.specs.Words.{words_bytes, laid, word_at}
@@ -43,20 +43,20 @@ length-state w t q = omega (arith, length_words (state_words w), length-state_wo
 
 -- ---- read what was put
 
-pending_read : (p : Pending) → pending_of (pending_code p) (pending_quantiser p) ≡ p
+pending_read : (p : Option (PictureKind × ℕ)) → pending_of (pending_code p) (pending_quantiser p) ≡ p
 unfolding pending_of pending_code pending_quantiser pick
-pending_read Nothing = refl
-pending_read (Waits I q) = refl
-pending_read (Waits P q) = refl
-pending_read (Waits B q) = refl
+pending_read None = refl
+pending_read (Some (I, q)) = refl
+pending_read (Some (P, q)) = refl
+pending_read (Some (B, q)) = refl
 
 -- no quantiser where none is pending
-pending_told : (p : Pending) → pick (eqb (pending_code p) 0) (eqb (pending_quantiser p) 0) true ≡ true
+pending_told : (p : Option (PictureKind × ℕ)) → pick (eqb (pending_code p) 0) (eqb (pending_quantiser p) 0) true ≡ true
 unfolding pending_code pending_quantiser pick
-pending_told Nothing = refl
-pending_told (Waits I q) = refl
-pending_told (Waits P q) = refl
-pending_told (Waits B q) = refl
+pending_told None = refl
+pending_told (Some (I, q)) = refl
+pending_told (Some (P, q)) = refl
+pending_told (Some (B, q)) = refl
 
 -- the words of a writer stand in a place
 abbrev Stand : CbrWriter → List ℕ → Type 0
@@ -71,7 +71,7 @@ stand_put w place h t q l k g =
     (word_put (state_small w h) (drop (length b) place) k (omega (arith, lit< {m = k} {n = 25} g, length-state_words w t q)))
 
 -- so they are read: the codes fit, and the writer is that one
-stand_read : (m : VbvCbrModel) {t q : List ℕ} → Three t → Three q → (p : Pending) (n : ℕ) (f : Bool) (k : VbvCadence) (v : Bool) (s : List ℕ)
+stand_read : (m : VbvCbrModel) {t q : List ℕ} → Three t → Three q → (p : Option (PictureKind × ℕ)) (n : ℕ) (f : Bool) (k : VbvCadence) (v : Bool) (s : List ℕ)
     → Stand (record { model = m; target_bits = t; q = q; pending = p; stuffing_bytes = n; finished = f; cadence = k; variable = v }) s
     → (codes_fit s ≡ true)
     × (writer_at s ≡ record { model = m; target_bits = t; q = q; pending = p; stuffing_bytes = n; finished = f; cadence = k; variable = v })

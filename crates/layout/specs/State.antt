@@ -1,22 +1,19 @@
 -- A writer's state as bytes (docs/LAYOUT.md, 'A writer's state'), and the writer that bytes hold.
 -- Bytes that are too few, or with a value out of its range, hold none (paper 01, 'Rust forms to replace').
 -- Assumes nothing.
-use Rattle.std.specs.Prelude.{ℕ, ◌+◌, List, [], ◌∷◌, ◌++◌, Bool, true, false, not, ◌&&◌, leb, eqb, length}
+use Rattle.std.specs.Prelude.{ℕ, ◌+◌, List, [], ◌∷◌, ◌++◌, Bool, true, not, ◌&&◌, leb, eqb, length, Option, Some, None}
 use Rattle.bits.specs.Bits.{pick}
 use Rattle.headers.specs.Answers.{flag_of}
+use Rattle.layers.specs.declared.PictureKind.{PictureKind}
 use Rattle.layers.specs.declared.PictureKind.TheVariants.{I, P, B}
 use Rattle.cadence.specs.declared.OpenField.{OpenField}
 use Rattle.cadence.specs.declared.OpenField.TheVariants.{Closed, LedByAnchor, LedByOther}
 use Rattle.cadence.specs.declared.VbvCadence.{VbvCadence}
 use Rattle.verify.specs.Mode.{mpeg2}
-use Rattle.rate_control.specs.Create.{no_writer}
 use Rattle.rate_control.specs.Writer.{index, writer_fits}
-use Rattle.rate_control.specs.declared.Pending.{Pending}
-use Rattle.rate_control.specs.declared.Pending.TheVariants.{Nothing, Waits}
 use Rattle.rate_control.specs.declared.CbrWriter.{CbrWriter}
 use Rattle.words.specs.Words.{words_bytes, word_at}
 use Rattle.layout.specs.Mode.{mode_number, is_mode, mode_for}
-use Rattle.layout.specs.declared.CbrState.{CbrState}
 
 -- twenty-five words of 8 bytes
 abbrev pub state_size : ℕ
@@ -25,14 +22,14 @@ state_size = 200
 -- ---- written
 
 -- the pending picture's kind: 0 none, 1 I, 2 P, 3 B
-unfoldable pub pending_code : Pending → ℕ
-pending_code Nothing = 0
-pending_code (Waits k q) = 1 + index k
+unfoldable pub pending_code : Option (PictureKind × ℕ) → ℕ
+pending_code None = 0
+pending_code (Some p) = 1 + index p.0
 
 -- its quantiser; 0 where there is none
-unfoldable pub pending_quantiser : Pending → ℕ
-pending_quantiser Nothing = 0
-pending_quantiser (Waits k q) = q
+unfoldable pub pending_quantiser : Option (PictureKind × ℕ) → ℕ
+pending_quantiser None = 0
+pending_quantiser (Some p) = p.1
 
 -- the open field: 0 none, 1 led by I or P, 2 led by B
 unfoldable pub open_code : OpenField → ℕ
@@ -70,12 +67,12 @@ state_bytes w = words_bytes (state_words w)
 
 -- ---- read
 
-unfoldable pub pending_of : ℕ → ℕ → Pending
+unfoldable pub pending_of : ℕ → ℕ → Option (PictureKind × ℕ)
 pending_of code q =
-    pick (eqb code 0) Nothing
-    (pick (eqb code 1) (Waits I q)
-    (pick (eqb code 2) (Waits P q)
-    (Waits B q)))
+    pick (eqb code 0) None
+    (pick (eqb code 1) (Some (I, q))
+    (pick (eqb code 2) (Some (P, q))
+    (Some (B, q))))
 
 unfoldable pub open_of : ℕ → OpenField
 open_of code = pick (eqb code 0) Closed (pick (eqb code 1) LedByAnchor LedByOther)
@@ -138,6 +135,6 @@ writer_at s = record {
 unfoldable pub state_fits : List ℕ → Bool
 state_fits s = leb state_size (length s) && (codes_fit s && writer_fits (writer_at s))
 
--- beside bytes that hold none stands a writer of no use
-unfoldable pub state_at : List ℕ → CbrState
-state_at s = pick (state_fits s) (record { fits = true; writer = writer_at s }) (record { fits = false; writer = no_writer })
+-- the writer that bytes hold, if they hold one
+unfoldable pub state_at : List ℕ → Option CbrWriter
+state_at s = pick (state_fits s) (Some (writer_at s)) None

@@ -1,4 +1,5 @@
 // Report, refusal and the answer to an offer in their places; a place that is too short is left alone.
+// Words and codes are the C interface (docs/LAYOUT.md), and so numbers.
 ghost use Rattle.std.specs.Prelude.{◌≡◌};
 ghost use Rattle.words.specs.Words.{words_bytes, laid};
 ghost use Rattle.bits.specs.Refusals.{refused};
@@ -6,7 +7,7 @@ ghost use Rattle.rate_control.specs.Answers.{offer_answer};
 ghost use Rattle.layout.specs.Answers.{report_words, refusal_words, answer_words};
 
 use bits::VbvRefusal;
-use rate_control::CbrAnswer;
+use rate_control::{CbrError, CbrGiven};
 use verify::VbvStreamReport;
 use words::put_words;
 
@@ -31,61 +32,69 @@ pub fn put_refusal(place: &mut [u8], r: VbvRefusal)
     ensures { place.new ≡ laid (words_bytes (refusal_words r)) place.old }
 {
     let words = [
-        r.number as u64,
+        u64::from(r.number),
         r.picture,
-        r.coded as u64,
-        r.expected as u64,
+        u64::from(r.coded),
+        u64::from(r.expected),
     ];
     put_words(place, &words);
+}
+
+#[tactic(auto, unfolding(crate::specs::Answers::answer_words))]
+fn refused_words(refusal: VbvRefusal) -> [u64; 9]
+    ensures { result ≡ answer_words (refused refusal.«number» refusal.picture refusal.coded refusal.expected) }
+{
+    [
+        2,
+        u64::from(refusal.number),
+        refusal.picture,
+        u64::from(refusal.coded),
+        u64::from(refusal.expected),
+        0,
+        0,
+        0,
+        0,
+    ]
+}
+
+#[tactic(auto, unfolding(crate::specs::Answers::answer_words))]
+fn words_of(answer: Result<CbrGiven, CbrError>) -> [u64; 9]
+    ensures { result ≡ answer_words (offer_answer answer) }
+{
+    match answer {
+        Ok(
+            CbrGiven::Placed {
+                q,
+                vbv_delay,
+                bytes,
+                stuffing_bytes,
+            },
+        ) => [
+            0,
+            0,
+            0,
+            0,
+            0,
+            u64::from(q),
+            u64::from(vbv_delay),
+            bytes,
+            stuffing_bytes,
+        ],
+        Ok(CbrGiven::Again(q)) => [1, 0, 0, 0, 0, u64::from(q), 0, 0, 0],
+        Err(error) => refused_words(error.refusal()),
+    }
 }
 
 // A refused offer.
-#[tactic(auto, unfolding(crate::specs::Answers::answer_words))]
 pub fn put_refused(place: &mut [u8], refusal: VbvRefusal)
     ensures { place.new ≡ laid (words_bytes (answer_words (refused refusal.«number» refusal.picture refusal.coded refusal.expected))) place.old }
 {
-    let words = [
-        2,
-        refusal.number as u64,
-        refusal.picture,
-        refusal.coded as u64,
-        refusal.expected as u64,
-        0,
-        0,
-        0,
-        0,
-    ];
-    put_words(place, &words);
+    put_words(place, &refused_words(refusal));
 }
 
 // The answer to an offer.
-pub fn put_answer(place: &mut [u8], answer: CbrAnswer)
+pub fn put_answer(place: &mut [u8], answer: Result<CbrGiven, CbrError>)
     ensures { place.new ≡ laid (words_bytes (answer_words (offer_answer answer))) place.old }
 {
-    match answer {
-        CbrAnswer::Placed {
-            q,
-            vbv_delay,
-            bytes,
-            stuffing_bytes,
-        } => {
-            let words = [
-                0,
-                0,
-                0,
-                0,
-                0,
-                q as u64,
-                vbv_delay as u64,
-                bytes,
-                stuffing_bytes,
-            ];
-            put_words(place, &words);
-        }
-        CbrAnswer::Again(q) => {
-            let words = [1, 0, 0, 0, 0, q as u64, 0, 0, 0];
-            put_words(place, &words);
-        }
-        CbrAnswer::Refused(error) => put_refused(place, error.refusal()),
-    }
+    put_words(place, &words_of(answer));
 }

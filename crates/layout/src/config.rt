@@ -1,16 +1,17 @@
 // A configuration as bytes, and the writer that is created with it.
 ghost use Rattle.std.specs.Prelude.{◌≡◌};
-ghost use Rattle.bits.specs.Refusals.{or_else};
-ghost use Rattle.rate_control.specs.Answers.{created_answer};
-ghost use Rattle.rate_control.specs.Create.{create, no_writer};
+ghost use Rattle.vbv.specs.Answers.{model_answer};
+ghost use Rattle.rate_control.specs.Create.{create};
 ghost use Rattle.layout.specs.Config.{config_in};
 ghost use Rattle.layout.specs.Steps.{or_outside, narrowed};
 
 use crate::mode::mode_for;
-use rate_control::{CbrConfig, CbrCreated, CbrWriter};
+use rate_control::{CbrConfig, CbrWriter};
+use vbv::VbvError;
 use words::word_at;
 
-// A value as it is, or one out of its range where it is above the most.
+// A value as it is, or one out of its range where it is above the most, so that creation refuses it in its own order. (Of one
+// type's whole range `try_from(..).unwrap_or(outside)` would do; most of these are narrower.)
 fn or_outside(most: u64, outside: u64, value: u64) -> u64
     ensures { result ≡ or_outside most outside value }
 {
@@ -35,9 +36,8 @@ fn config_at(place: &[u8]) -> CbrConfig
 }
 
 // The writer of a configuration's words, as creation answers to their values.
-pub fn create_from(place: &[u8]) -> CbrCreated
-    ensures result_value { created_answer result ≡ create (config_in place.now) }
-    ensures writer_value { result.writer ≡ or_else no_writer (create (config_in place.now)) }
+pub fn create_from(place: &[u8]) -> Result<CbrWriter, VbvError>
+    ensures { model_answer result ≡ create (config_in place.now) }
 {
     CbrWriter::create(config_at(place))
 }

@@ -10,7 +10,6 @@ pub use crate::answers::{put_answer, put_refusal, put_refused, put_report};
 pub use crate::config::create_from;
 pub use crate::mode::{is_mode, mode_for};
 pub use crate::state::{put_state, read_state};
-use rate_control::CbrWriter;
 
 // How many bytes each takes.
 pub const REPORT_BYTES: usize = 40;
@@ -22,10 +21,3 @@ pub const ANSWER_BYTES: usize = 72;
 pub const CONFIG_BYTES: usize = 72;
 
 pub const STATE_BYTES: usize = 200;
-
-// Whether a place holds a writer, and the writer.
-#[derive(Drop)]
-pub struct CbrState {
-    pub fits: bool,
-    pub writer: CbrWriter,
-}

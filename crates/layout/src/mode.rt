@@ -1,4 +1,4 @@
-// The numbers of the modes.
+// The numbers of the modes, as the C interface has them.
 ghost use Rattle.std.specs.Prelude.{◌≡◌};
 ghost use Rattle.layout.specs.Mode.{is_mode, mode_for};
 
@@ -26,7 +26,8 @@ pub fn is_mode(number: u64) -> bool
                 | ((number == MPEG2_VARIABLE) | (number == MPEG2_FILM_VARIABLE))))
 }
 
-// The mode of a number.
+// The mode of a number. It answers for every number, as the definition `mode_for` (specs/Mode, which may not change) does, by
+// which `config_in` and `cadence_in` speak; `is_mode` says which are modes. Flag by flag, as there: a `match` is no plainer.
 #[tactic(auto, unfolding(crate::specs::Mode::mode_for, bits::specs::Bits::pick))]
 pub fn mode_for(number: u64) -> VbvMode
     ensures { result ≡ mode_for number }

@@ -1,51 +1,42 @@
-// A writer's state as bytes, and the writer that a place holds.
-ghost use Rattle.std.specs.Prelude.{◌≡◌, false};
+// A writer's state as bytes, and the writer that a place holds. Words and codes are the C interface (docs/LAYOUT.md).
+ghost use Rattle.std.specs.Prelude.{◌≡◌};
 ghost use Rattle.headers.specs.Answers.{flag_of};
-ghost use Rattle.rate_control.specs.Create.{no_writer};
 ghost use Rattle.words.specs.Words.{laid};
 ghost use Rattle.verify.specs.Mode.{mpeg2};
 ghost use Rattle.layout.specs.Mode.{mode_number};
 ghost use Rattle.layout.specs.State.{pending_code, pending_quantiser, open_code, pending_of, open_of, cadence_codes_fit, cadence_in, writer_at, state_bytes, state_at};
 ghost use Rattle.layout.specs.Steps.{Narrow, narrow};
 
+use crate::STATE_BYTES;
 use crate::mode::{
     MPEG1, MPEG2, MPEG2_FILM, MPEG2_FILM_VARIABLE, MPEG2_VARIABLE, is_mode, mode_for,
 };
-use crate::{CbrState, STATE_BYTES};
 use cadence::{OpenField, VbvCadence};
 use layers::PictureKind;
-use rate_control::{CbrWriter, Pending, no_writer};
+use rate_control::CbrWriter;
 use vbv::{VbvCbrModel, VbvParams};
 use words::{put_words, word_at};
 
-fn flag(value: bool) -> u64
-    ensures { result ≡ flag_of value }
-{
-    if value { 1 } else { 0 }
-}
-
 // 0 where no picture is pending, 1 I, 2 P, 3 B.
 #[tactic(auto, unfolding(crate::specs::State::pending_code))]
-fn pending_code(pending: Pending) -> u64
+fn pending_code(pending: Option<(PictureKind, u8)>) -> u64
     ensures { result ≡ pending_code pending }
 {
     match pending {
-        Pending::Nothing => 0,
-        Pending::Waits(kind, _) => match kind {
-            PictureKind::I => 1,
-            PictureKind::P => 2,
-            PictureKind::B => 3,
-        },
+        None => 0,
+        Some((PictureKind::I, _)) => 1,
+        Some((PictureKind::P, _)) => 2,
+        Some((PictureKind::B, _)) => 3,
     }
 }
 
 #[tactic(auto, unfolding(crate::specs::State::pending_quantiser))]
-fn pending_quantiser(pending: Pending) -> u64
+fn pending_quantiser(pending: Option<(PictureKind, u8)>) -> u64
     ensures { result ≡ pending_quantiser pending }
 {
     match pending {
-        Pending::Nothing => 0,
-        Pending::Waits(_, q) => q as u64,
+        None => 0,
+        Some((_, q)) => u64::from(q),
     }
 }
 
@@ -65,56 +56,44 @@ fn open_code(waiting: OpenField) -> u64
 fn mode_word(film: bool, variable: bool) -> u64
     ensures { result ≡ mode_number (mpeg2 film variable) }
 {
-    if variable {
-        return if film {
-            MPEG2_FILM_VARIABLE
-        } else {
-            MPEG2_VARIABLE
-        };
+    match (film, variable) {
+        (false, false) => MPEG2,
+        (true, false) => MPEG2_FILM,
+        (false, true) => MPEG2_VARIABLE,
+        (true, true) => MPEG2_FILM_VARIABLE,
     }
-    if film { MPEG2_FILM } else { MPEG2 }
 }
 
 // A writer's state over the first bytes of a place; a place that is too short is left alone.
 pub fn put_state(place: &mut [u8], writer: CbrWriter)
     ensures { place.new ≡ laid (state_bytes writer) place.old }
 {
-    let q = writer.q;
-    let i = q[0] as u64;
-    let p = q[1] as u64;
-    let b = q[2] as u64;
-    let model = writer.model;
-    let params = model.params;
-    let target_bits = writer.target_bits;
-    let pending = writer.pending;
-    let cadence = writer.cadence;
-    let waiting = cadence.waiting;
     let words = [
-        params.bit_rate,
-        params.buffer_size_bits,
-        params.frn,
-        params.frd,
-        model.whole,
-        model.rest,
-        model.prev_end_bits,
-        model.removed,
-        flag(model.started),
-        target_bits[0],
-        target_bits[1],
-        target_bits[2],
-        i,
-        p,
-        b,
-        pending_code(pending),
-        pending_quantiser(pending),
+        writer.model.params.bit_rate,
+        writer.model.params.buffer_size_bits,
+        writer.model.params.frn,
+        writer.model.params.frd,
+        writer.model.whole,
+        writer.model.rest,
+        writer.model.prev_end_bits,
+        writer.model.removed,
+        u64::from(writer.model.started),
+        writer.target_bits[0],
+        writer.target_bits[1],
+        writer.target_bits[2],
+        u64::from(writer.q[0]),
+        u64::from(writer.q[1]),
+        u64::from(writer.q[2]),
+        pending_code(writer.pending),
+        pending_quantiser(writer.pending),
         writer.stuffing_bytes,
-        flag(writer.finished),
-        mode_word(cadence.film, writer.variable),
-        flag(cadence.progressive),
-        flag(cadence.low_delay),
-        flag(cadence.repeat),
-        flag(cadence.top),
-        open_code(waiting),
+        u64::from(writer.finished),
+        mode_word(writer.cadence.film, writer.variable),
+        u64::from(writer.cadence.progressive),
+        u64::from(writer.cadence.low_delay),
+        u64::from(writer.cadence.repeat),
+        u64::from(writer.cadence.top),
+        open_code(writer.cadence.waiting),
     ];
     put_words(place, &words);
 }
@@ -167,14 +146,14 @@ fn narrow(place: &[u8]) -> bool
 }
 
 #[tactic(auto, unfolding(crate::specs::State::pending_of, bits::specs::Bits::pick))]
-fn pending_at(code: u64, q: u8) -> Pending
+fn pending_at(code: u64, q: u8) -> Option<(PictureKind, u8)>
     ensures { result ≡ pending_of code q }
 {
     match code {
-        0 => Pending::Nothing,
-        1 => Pending::Waits(PictureKind::I, q),
-        2 => Pending::Waits(PictureKind::P, q),
-        _ => Pending::Waits(PictureKind::B, q),
+        0 => None,
+        1 => Some((PictureKind::I, q)),
+        2 => Some((PictureKind::P, q)),
+        _ => Some((PictureKind::B, q)),
     }
 }
 
@@ -227,27 +206,13 @@ fn writer_at(place: &[u8]) -> CbrWriter
     }
 }
 
-fn unfit() -> CbrState
-    ensures { result ≡ (record { fits = false; writer = no_writer }) }
-{
-    CbrState {
-        fits: false,
-        writer: no_writer(),
-    }
-}
-
 // The writer that a place holds: none where it is too short or has a value out of its range.
-pub fn read_state(place: &[u8]) -> CbrState
+pub fn read_state(place: &[u8]) -> Option<CbrWriter>
     ensures { result ≡ state_at place.now }
 {
-    if place.len() < STATE_BYTES {
-        return unfit();
+    if place.len() < STATE_BYTES || !narrow(place) {
+        return None;
     }
-    if narrow(place) {
-        let writer = writer_at(place);
-        if writer.fits() {
-            return CbrState { fits: true, writer };
-        }
-    }
-    unfit()
+    let writer = writer_at(place);
+    if writer.fits() { Some(writer) } else { None }
 }

@@ -10,11 +10,11 @@ use Rattle.bits.specs.Bits.{pick}
 use Rattle.bits.specs.Refusals.{value, refused}
 use Rattle.bits.specs.Fields.{read_fields, read_header}
 use Rattle.bits.specs.Answers.{in_places, fields_answer}
-use Rattle.bits.specs.declared.Fields.{Fields}
-use Rattle.bits.specs.declared.Outcome.TheVariants.{Done, Short, Bad}
+use Rattle.bits.specs.declared.FieldsError.{FieldsError}
+use Rattle.std.specs.Prelude.{Result, Ok}
 use Rattle.bits.specs.StartCodes.{start_code, extension_start_code}
 use Rattle.bits.proofs.Flags.{pick_elim}
-use Rattle.bits.proofs.Reading.{ParseOutcome, broken, whole, then_seen, fields_seen, header_seen, read_append, header_got, header_append, answer-short, answer_bad, fields-done, header_done}
+use Rattle.bits.proofs.Reading.{ParseOutcome, broken, whole, then_seen, fields_seen, header_seen, read_append, header_got, header_append, fields-done, header_done}
 use Rattle.picture_header.specs.CodingExtension.{
   motion_code_fields,
   motion_codes_fit,
@@ -42,43 +42,27 @@ after_codes-same : (s h k : List ℕ) → ((i : ℕ) → get_or h i 0 ≡ get_or
 unfolding after_codes coding_extension_of
 after_codes-same s h k e = rw (e 1, e 2, e 3, e 4)
 
--- the ways after the f_codes
-module _ (r : Fields) (s h : List ℕ) (e : fields_answer r ≡ in_places (read_fields coding_fields s 52)) where
-  pub after-short : r.outcome ≡ Short → refused 1 0 0 0 ≡ after_codes s h
-  unfolding after_codes
-  after-short o = rw (answer-short r (read_fields coding_fields s 52) e o)
-
-  pub after_bad : r.outcome ≡ Bad → refused 2 0 0 0 ≡ after_codes s h
-  unfolding after_codes
-  after_bad o = rw (answer_bad r (read_fields coding_fields s 52) e o)
-
-  pub after-done : r.outcome ≡ Done → value (coding_extension_of h r.values) ≡ after_codes s h
-  unfolding after_codes
-  after-done o =
-      let d = fields-done r coding_fields s 52 e o in
-      rw d.parsed (ap value (coding_same h h r.values d.vs (λ i. refl) d.same))
-
--- the ways of the whole extension
-module _ (r : Fields) (s : List ℕ) (e : fields_answer r ≡ in_places (read_header (start_code extension_start_code) motion_code_fields s)) where
-  pub coding_short : r.outcome ≡ Short → refused 1 0 0 0 ≡ picture_coding_extension s
-  unfolding picture_coding_extension
-  coding_short o = rw (answer-short r (read_header (start_code extension_start_code) motion_code_fields s) e o)
-
-  pub coding_bad : r.outcome ≡ Bad → refused 2 0 0 0 ≡ picture_coding_extension s
-  unfolding picture_coding_extension
-  coding_bad o = rw (answer_bad r (read_header (start_code extension_start_code) motion_code_fields s) e o)
-
-  pub coding_unfit : r.outcome ≡ Done → motion_codes_fit r.values ≡ false → refused 2 0 0 0 ≡ picture_coding_extension s
+-- after a read of the f_codes: what was found stands for the values
+module _ (r : Result (List ℕ) FieldsError) (s : List ℕ) {h : List ℕ} (e : fields_answer r ≡ in_places (read_header (start_code extension_start_code) motion_code_fields s)) (o : r ≡ Ok h) where
+  pub coding_unfit : motion_codes_fit h ≡ false → refused 2 0 0 0 ≡ picture_coding_extension s
   unfolding picture_coding_extension pick
-  coding_unfit o f =
+  coding_unfit f =
       let d = header_done r (start_code extension_start_code) motion_code_fields s e o in
-      rw (d.parsed, ← codes_same r.values d.vs d.same, f)
+      rw (d.parsed, ← codes_same h d.vs d.same, f)
 
-  pub coding_fit : r.outcome ≡ Done → motion_codes_fit r.values ≡ true → after_codes s r.values ≡ picture_coding_extension s
+  pub coding_fit : motion_codes_fit h ≡ true → after_codes s h ≡ picture_coding_extension s
   unfolding picture_coding_extension pick
-  coding_fit o f =
+  coding_fit f =
       let d = header_done r (start_code extension_start_code) motion_code_fields s e o in
-      rw (d.parsed, ← codes_same r.values d.vs d.same, f) (after_codes-same s r.values d.vs d.same)
+      rw (d.parsed, ← codes_same h d.vs d.same, f) (after_codes-same s h d.vs d.same)
+
+-- and after one of the rest
+pub after-done : (r : Result (List ℕ) FieldsError) (s h : List ℕ) {vs : List ℕ} → fields_answer r ≡ in_places (read_fields coding_fields s 52) → r ≡ Ok vs
+    → value (coding_extension_of h vs) ≡ after_codes s h
+unfolding after_codes
+after-done r s h {vs} e o =
+    let d = fields-done r coding_fields s 52 e o in
+    rw d.parsed (ap value (coding_same h h vs d.vs (λ i. refl) d.same))
 
 -- what was read of a parsed one
 pub record CodingParsed (s : List ℕ) (x : PictureCodingExtension) : Type 0 where

@@ -17,14 +17,8 @@ use Rattle.bits.specs.Answers.{read_bits}
 use Rattle.bits.proofs.Laws.{bits_none, bits_more, bits_drop, bit_list-length, bit_list-append, bit_list-at}
 use Rattle.bits.proofs.Reading.{ParseOutcome, cut, whole, then_seen, bits_found, missed, there_is, there_true, rest_is, there-drop}
 use Rattle.picture_header.specs.PictureHeader.{extra, extra_at}
-use Rattle.picture_header.specs.Answers.{extra_answer}
-use Rattle.picture_header.specs.declared.ExtraRead.{ExtraRead}
 use Rattle.bits.proofs.Following.{Stays, then_stays}
 use Rattle.bits.proofs.Flags.{clash}
-
--- the case, by what is told of it
-pub extra_case : {r x : ExtraRead} {a : Answer ℕ} → r ≡ x → extra_answer r ≡ a → extra_answer x ≡ a
-extra_case e f = rw (← e) f
 
 -- the extra information: bits passed over are bits dropped
 pass_over : (k : ℕ) (bs : List ℕ) → extra k bs ≡ extra 0 (drop k bs)

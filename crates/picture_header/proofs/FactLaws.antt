@@ -39,11 +39,6 @@ frame_by TopField = (λ e. absurd (true≢false e), λ e. cc)
 frame_by BottomField = (λ e. absurd (true≢false e), λ e. cc)
 frame_by Frame = (λ e. refl, λ e. refl)
 
-pub facts_by_lem : (h : Mpeg2PictureHeader) (x : PictureCodingExtension)
-    → facts_of h x ≡ facts_by h.picture_coding_type x.picture_structure x.repeat_first_field x.top_field_first
-unfolding facts_of
-facts_by_lem h x = refl
-
 pub facts_are : (h : Mpeg2PictureHeader) (x : PictureCodingExtension)
     → facts_of h x
     ≡ record {

@@ -7,5 +7,4 @@ pub mod Picture
 pub mod PictureHeader
 pub mod Straight
 pub mod OtherDelay
-pub mod Cases
 pub mod Numbering

@@ -21,15 +21,14 @@ use Rattle.bits.proofs.Flags.{clash}
 use Rattle.headers.specs.StartCode.{leading_zeros}
 use Rattle.picture_header.specs.PictureHeader.{picture_fields, forward, backward, vector_fields, motion_fields, coding_type, code_if, extra, extra_at, extra_bit, picture_of, after_delay, picture_header, picture_header_bits, picture_header_bytes}
 use Rattle.picture_header.specs.Picture.{picture}
-use Rattle.picture_header.specs.Steps.{after_header}
 use Rattle.picture_header.specs.declared.PictureCodingType.{PictureCodingType}
 use Rattle.picture_header.specs.declared.PictureCodingType.TheVariants.{Intra, Predictive, Bidirectional, DcIntra}
-use Rattle.picture_header.specs.declared.OptionCode.TheVariants.{Some as SomeCode}
+use Rattle.std.specs.Prelude.{Some}
 use Rattle.picture_header.specs.declared.Mpeg2PictureHeader.{Mpeg2PictureHeader}
 use Rattle.picture_header.specs.declared.PictureCodingExtension.{PictureCodingExtension}
 use Rattle.headers.proofs.StartCode.{next-found, next-same}
 use Rattle.picture_header.proofs.PictureHeader.{picture_header-parsed, header_least, header_inside, extra_bit_type, flag_bit_range, from, fields_are}
-use Rattle.picture_header.proofs.Picture.{picture-parsed, picture-after}
+use Rattle.picture_header.proofs.Picture.{after_header, picture-parsed, picture-after}
 
 -- t is s with another delay: bits 45 to 60
 pub record OtherDelay (s t : List ℕ) : Type 0 where
@@ -160,7 +159,7 @@ flag_set (zero ∷ bs) n e l = absurd (let z : 0 ≡ n = cc in omega arith)
 flag_set (suc b ∷ bs) n e l = omega arith
 
 module _ (s : List ℕ) (h : Mpeg2PictureHeader) (e : picture_header s ≡ value h) where
-  pub forward-code : (h.picture_coding_type ≡ Predictive) ⊎ (h.picture_coding_type ≡ Bidirectional) → h.fwd_f_code ≡ SomeCode (bits_at s 62 3)
+  pub forward-code : (h.picture_coding_type ≡ Predictive) ⊎ (h.picture_coding_type ≡ Bidirectional) → h.fwd_f_code ≡ Some (bits_at s 62 3)
   unfolding picture_of code_if pick
   forward-code k =
       let w = from s h e in

@@ -14,12 +14,9 @@ use Rattle.bits.specs.StartCodes.{start_code_prefix, start_code, extension_start
 use Rattle.bits.proofs.Flags.{clash}
 use Rattle.bits.proofs.Reading.{same_self, rest_is}
 use Rattle.headers.specs.StartCode.{next_start_code}
-use Rattle.picture_header.specs.Answers.{picture_answer}
-use Rattle.picture_header.specs.declared.PictureRead.{PictureRead}
 use Rattle.picture_header.specs.PictureHeader.{picture_header, picture_header_bytes}
 use Rattle.picture_header.specs.CodingExtension.{picture_coding_extension}
 use Rattle.picture_header.specs.Picture.{is_dc, picture}
-use Rattle.picture_header.specs.Steps.{after_header}
 use Rattle.picture_header.specs.Stability.{PictureStays}
 use Rattle.picture_header.specs.declared.PictureCodingType.{PictureCodingType}
 use Rattle.picture_header.specs.declared.PictureCodingType.TheVariants.{Intra, Predictive, Bidirectional, DcIntra}
@@ -30,10 +27,6 @@ use Rattle.bits.proofs.Following.{then_value}
 use Rattle.picture_header.proofs.Following.{past_value}
 use Rattle.picture_header.proofs.PictureHeader.{picture_header-append}
 use Rattle.picture_header.proofs.CodingExtension.{coding_long, coding_code, coding_append}
-
--- the case, by what is told of it
-pub picture_case : {r x : PictureRead} {a : Answer (Mpeg2PictureHeader × PictureCodingExtension)} → r ≡ x → picture_answer r ≡ a → picture_answer x ≡ a
-picture_case e f = rw (← e) f
 
 -- D pictures are refused, others not
 no_dc : (t : PictureCodingType) → (t ≡ DcIntra → ⊥) → is_dc t ≡ false
@@ -46,6 +39,13 @@ no_dc DcIntra n = absurd (n refl)
 was_no_dc : (t : PictureCodingType) → is_dc t ≡ false → t ≡ DcIntra → ⊥
 unfolding is_dc
 was_no_dc t e d = let z : true ≡ false = rw d at (e) in absurd (clash cc)
+
+-- the rest of specs/Picture.antt after a header that is no D picture's
+unfoldable pub after_header : List ℕ → Mpeg2PictureHeader → Answer (Mpeg2PictureHeader × PictureCodingExtension)
+after_header s h =
+    and_then (next_start_code s (picture_header_bytes h)) (λ place.
+    and_then (picture_coding_extension (drop place s)) (λ x.
+    value (h, x)))
 
 -- the ways after a header, and of both
 module _ (s : List ℕ) (h : Mpeg2PictureHeader) where
@@ -63,17 +63,12 @@ module _ (s : List ℕ) (h : Mpeg2PictureHeader) where
       → and_then (picture_coding_extension (take (length s - k) (drop k s))) (λ (x : PictureCodingExtension). value (h, x)) ≡ after_header s h
   after_part k m = rw (rest_is s k) (after-at k m)
 
-  pub picture_dc : picture_header s ≡ value h → h.picture_coding_type ≡ DcIntra → refused 2 0 0 0 ≡ picture s
-  unfolding picture is_dc pick
-  picture_dc p d = rw (p, d)
+  pub picture_past : picture_header s ≡ value h → is_dc h.picture_coding_type ≡ false → after_header s h ≡ picture s
+  unfolding picture after_header pick
+  picture_past p n = rw (p, n)
 
   pub picture-after : picture_header s ≡ value h → (h.picture_coding_type ≡ DcIntra → ⊥) → after_header s h ≡ picture s
-  unfolding picture after_header pick
-  picture-after p n = rw (p, no_dc _ n)
-
-pub picture-refused : (s : List ℕ) (n : ℕ) → refused n 0 0 0 ≡ picture_header s → refused n 0 0 0 ≡ picture s
-unfolding picture
-picture-refused s n p = rw (← p)
+  picture-after p n = picture_past p (no_dc _ n)
 
 -- the extension begins at the byte at which the header ends
 prefix_of : (s : List ℕ) (x : ℕ) → take 4 s ≡ start_code x → take 3 s ≡ start_code_prefix

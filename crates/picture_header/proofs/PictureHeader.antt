@@ -8,46 +8,37 @@ use Prim.Native.Nat.{ℕ, ◌+◌, ◌*◌, ◌≤◌, ◌<◌}
 use native.Mathlib.Omega.{arith}
 use lib.Dec.{eqb, lit≤}
 use lib.ListN.{length, get_or, take}
-use borrow.Author.Tests.{eqb-true, ne_eqb}
+use borrow.Author.Tests.{eqb-true}
 use Rattle.bits.specs.Bits.{pick, bits_at}
-use Rattle.bits.specs.Refusals.{Answer, value, refused}
-use Rattle.bits.specs.Fields.{field, any_value, read_fields, read_header}
+use Rattle.bits.specs.Refusals.{Answer, value, refused, and_then}
+use Rattle.bits.specs.Fields.{Field, field, any_value, read_fields, read_header}
 use Rattle.bits.specs.Answers.{in_places, fields_answer}
-use Rattle.bits.specs.declared.Fields.{Fields}
-use Rattle.bits.specs.declared.Outcome.TheVariants.{Done, Short, Bad}
+use Rattle.bits.specs.declared.FieldsError.{FieldsError}
+use Rattle.std.specs.Prelude.{Result, Ok}
 use Rattle.bits.specs.StartCodes.{start_code, picture_start_code}
 use Rattle.bits.proofs.Laws.{bits_bound}
-use Rattle.bits.proofs.Reading.{ParseOutcome, whole, then_seen, Read, fields_seen, header_seen, read_field, obeys_true, read_append, answer-short, answer_bad, fields-done, header_done, header_got, header_append}
-use Rattle.picture_header.specs.PictureHeader.{picture_fields, forward, backward, vector_fields, motion_fields, coding_type, extra_at, extra_bit, picture_of, after_delay, picture_header, picture_header_bytes, header_length}
-use Rattle.picture_header.specs.Answers.{picture_header_answer}
+use Rattle.bits.proofs.Reading.{ParseOutcome, whole, then_seen, Read, fields_seen, header_seen, read_field, obeys_true, read_append, fields-done, header_done, header_got, header_append}
+use Rattle.picture_header.specs.PictureHeader.{picture_fields, forward, backward, vector_fields, motion_fields, coding_type, extra_at, extra_bit, picture_of, after_delay, picture_header, picture_header_bytes}
 use Rattle.picture_header.specs.Stability.{PictureHeaderStays, PictureHeaderCut}
 use Rattle.picture_header.proofs.ExtraInformation.{extra_inside, extra_seen, extra-append}
 use Rattle.bits.proofs.Following.{then_value, then_stays, short_cut}
 use Rattle.picture_header.specs.declared.PictureCodingType.{PictureCodingType}
 use Rattle.picture_header.specs.declared.PictureCodingType.TheVariants.{Intra, Predictive, Bidirectional, DcIntra}
 use Rattle.picture_header.specs.declared.Mpeg2PictureHeader.{Mpeg2PictureHeader}
-use Rattle.picture_header.specs.declared.PictureHeaderRead.{PictureHeaderRead}
 
--- a type other than P and B has no motion vectors
-pub motion_none : (t : ℕ) → (t ≡ 2 → ⊥) → (t ≡ 3 → ⊥) → motion_fields t ≡ []
-unfolding motion_fields vector_fields forward backward
-motion_none t p b = rw (ne_eqb t 2 p, ne_eqb t 3 b)
+-- a vector's fields have three bits at most, whatever the type
+abbrev small_at : List Field → ℕ → Type 0
+small_at fs k = (get_or fs k (field 0 0 0)).high ≤ 7
 
-pub extra_bit-none : (t : ℕ) → (t ≡ 2 → ⊥) → (t ≡ 3 → ⊥) → extra_bit t ≡ 61
-unfolding extra_bit forward backward
-extra_bit-none t p b = rw (ne_eqb t 2 p, ne_eqb t 3 b)
-
--- an f_code has three bits, whatever the type
-pub motion_small : (t : ℕ) → ((get_or (motion_fields t) 1 (field 0 0 0)).high ≤ 7) × ((get_or (motion_fields t) 3 (field 0 0 0)).high ≤ 7)
+motion_small : (t : ℕ) → let fs = motion_fields t in small_at fs 0 × small_at fs 1 × small_at fs 2 × small_at fs 3
 unfolding motion_fields vector_fields
 motion_small t = case (forward t) (backward t)
   where
-    case : (f b : Bool) → let fs = vector_fields f ++ vector_fields b in
-        ((get_or fs 1 (field 0 0 0)).high ≤ 7) × ((get_or fs 3 (field 0 0 0)).high ≤ 7)
-    case true true = (lit≤ tt, lit≤ tt)
-    case true false = (lit≤ tt, lit≤ tt)
-    case false true = (lit≤ tt, lit≤ tt)
-    case false false = (lit≤ tt, lit≤ tt)
+    case : (f b : Bool) → let fs = vector_fields f ++ vector_fields b in small_at fs 0 × small_at fs 1 × small_at fs 2 × small_at fs 3
+    case true true = (lit≤ tt, lit≤ tt, lit≤ tt, lit≤ tt)
+    case true false = (lit≤ tt, lit≤ tt, lit≤ tt, lit≤ tt)
+    case false true = (lit≤ tt, lit≤ tt, lit≤ tt, lit≤ tt)
+    case false false = (lit≤ tt, lit≤ tt, lit≤ tt, lit≤ tt)
 
 -- the first flag's bit by the type
 abbrev pub flag_bit : PictureCodingType → ℕ
@@ -81,59 +72,31 @@ motion_same : (h m k : List ℕ) (n : ℕ) → ((i : ℕ) → get_or m i 0 ≡ g
 unfolding picture_of
 motion_same h m k n e = rw (e 0, e 1, e 2, e 3)
 
--- the ways of the whole header, from what the code's reads answer
-module _ (r : Fields) (s : List ℕ) (e : fields_answer r ≡ in_places (read_header (start_code picture_start_code) picture_fields s)) where
-  pub header_short : r.outcome ≡ Short → refused 1 0 0 0 ≡ picture_header s
-  unfolding picture_header
-  header_short o = rw (answer-short r (read_header (start_code picture_start_code) picture_fields s) e o)
+-- after a read of the first fields: what was found stands for the values
+pub header_after : (r : Result (List ℕ) FieldsError) (s : List ℕ) {h : List ℕ} → fields_answer r ≡ in_places (read_header (start_code picture_start_code) picture_fields s) → r ≡ Ok h
+    → after_delay s h ≡ picture_header s
+unfolding picture_header
+header_after r s {h} e o =
+    let d = header_done r (start_code picture_start_code) picture_fields s e o in
+    rw d.parsed (after_delay-same s h d.vs d.same)
 
-  pub header_bad : r.outcome ≡ Bad → refused 2 0 0 0 ≡ picture_header s
-  unfolding picture_header
-  header_bad o = rw (answer_bad r (read_header (start_code picture_start_code) picture_fields s) e o)
+-- and after one of the motion vectors' fields
+module _ (r : Result (List ℕ) FieldsError) (s h : List ℕ) {m : List ℕ} (e : fields_answer r ≡ in_places (read_fields (motion_fields (get_or h 1 0)) s 61)) (o : r ≡ Ok m) where
+  done : Read (motion_fields (get_or h 1 0)) (read_fields (motion_fields (get_or h 1 0)) s 61) m
+  done = fields-done r (motion_fields (get_or h 1 0)) s 61 e o
 
-  pub header_after : r.outcome ≡ Done → after_delay s r.values ≡ picture_header s
-  unfolding picture_header
-  header_after o =
-      let d = header_done r (start_code picture_start_code) picture_fields s e o in
-      rw d.parsed (after_delay-same s r.values d.vs d.same)
+  pub motion_codes : (get_or m 0 0 ≤ 7) × (get_or m 1 0 ≤ 7) × (get_or m 2 0 ≤ 7) × (get_or m 3 0 ≤ 7)
+  motion_codes =
+      let b = motion_small (get_or h 1 0) in
+      (omega (arith, done.high 0, b.0), omega (arith, done.high 1, b.1), omega (arith, done.high 2, b.2), omega (arith, done.high 3, b.3))
 
--- the ways after the delay
-module _ (r : Fields) (s h : List ℕ) (e : fields_answer r ≡ in_places (read_fields (motion_fields (get_or h 1 0)) s 61)) where
-  pub motion_short : r.outcome ≡ Short → refused 1 0 0 0 ≡ after_delay s h
+  pub motion_done : and_then (extra_at s (extra_bit (get_or h 1 0))) (λ n. value (picture_of h m n)) ≡ after_delay s h
   unfolding after_delay
-  motion_short o = rw (answer-short r (read_fields (motion_fields (get_or h 1 0)) s 61) e o)
-
-  pub motion_bad : r.outcome ≡ Bad → refused 2 0 0 0 ≡ after_delay s h
-  unfolding after_delay
-  motion_bad o = rw (answer_bad r (read_fields (motion_fields (get_or h 1 0)) s 61) e o)
-
-  module _ (o : r.outcome ≡ Done) where
-    done : Read (motion_fields (get_or h 1 0)) (read_fields (motion_fields (get_or h 1 0)) s 61) r
-    done = fields-done r (motion_fields (get_or h 1 0)) s 61 e o
-
-    pub motion_codes : (get_or r.values 1 0 ≤ 7) × (get_or r.values 3 0 ≤ 7)
-    motion_codes = (omega (arith, done.high 1, (motion_small (get_or h 1 0)).0), omega (arith, done.high 3, (motion_small (get_or h 1 0)).1))
-
-    pub motion_cut : refused 1 0 0 0 ≡ extra_at s (extra_bit (get_or h 1 0)) → refused 1 0 0 0 ≡ after_delay s h
-    unfolding after_delay
-    motion_cut q = rw (done.parsed, ← q)
-
-    pub motion_done : (n : ℕ) → value n ≡ extra_at s (extra_bit (get_or h 1 0)) → value (picture_of h r.values n) ≡ after_delay s h
-    unfolding after_delay
-    motion_done n q = rw (done.parsed, ← q) (ap value (motion_same h r.values done.vs n done.same))
-
--- the case, by what is told of it
-pub picture_header_case : {r x : PictureHeaderRead} {a : Answer Mpeg2PictureHeader} → r ≡ x → picture_header_answer r ≡ a → picture_header_answer x ≡ a
-picture_header_case e f = rw (← e) f
-
--- the length by the header
-pub header_length-refused : (s : List ℕ) (n : ℕ) → refused n 0 0 0 ≡ picture_header s → refused n 0 0 0 ≡ header_length s
-unfolding header_length
-header_length-refused s n e = rw (← e)
-
-pub length-parsed : (s : List ℕ) (h : Mpeg2PictureHeader) → value h ≡ picture_header s → value (picture_header_bytes h) ≡ header_length s
-unfolding header_length
-length-parsed s h e = rw (← e)
+  motion_done = rw done.parsed (case (extra_at s (extra_bit (get_or h 1 0))))
+    where
+      case : (a : Answer ℕ) → and_then a (λ n. value (picture_of h m n)) ≡ and_then a (λ n. value (picture_of h done.vs n))
+      case (value n) = ap value (motion_same h m done.vs n done.same)
+      case (refused n p c x) = refl
 
 -- what a parsed header comes from
 pub record From (s : List ℕ) (h : Mpeg2PictureHeader) : Type 0 where

@@ -1,6 +1,7 @@
 -- picture_header() (ISO/IEC 13818-2 6.2.3, 6.3.9; 11172-2 2.4.2.5): its fields in stream order, and what they are.
 -- Assumes nothing.
-use Rattle.std.specs.Prelude.{ℕ, zero, suc, ◌+◌, ◌*◌, ◌/◌, List, [], ◌∷◌, ◌++◌, Bool, true, false, ◌||◌, eqb, get_or, drop}
+use Rattle.std.specs.Prelude.{ℕ, zero, suc, ◌+◌, ◌*◌, ◌/◌, List, [], ◌∷◌, ◌++◌, Bool, true, false, ◌||◌, eqb, get_or, drop, Option}
+use Rattle.std.specs.Bool.{then_some}
 use Rattle.bits.specs.Bits.{pick, bit_list}
 use Rattle.bits.specs.Refusals.{Answer, value, refused, and_then}
 use Rattle.bits.specs.Fields.{Field, field, any_value, read_fields, read_header}
@@ -8,10 +9,6 @@ use Rattle.bits.specs.StartCodes.{start_code, picture_start_code}
 use Rattle.headers.specs.Answers.{flag_of}
 use Rattle.picture_header.specs.declared.PictureCodingType.{PictureCodingType}
 use Rattle.picture_header.specs.declared.PictureCodingType.TheVariants.{Intra, Predictive, Bidirectional, DcIntra}
-use Rattle.picture_header.specs.declared.OptionFlag.{OptionFlag}
-use Rattle.picture_header.specs.declared.OptionFlag.TheVariants.{Some as SomeFlag, None as NoFlag}
-use Rattle.picture_header.specs.declared.OptionCode.{OptionCode}
-use Rattle.picture_header.specs.declared.OptionCode.TheVariants.{Some as SomeCode, None as NoCode}
 use Rattle.picture_header.specs.declared.Mpeg2PictureHeader.{Mpeg2PictureHeader}
 
 abbrev pub picture_fields : List Field
@@ -56,11 +53,11 @@ extra_at s i = extra 0 (drop i (bit_list s))
 unfoldable pub extra_bit : ℕ → ℕ
 extra_bit t = 61 + 4 * flag_of (forward t) + 4 * flag_of (backward t)
 
-unfoldable pub flag_if : Bool → ℕ → OptionFlag
-flag_if b v = pick b (SomeFlag (eqb v 1)) NoFlag
+unfoldable pub flag_if : Bool → ℕ → Option Bool
+flag_if b v = then_some b (eqb v 1)
 
-unfoldable pub code_if : Bool → ℕ → OptionCode
-code_if b v = pick b (SomeCode v) NoCode
+unfoldable pub code_if : Bool → ℕ → Option ℕ
+code_if b v = then_some b v
 
 -- the header of the fields h and m, with n bytes of extra information
 unfoldable pub picture_of : List ℕ → List ℕ → ℕ → Mpeg2PictureHeader

@@ -11,10 +11,10 @@ use Rattle.headers.specs.Sequence.{sequence}
 use Rattle.headers.specs.declared.sequence_extension.Mpeg2Sequence.{Mpeg2Sequence}
 use Rattle.headers.proofs.Sequence.{sequence-append}
 use Rattle.vbv.specs.declared.VbvParams.{VbvParams}
-use Rattle.scan.specs.Codes.{Code, codes, found}
+use Rattle.std.specs.Prelude.{Option, Some, None}
+use Rattle.scan.specs.Codes.{codes, found}
 use Rattle.scan.specs.Pictures.{skip, not_sequence}
-use Rattle.scan.specs.declared.Found.{Found}
-use Rattle.scan.specs.declared.Found.TheVariants.{At, Nothing}
+use Rattle.scan.specs.declared.StartCode.{StartCode}
 use Rattle.cadence.specs.Cadence.{opened, cadence_fits}
 use Rattle.cadence.specs.declared.VbvCadence.{VbvCadence}
 use Rattle.cadence.proofs.Keeping.{opened-film, opened-plain, opened_is, opened-none, opened_itself, opened_unflagged, opened-fits}
@@ -39,14 +39,14 @@ pub plain_of : (s : List ℕ) → cadence_of false s ≡ opened false false fals
 unfolding cadence_of opened_at
 plain_of s = case (found (skip not_sequence (codes s)))
   where
-    case : (f : Found) → opened_at false s f ≡ opened false false false
-    case (At o c) = plain_by _
-    case Nothing = refl
+    case : (f : Option StartCode) → opened_at false s f ≡ opened false false false
+    case (Some c) = plain_by _
+    case None = refl
 
 -- ---- at the front of a stream
 
 -- a stream that begins with its sequence header opens the cadence that this one does
-pub cadence-first : (film : Bool) (s : List ℕ) (cs : List Code) → codes s ≡ record { offset = 0; code = sequence_header_code } ∷ cs → cadence_of film s ≡ cadence_by film s
+pub cadence-first : (film : Bool) (s : List ℕ) (cs : List StartCode) → codes s ≡ record { offset = 0; code = sequence_header_code } ∷ cs → cadence_of film s ≡ cadence_by film s
 unfolding cadence_of opened_at
 cadence-first film s cs c = rw (first-sequence s cs c)
 
@@ -77,17 +77,17 @@ by_fits film s = case (sequence s)
     case (refused n k c e) = opened-fits film false false
 
 -- of a stream
-stream_opens : (film : Bool) (s : List ℕ) (at code : ℕ) → found (skip not_sequence (codes s)) ≡ At at code → cadence_of film s ≡ cadence_by film (drop at s)
+stream_opens : (film : Bool) (s : List ℕ) (c : StartCode) → found (skip not_sequence (codes s)) ≡ Some c → cadence_of film s ≡ cadence_by film (drop c.offset s)
 unfolding cadence_of opened_at
-stream_opens film s o c e = rw e
+stream_opens film s c e = rw e
 
 pub of-film : (film : Bool) (s : List ℕ) → (cadence_of film s).film ≡ film
 unfolding cadence_of opened_at
 of-film film s = case (found (skip not_sequence (codes s)))
   where
-    case : (f : Found) → (opened_at film s f).film ≡ film
-    case (At o c) = by_film film (drop o s)
-    case Nothing = opened-film film false false
+    case : (f : Option StartCode) → (opened_at film s f).film ≡ film
+    case (Some c) = by_film film (drop c.offset s)
+    case None = opened-film film false false
 
 -- before its first picture a film stream has what its sequence has, and nothing else
 unfoldable read_as : Answer Mpeg2Sequence → VbvCadence
@@ -105,9 +105,9 @@ pub first-cadence : (s : List ℕ) → cadence_of true s ≡ opened true (cadenc
 unfolding cadence_of opened_at
 first-cadence s = case (found (skip not_sequence (codes s)))
   where
-    case : (f : Found) → opened_at true s f ≡ opened true (opened_at true s f).progressive (opened_at true s f).low_delay
-    case (At o c) = by_first (drop o s)
-    case Nothing = opened_itself false false
+    case : (f : Option StartCode) → opened_at true s f ≡ opened true (opened_at true s f).progressive (opened_at true s f).low_delay
+    case (Some c) = by_first (drop c.offset s)
+    case None = opened_itself false false
 
 -- and no picture's flag
 by_unflagged : (film : Bool) (s : List ℕ) → (cadence_by film s).repeat ≡ false
@@ -123,9 +123,9 @@ pub unflagged : (film : Bool) (s : List ℕ) → (cadence_of film s).repeat ≡ 
 unfolding cadence_of opened_at
 unflagged film s = case (found (skip not_sequence (codes s)))
   where
-    case : (f : Found) → (opened_at film s f).repeat ≡ false
-    case (At o c) = by_unflagged film (drop o s)
-    case Nothing = opened_unflagged film false false
+    case : (f : Option StartCode) → (opened_at film s f).repeat ≡ false
+    case (Some c) = by_unflagged film (drop c.offset s)
+    case None = opened_unflagged film false false
 
 -- what the fields say
 pub sequence_opens : SequenceOpens
@@ -133,5 +133,5 @@ unfolding cadence_by
 sequence_opens = record {
   in_film = λ s q e. rw e (opened_is _ _);
   outside_film = λ s. plain_by s ∙ opened-none;
-  of_stream = λ film s o c e. stream_opens film s o c e;
+  of_stream = stream_opens;
 }

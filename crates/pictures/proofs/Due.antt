@@ -4,9 +4,9 @@ use mathlib.Core.Path.{◌≡◌, refl, ◌∙◌}
 use mathlib.Core.Bool.{Bool, true, false}
 use lib.Dec.{ltb}
 use mathlib.Core.List.{List, [], ◌∷◌}
-use Prim.Native.Nat.{ℕ, ◌*◌, ◌≤◌, ◌<◌}
+use Prim.Native.Nat.{ℕ, ◌*◌, ◌≤◌}
 use lib.ListN.{length}
-use borrow.Author.Tests.{ltb-true, ltb-false, lt-ltb, le-ltb}
+use borrow.Author.Tests.{ltb-true, ltb-false, le-ltb}
 use Rattle.vbv.specs.Model.{farthest}
 use Rattle.bits.specs.Bits.{pick}
 use Rattle.bits.specs.Refusals.{Answer, value, refused, refuse, and_then}
@@ -46,10 +46,6 @@ front_due standard s = go (ltb farthest (8 * length s)) refl
 -- ---- what stands before the pictures
 
 module _ (standard : VbvStandard) (s : List ℕ) where
-  pub opening_long : farthest < 8 * length s → opening standard s ≡ refused 14 0 0 0
-  unfolding opening pick
-  opening_long h = rw (lt-ltb farthest (8 * length s) h)
-
   pub opening-short : 8 * length s ≤ farthest → opening standard s ≡ declared standard s
   unfolding opening pick
   opening-short h = rw (le-ltb farthest (8 * length s) h)
@@ -60,10 +56,6 @@ module _ (standard : VbvStandard) (s : List ℕ) where
   opening-opened h = ltb-false _ _ (was_no _ _ _ refused-value h).0
 
   -- ---- by what the opening has answered
-
-  pub front_unopened : {n k i j : ℕ} → opening standard s ≡ refused n k i j → front standard s ≡ refused n k i j
-  unfolding front
-  front_unopened e = rw e
 
   pub front-opened : {p : VbvParams} → opening standard s ≡ value p → front standard s ≡ and_then (seen_pictures standard s) (λ xs. with_first p xs)
   unfolding front

@@ -17,10 +17,9 @@ use Rattle.picture_header.proofs.Numbering.{header_told_numbered, picture_told_n
 use Rattle.vbv.specs.declared.VbvParams.{VbvParams}
 use Rattle.vbv.proofs.Numbering.{rate_only_6}
 use Rattle.scan.specs.Pictures.{Pic, pictures}
-use Rattle.scan.specs.declared.Next.{Next}
-use Rattle.scan.specs.declared.Next.TheVariants.{Picture, Done}
-use Rattle.scan.specs.declared.Found.{Found}
-use Rattle.scan.specs.declared.Found.TheVariants.{At, Nothing}
+use Rattle.std.specs.Prelude.{Option, Some, None}
+use Rattle.scan.specs.declared.PictureSpan.{PictureSpan}
+use Rattle.scan.specs.declared.StartCode.{StartCode}
 use Rattle.pictures.specs.Sequence.{rated, declared_by, declared_at, declared}
 use Rattle.pictures.specs.Seen.{shown, seen_at, seen_each, seen_pictures, sight_at, next_seen}
 use Rattle.pictures.specs.Front.{with_first, opening, front}
@@ -52,11 +51,11 @@ mpeg2_numbered s a e (by_number h) = by_number h
 mpeg2_numbered s a e (by_picture h) = by_picture h
 mpeg2_numbered s a e (by_all h) = by_all h
 
-declared_numbered : (standard : VbvStandard) (s : List ℕ) (f : Found) → OfOpening (declared_at standard s f)
+declared_numbered : (standard : VbvStandard) (s : List ℕ) (f : Option StartCode) → OfOpening (declared_at standard s f)
 unfolding declared_at declared_by
-declared_numbered Mpeg1 s (At o c) = and_then_lem _ (wider refl refl refl (header_numbers.sequence_header_lem (drop o s))) (λ h. rated_numbered _ _ _ _ _ (omega arith) (omega arith))
-declared_numbered Mpeg2 s (At o c) = mpeg2_numbered (drop o s) _ refl (wider refl refl refl (header_numbers.both (drop o s)))
-declared_numbered standard s Nothing = by_number refl
+declared_numbered Mpeg1 s (Some c) = and_then_lem _ (wider refl refl refl (header_numbers.sequence_header_lem (drop c.offset s))) (λ h. rated_numbered _ _ _ _ _ (omega arith) (omega arith))
+declared_numbered Mpeg2 s (Some c) = mpeg2_numbered (drop c.offset s) _ refl (wider refl refl refl (header_numbers.both (drop c.offset s)))
+declared_numbered standard s None = by_number refl
 
 opening_numbered : (standard : VbvStandard) (s : List ℕ) → OfOpening (opening standard s)
 unfolding opening declared
@@ -73,10 +72,10 @@ at_numbered : (standard : VbvStandard) (s : List ℕ) (q : Pic) → OfStep (seen
 unfolding seen_at
 at_numbered standard s q = and_then_lem _ (shown_numbered standard (drop q.start s)) (λ t. a_value)
 
-sight_numbered : (standard : VbvStandard) (s : List ℕ) (o : Next) → OfStep (sight_at standard s o)
+sight_numbered : (standard : VbvStandard) (s : List ℕ) (o : Option PictureSpan) → OfStep (sight_at standard s o)
 unfolding sight_at
-sight_numbered standard s Done = a_value
-sight_numbered standard s (Picture a b k) = and_then_lem _ (at_numbered standard s _) (λ x. a_value)
+sight_numbered standard s None = a_value
+sight_numbered standard s (Some p) = and_then_lem _ (at_numbered standard s _) (λ x. a_value)
 
 step_numbered : (standard : VbvStandard) (s : List ℕ) (from : ℕ) → OfStep (next_seen standard s from)
 unfolding next_seen

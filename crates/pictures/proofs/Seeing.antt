@@ -1,6 +1,6 @@
 -- The pictures of a stream as their headers show them, one at a time: what a step gives, and that the steps give them all.
 -- Assumes nothing.
-use mathlib.Core.Path.{◌≡◌, refl, sym, ap, ◌∙◌}
+use mathlib.Core.Path.{◌≡◌, refl}
 use Prim.Native.Nat.{ℕ, ◌+◌, ◌*◌, ◌≤◌, ◌<◌}
 use mathlib.Core.List.{List, [], ◌∷◌}
 use native.Mathlib.Omega.{arith}
@@ -9,20 +9,14 @@ use lib.ListN.{length, drop}
 use Rattle.vbv.specs.Model.{farthest}
 use Rattle.bits.specs.Bits.{pick}
 use Rattle.bits.specs.Refusals.{Answer, value, refused, and_then}
-use Rattle.scan.specs.declared.Next.{Next}
-use Rattle.scan.specs.declared.Next.TheVariants.{Picture, Done}
+use Rattle.std.specs.Prelude.{Option, Some, None}
+use Rattle.scan.specs.declared.PictureSpan.{PictureSpan}
 use Rattle.scan.specs.Pictures.{Pic, pictures, next_picture}
 use Rattle.scan.proofs.Pictures.{pictures_at, PictureStep, picture-step, pictures-done, pictures_walk}
 use Rattle.pictures.specs.Seen.{shown, seen_of, seen_at, seen_each, seen_pictures, Sight, nothing, one, sight_at, next_seen}
 use Rattle.pictures.specs.declared.VbvStandard.{VbvStandard}
 use Rattle.picture_header.specs.declared.PictureFacts.{PictureFacts}
 use Rattle.pictures.specs.declared.SeenPicture.{SeenPicture}
-use Rattle.pictures.specs.declared.NextSeen.{NextSeen}
-use Rattle.pictures.specs.Answers.{seen_answer}
-
--- the case, by what is told of it
-pub next_case : {r x : NextSeen} {a : Answer Sight} → r ≡ x → seen_answer r ≡ a → a ≡ seen_answer x
-next_case e f = sym f ∙ ap seen_answer e
 
 -- ---- a list of places
 
@@ -56,17 +50,17 @@ module _ (standard : VbvStandard) (s : List ℕ) (i : ℕ) where
   next_long h = rw (lt-ltb farthest (8 * length s) (omega arith))
 
   module _ (h : 8 * length s ≤ farthest) where
-    pub next-done : next_picture s i ≡ Done → value nothing ≡ next_seen standard s i
+    pub next-done : next_picture s i ≡ None → value nothing ≡ next_seen standard s i
     unfolding sight_at
     next-done e = rw (next_is standard s (omega arith) i, e)
 
-    module _ (a b k : ℕ) (e : next_picture s i ≡ Picture a b k) where
-      pub next-unread : (n : ℕ) → refused n 0 0 0 ≡ shown standard (drop a s) → refused n 0 0 0 ≡ next_seen standard s i
+    module _ (p : PictureSpan) (e : next_picture s i ≡ Some p) where
+      pub next-unread : (n : ℕ) → refused n 0 0 0 ≡ shown standard (drop p.at s) → refused n 0 0 0 ≡ next_seen standard s i
       unfolding sight_at seen_at
       next-unread n d = rw (next_is standard s (omega arith) i, e, ← d)
 
-      pub next-shown : (d : ℕ) (f : PictureFacts) → value (d, f) ≡ shown standard (drop a s)
-          → value (one (seen_of (record { start = a; end = b }) (d, f)) k) ≡ next_seen standard s i
+      pub next-shown : (d : ℕ) (f : PictureFacts) → value (d, f) ≡ shown standard (drop p.at s)
+          → value (one (seen_of (record { start = p.at; end = p.end }) (d, f)) p.next) ≡ next_seen standard s i
       unfolding sight_at seen_at
       next-shown d f g = rw (next_is standard s (omega arith) i, e, ← g)
 
@@ -92,16 +86,16 @@ pub data Onward (standard : VbvStandard) (s : List ℕ) (i : ℕ) : Answer Sight
       → Onward standard s i (value (one x next))
 
 module _ (standard : VbvStandard) (s : List ℕ) (short : 8 * length s ≤ farthest) where
-  by_place : (i : ℕ) (o : Next) → next_picture s i ≡ o → Onward standard s i (sight_at standard s o)
+  by_place : (i : ℕ) (o : Option PictureSpan) → next_picture s i ≡ o → Onward standard s i (sight_at standard s o)
   unfolding sight_at seen_from seen_each
-  by_place i Done e = no_more (rw (pictures-done s i e))
-  by_place i (Picture a b k) e = go (seen_at standard s (record { start = a; end = b })) refl
+  by_place i None e = no_more (rw (pictures-done s i e))
+  by_place i (Some p) e = go (seen_at standard s (record { start = p.at; end = p.end })) refl
     where
-      w : PictureStep s i a b k
-      w = picture-step s i a b k e
+      w : PictureStep s i p.at p.end p.next
+      w = picture-step s i p.at p.end p.next e
 
-      go : (o : Answer SeenPicture) → seen_at standard s (record { start = a; end = b }) ≡ o → Onward standard s i (and_then o (λ x. value (one x k)))
-      go (value x) h = one_more {x = x} {next = k} (omega (arith, w.from, w.low)) (omega (arith, w.on, w.high)) (rw (w.list, h))
+      go : (o : Answer SeenPicture) → seen_at standard s (record { start = p.at; end = p.end }) ≡ o → Onward standard s i (and_then o (λ x. value (one x p.next)))
+      go (value x) h = one_more {x = x} {next = p.next} (omega (arith, w.from, w.low)) (omega (arith, w.on, w.high)) (rw (w.list, h))
       go (refused n j c d) h = unread {n = n} {k = j} {c = c} {e = d} (rw (w.list, h))
 
   -- the one law of the walk

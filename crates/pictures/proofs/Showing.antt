@@ -16,9 +16,10 @@ use Rattle.vbv.specs.Params.{params_of}
 use Rattle.vbv.specs.declared.VbvParams.{VbvParams}
 use Rattle.vbv.proofs.Params.{params_are}
 use Rattle.bits.specs.StartCodes.{sequence_header_code}
-use Rattle.scan.specs.Codes.{Code, codes, found}
+use Rattle.std.specs.Prelude.{Some}
+use Rattle.scan.specs.Codes.{codes, found}
 use Rattle.scan.specs.Pictures.{skip, not_sequence}
-use Rattle.scan.specs.declared.Found.TheVariants.{At}
+use Rattle.scan.specs.declared.StartCode.{StartCode}
 use Rattle.scan.proofs.Sorts.{sequence-code, skip_stops, found_first}
 use Rattle.pictures.specs.Seen.{shown}
 use Rattle.picture_header.specs.Facts.{facts_of}
@@ -59,8 +60,8 @@ declared_from s p e =
     let b = then_value (frame_rate a.0.header.frame_rate_code a.0.extension.frame_rate_extension_n a.0.extension.frame_rate_extension_d) a.2 in
     record { read = a.0; parsed = a.1; frames = b.0; looked_up = b.1; params_from = same_value b.2 }
 
-module _ (s : List ℕ) (cs : List Code) (c : codes s ≡ record { offset = 0; code = sequence_header_code } ∷ cs) where
-  pub first-sequence : found (skip not_sequence (codes s)) ≡ At 0 sequence_header_code
+module _ (s : List ℕ) (cs : List StartCode) (c : codes s ≡ record { offset = 0; code = sequence_header_code } ∷ cs) where
+  pub first-sequence : found (skip not_sequence (codes s)) ≡ Some (record { offset = 0; code = sequence_header_code })
   first-sequence = rw (c, skip_stops not_sequence (record { offset = 0; code = sequence_header_code }) cs sequence-code, found_first)
 
   -- a stream that begins with its sequence header declares what that one does

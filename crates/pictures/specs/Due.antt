@@ -1,6 +1,6 @@
 -- What a sequence header declares, and the cadence that it opens; and which answer the front is due, by conditions: what is shown, or refused by the first test that fails, in the paper's order.
 -- Assumes nothing.
-use Rattle.std.specs.Prelude.{ℕ, ◌*◌, ◌≤◌, ◌<◌, ◌≡◌, Bool, true, false, ◌↔◌, ◌⊎◌, List, [], ◌∷◌, length, drop}
+use Rattle.std.specs.Prelude.{ℕ, ◌*◌, ◌≤◌, ◌<◌, ◌≡◌, Bool, true, false, ◌↔◌, ◌⊎◌, List, [], ◌∷◌, length, drop, Some}
 use Rattle.vbv.specs.Model.{farthest}
 use Rattle.bits.specs.Refusals.{Answer, value, refused}
 use Rattle.headers.specs.SequenceHeader.{sequence_header}
@@ -15,7 +15,7 @@ use Rattle.picture_header.specs.declared.PictureCodingExtension.{PictureCodingEx
 use Rattle.picture_header.specs.declared.PictureFacts.{PictureFacts}
 use Rattle.scan.specs.Codes.{codes, found}
 use Rattle.scan.specs.Pictures.{skip, not_sequence}
-use Rattle.scan.specs.declared.Found.TheVariants.{At}
+use Rattle.scan.specs.declared.StartCode.{StartCode}
 use Rattle.vbv.specs.Answers.{frame_rate}
 use Rattle.vbv.specs.declared.VbvParams.{VbvParams}
 use Rattle.cadence.specs.declared.OpenField.TheVariants.{Closed}
@@ -44,7 +44,7 @@ pub record SequenceOpens : Type 0 where
       → cadence_by true s
       ≡ record { film = true; progressive = q.extension.progressive_sequence; low_delay = q.extension.low_delay; repeat = false; top = false; waiting = Closed }
   pub outside_film : (s : List ℕ) → cadence_by false s ≡ record { film = false; progressive = false; low_delay = false; repeat = false; top = false; waiting = Closed }
-  pub of_stream : (film : Bool) (s : List ℕ) (at code : ℕ) → found (skip not_sequence (codes s)) ≡ At at code → cadence_of film s ≡ cadence_by film (drop at s)
+  pub of_stream : (film : Bool) (s : List ℕ) (c : StartCode) → found (skip not_sequence (codes s)) ≡ Some c → cadence_of film s ≡ cadence_by film (drop c.offset s)
 
 -- what a picture's headers tell of how long it lasts, field by field (6.3.9, 6.3.10): I and P are anchors, the two field structures fields, and the flags are those of the coding extension
 pub record PictureShows : Type 0 where

@@ -1,12 +1,11 @@
 -- The pictures of a stream as their headers show them, in stream order: where each is, its coded delay and its facts; or the first header refused.
 -- Assumes nothing.
-use Rattle.std.specs.Prelude.{ℕ, ◌+◌, ◌*◌, List, [], ◌∷◌, ltb, length, drop}
+use Rattle.std.specs.Prelude.{ℕ, ◌+◌, ◌*◌, List, [], ◌∷◌, ltb, length, drop, Option, Some, None}
 use Rattle.vbv.specs.Model.{farthest}
 use Rattle.bits.specs.Refusals.{Answer, value, refuse, and_then}
 use Rattle.picture_header.specs.Facts.{header_told, picture_told}
 use Rattle.scan.specs.Pictures.{Pic, pictures, next_picture}
-use Rattle.scan.specs.declared.Next.{Next}
-use Rattle.scan.specs.declared.Next.TheVariants.{Picture, Done}
+use Rattle.scan.specs.declared.PictureSpan.{PictureSpan}
 use Rattle.pictures.specs.declared.VbvStandard.{VbvStandard}
 use Rattle.pictures.specs.declared.VbvStandard.TheVariants.{Mpeg1, Mpeg2}
 use Rattle.picture_header.specs.declared.PictureFacts.{PictureFacts}
@@ -46,9 +45,9 @@ pub data Sight : Type 0 where
   nothing : Sight
   one : SeenPicture → ℕ → Sight
 
-unfoldable pub sight_at : VbvStandard → List ℕ → Next → Answer Sight
-sight_at standard s Done = value nothing
-sight_at standard s (Picture start end next) = and_then (seen_at standard s (record { start = start; end = end })) (λ x. value (one x next))
+unfoldable pub sight_at : VbvStandard → List ℕ → Option PictureSpan → Answer Sight
+sight_at standard s None = value nothing
+sight_at standard s (Some p) = and_then (seen_at standard s (record { start = p.at; end = p.end })) (λ x. value (one x p.next))
 
 -- the first picture that begins at a code which a scan from `from` finds; 14 for a stream above 2^48 bits
 unfoldable pub next_seen : VbvStandard → List ℕ → ℕ → Answer Sight

@@ -1,6 +1,6 @@
 -- What the first sequence header of a stream declares: R, B and the frame rate (ISO/IEC 13818-2 6.3.3, 6.3.5; 11172-2 2.4.3.2; paper 01, 'The buffer report').
 -- Assumes nothing.
-use Rattle.std.specs.Prelude.{ℕ, List, drop}
+use Rattle.std.specs.Prelude.{ℕ, List, drop, Option, Some, None}
 use Rattle.bits.specs.Refusals.{Answer, value, refused, and_then}
 use Rattle.headers.specs.SequenceHeader.{sequence_header}
 use Rattle.headers.specs.Sequence.{sequence}
@@ -9,8 +9,7 @@ use Rattle.vbv.specs.Params.{params_of}
 use Rattle.vbv.specs.declared.VbvParams.{VbvParams}
 use Rattle.scan.specs.Codes.{codes, found}
 use Rattle.scan.specs.Pictures.{skip, not_sequence}
-use Rattle.scan.specs.declared.Found.{Found}
-use Rattle.scan.specs.declared.Found.TheVariants.{At, Nothing}
+use Rattle.scan.specs.declared.StartCode.{StartCode}
 use Rattle.pictures.specs.declared.VbvStandard.{VbvStandard}
 use Rattle.pictures.specs.declared.VbvStandard.TheVariants.{Mpeg1, Mpeg2}
 
@@ -26,9 +25,9 @@ declared_by Mpeg2 s =
     and_then (sequence s) (λ q.
     rated q.bit_rate q.vbv_buffer_size q.header.frame_rate_code q.extension.frame_rate_extension_n q.extension.frame_rate_extension_d)
 
-unfoldable pub declared_at : VbvStandard → List ℕ → Found → Answer VbvParams
-declared_at standard s (At o c) = declared_by standard (drop o s)
-declared_at standard s Nothing = refused 3 0 0 0
+unfoldable pub declared_at : VbvStandard → List ℕ → Option StartCode → Answer VbvParams
+declared_at standard s (Some c) = declared_by standard (drop c.offset s)
+declared_at standard s None = refused 3 0 0 0
 
 -- by the first B3
 unfoldable pub declared : VbvStandard → List ℕ → Answer VbvParams

@@ -1,5 +1,6 @@
 -- Every answer is the one that is due.
 -- Assumes nothing.
+use Rattle.std.specs.Prelude.{Option, Some, None}
 use mathlib.Core.Path.{◌≡◌, refl, sym, ap, subst, ◌∙◌}
 use mathlib.Core.Bool.{Bool, true, false, not, ◌&&◌, ◌||◌, true≢false}
 use mathlib.Core.List.{List}
@@ -23,8 +24,6 @@ use Rattle.rate_control.specs.Writer.{index, clashes, asked}
 use Rattle.rate_control.specs.Offer.{Offer, position, content, end, delivered_at, stuffing, delay, first_delay, too_large_answer, placed_bytes, offer, out_of}
 use Rattle.rate_control.specs.Sent.{position_of, content_of, Stuffs}
 use Rattle.rate_control.specs.Due.{Known, delivered_for, holding, OutOfTurn, last_placed, other_kind, Fitting, Near, OnTime, AllDelivered, delay_for, Due, out_of_turn, bad_headers, bad_layer, far_position, far_end, early_position, overflowing, too_large, largest, no_edge, no_room, room, PartHolds, lasts_in}
-use Rattle.rate_control.specs.declared.Pending.{Pending}
-use Rattle.rate_control.specs.declared.Pending.TheVariants.{Nothing, Waits}
 use Rattle.rate_control.specs.declared.CbrWriter.{CbrWriter}
 use Rattle.vbv.proofs.Cases.{delivered-of}
 use Rattle.rate_control.proofs.Chain.{at_constant, Placing, Outcome, stays, closes, retries, hands_out}
@@ -48,12 +47,12 @@ index_same B B e = refl
 -- ---- the turn
 
 module _ (x : Known) (o : Offer) where
-  clash_is : (y : Pending) → x.pending ≡ y → clashes y o.kind ≡ true → OutOfTurn x o
+  clash_is : (y : Option (PictureKind × ℕ)) → x.pending ≡ y → clashes y o.kind ≡ true → OutOfTurn x o
   unfolding clashes
-  clash_is Nothing h e = absurd (true≢false (sym e))
-  clash_is (Waits j q) h e = other_kind h (λ g. eqb-false _ _ (not-true _ e) (ap index g))
+  clash_is None h e = absurd (true≢false (sym e))
+  clash_is (Some (j, q)) h e = other_kind h (λ g. eqb-false _ _ (not-true _ e) (ap index g))
 
-  no_clash : {k : PictureKind} {q : ℕ} → clashes x.pending o.kind ≡ false → x.pending ≡ Waits k q → k ≡ o.kind
+  no_clash : {k : PictureKind} {q : ℕ} → clashes x.pending o.kind ≡ false → x.pending ≡ Some (k, q) → k ≡ o.kind
   unfolding clashes
   no_clash {k} e h = let g = rw h at (e) in index_same k o.kind (eqb-true _ _ (not-false _ g))
 

@@ -1,5 +1,6 @@
 -- Creation: what the ranges say, the targets in 64 bits, the ways through it, and the writer that it makes: nothing placed, nothing pending, all values in range.
 -- Assumes nothing.
+use Rattle.std.specs.Prelude.{None, Result, Ok, Err}
 use mathlib.Core.Path.{◌≡◌, refl, sym, ap, ◌∙◌}
 use mathlib.Core.Bool.{Bool, true, false, ◌&&◌, true≢false}
 use mathlib.Core.List.{List, [], ◌∷◌}
@@ -10,20 +11,15 @@ use lib.Dec.{leb}
 use borrow.Author.Tests.{le-leb}
 use Rattle.bits.specs.Bits.{pick}
 use Rattle.bits.proofs.Following.{then_value, refused-value, same_value}
-use Rattle.bits.specs.Refusals.{value, or_else}
-use Rattle.vbv.specs.Answers.{frame_rate, model_answer, rate_answer}
+use Rattle.bits.specs.Refusals.{Answer, value, refused}
+use Rattle.vbv.specs.Answers.{frame_rate, model_number, model_answer}
 use Rattle.bits.proofs.Flags.{was_held, both_true}
 use Rattle.vbv.specs.Params.{rate_unit}
 use Rattle.vbv.specs.Model.{farthest, params_fit_at}
 use Rattle.vbr.specs.Variable.{new_model_at}
-use Rattle.vbv.specs.declared.FrameRate.{FrameRate}
-use Rattle.vbv.specs.declared.FrameRate.TheVariants.{Rate, Refused as NoRate}
 use Rattle.vbv.specs.declared.VbvParams.{VbvParams}
 use Rattle.vbv.specs.declared.VbvCbrModel.{VbvCbrModel}
 use Rattle.vbv.specs.declared.VbvError.{VbvError}
-use Rattle.vbv.specs.declared.VbvError.TheVariants.{Params}
-use Rattle.vbv.specs.declared.VbvModel.{VbvModel}
-use Rattle.vbv.specs.declared.VbvModel.TheVariants.{Model, Refused as NoModel}
 use Rattle.vbv.proofs.Params.{params-rate}
 use Rattle.vbv.proofs.Fitting.{not-zero, frames_in_range, fit_in_at}
 use Rattle.vbr.proofs.Either.{made_at}
@@ -33,16 +29,12 @@ use Rattle.cadence.proofs.Keeping.{opened-fits}
 use Rattle.pictures.specs.declared.VbvStandard.{VbvStandard}
 use Rattle.pictures.specs.declared.VbvStandard.TheVariants.{Mpeg1, Mpeg2}
 use Rattle.rate_control.specs.Targets.{group_pictures, group_bits, group_weight, target, targets}
-use Rattle.rate_control.specs.Answers.{created_answer}
-use Rattle.rate_control.specs.Create.{within, is_written, config_fits, writer_params, fresh_writer, no_writer, create}
+use Rattle.rate_control.specs.Create.{within, is_written, config_fits, writer_params, fresh_writer, create}
 use Rattle.rate_control.specs.Writer.{all_fit}
 use Rattle.rate_control.specs.Due.{Ranges}
-use Rattle.rate_control.specs.Steps.{TargetsFit, not_created, Creates, with_rate}
+use Rattle.rate_control.specs.Steps.{TargetsFit, with_rate}
 use Rattle.rate_control.specs.declared.CbrConfig.{CbrConfig}
-use Rattle.rate_control.specs.declared.Pending.TheVariants.{Nothing}
 use Rattle.rate_control.specs.declared.CbrWriter.{CbrWriter}
-use Rattle.rate_control.specs.declared.CbrCreation.TheVariants.{Created}
-use Rattle.rate_control.specs.declared.CbrCreated.{CbrCreated}
 use Rattle.rate_control.proofs.Fitting.{within_bounds, is_quantiser, none-fits, fitting-writer}
 use Rattle.rate_control.proofs.Invariant.{Inv}
 
@@ -134,12 +126,12 @@ module _ (p : VbvParams) (between anchors : ℕ) (h : TargetsFit p between ancho
 -- ---- a model of parameters, at either kind of rate
 
 -- a model of a configuration in its ranges has targets
-pub targets_fit : (c : CbrConfig) (v : Bool) (n d : ℕ) (p : VbvParams) (x : VbvModel) (m : VbvCbrModel) → p ≡ writer_params c (n, d) → model_answer x ≡ new_model_at v p
-    → x ≡ Model m → Ranges c → TargetsFit m.params c.b_between c.anchors_per_gop
-targets_fit c v n d p x m i e h r =
+pub targets_fit : (c : CbrConfig) (v : Bool) (f : ℕ × ℕ) (p : VbvParams) (x : Result VbvCbrModel VbvError) (m : VbvCbrModel) → p ≡ writer_params c f → model_answer x ≡ new_model_at v p
+    → x ≡ Ok m → Ranges c → TargetsFit m.params c.b_between c.anchors_per_gop
+targets_fit c v f p x m i e h r =
     let k = made_at v p m (sym e ∙ ap model_answer h) in
     let q = fit_in_at v p k.params_fit in
-    let rate : p.bit_rate ≡ rate_unit * c.bit_rate_value = ap (λ (y : VbvParams). y.bit_rate) i ∙ params-rate _ _ (n, d) in
+    let rate : p.bit_rate ≡ rate_unit * c.bit_rate_value = ap (λ (y : VbvParams). y.bit_rate) i ∙ params-rate _ _ f in
     rw k.params_kept
     (record {
       rate_high = omega (arith, rate, r.rate_high);
@@ -157,7 +149,7 @@ pub fresh_told : (c : CbrConfig) (m : VbvCbrModel) (t : List ℕ) (k : VbvCadenc
       model = m;
       target_bits = t;
       q = c.initial_quantiser_scale_code ∷ c.initial_quantiser_scale_code ∷ c.initial_quantiser_scale_code ∷ [];
-      pending = Nothing;
+      pending = None;
       stuffing_bytes = 0;
       finished = false;
       cadence = k;
@@ -168,53 +160,29 @@ unfolding fresh_writer
 fresh_told c m t k e f = rw (e, f)
 
 module _ (c : CbrConfig) where
-  module _ (n d : ℕ) (p : VbvParams) (i : p ≡ writer_params c (n, d)) (x : VbvModel) (e : model_answer x ≡ new_model_at c.mode.variable p) where
-    pub way_made : (m : VbvCbrModel) (w : CbrWriter) → x ≡ Model m → w ≡ fresh_writer c m
-        → Creates (record { answer = Created; writer = w }) (with_rate c (n, d))
+  module _ (f : ℕ × ℕ) (p : VbvParams) (i : p ≡ writer_params c f) (x : Result VbvCbrModel VbvError) (e : model_answer x ≡ new_model_at c.mode.variable p) where
+    pub way_made : (m : VbvCbrModel) (w : CbrWriter) → x ≡ Ok m → w ≡ fresh_writer c m → value w ≡ with_rate c f
     way_made m w h g =
-        let a : new_model_at c.mode.variable (writer_params c (n, d)) ≡ value m = ap (new_model_at c.mode.variable) (sym i) ∙ sym e ∙ ap model_answer h in
-        (rw (a, g), rw (a, g))
+        let a : new_model_at c.mode.variable (writer_params c f) ≡ value m = ap (new_model_at c.mode.variable) (sym i) ∙ sym e ∙ ap model_answer h in
+        rw (a, g)
 
-    pub way_unmade : (error : VbvError) (r : CbrCreated) → x ≡ NoModel error → r ≡ not_created error → Creates r (with_rate c (n, d))
-    unfolding not_created
-    way_unmade error r h g =
-        let a : new_model_at c.mode.variable (writer_params c (n, d)) ≡ model_answer (NoModel error) = ap (new_model_at c.mode.variable) (sym i) ∙ sym e ∙ ap model_answer h in
-        (rw (a, g), rw (a, g))
+  module _ (f : Bool) (e : f ≡ config_fits c) where
+    pub way_12 : f ≡ false → refused 12 0 0 0 ≡ create c
+    unfolding create pick
+    way_12 h = rw (← e, h)
 
-  -- the answer, and the writer beside it
-  module _ (f : Bool) (r : CbrCreated) (e : f ≡ config_fits c) (h : f ≡ false) (g : r ≡ not_created Params) where
-    pub way_12 : created_answer r ≡ create c
-    unfolding create not_created pick
-    way_12 = rw (← e, h, g)
-
-    pub left_12 : r.writer ≡ or_else no_writer (create c)
-    unfolding create not_created pick
-    left_12 = rw (← e, h, g)
-
-  module _ (f : Bool) (e : f ≡ config_fits c) (h : f ≡ true) (x : FrameRate) (k : rate_answer x ≡ frame_rate c.frame_rate_code c.frame_rate_extension_n c.frame_rate_extension_d) where
-    module _ (error : VbvError) (r : CbrCreated) (l : x ≡ NoRate error) (g : r ≡ not_created error) where
-      rate-refused : frame_rate c.frame_rate_code c.frame_rate_extension_n c.frame_rate_extension_d ≡ rate_answer (NoRate error)
-      rate-refused = sym k ∙ ap rate_answer l
-
-      pub way_6 : created_answer r ≡ create c
-      unfolding create not_created pick
-      way_6 = rw (← e, h, rate-refused, g)
-
-      pub left_6 : r.writer ≡ or_else no_writer (create c)
-      unfolding create not_created pick
-      left_6 = rw (← e, h, rate-refused, g)
-
-    module _ (n d : ℕ) (r : CbrCreated) (l : x ≡ Rate n d) (g : Creates r (with_rate c (n, d))) where
-      rate_is : frame_rate c.frame_rate_code c.frame_rate_extension_n c.frame_rate_extension_d ≡ value (n, d)
-      rate_is = sym k ∙ ap rate_answer l
-
-      pub way_rate : created_answer r ≡ create c
+    module _ (h : f ≡ true) (x : Result (ℕ × ℕ) VbvError) (k : model_answer x ≡ frame_rate c.frame_rate_code c.frame_rate_extension_n c.frame_rate_extension_d) where
+      pub way_6 : (error : VbvError) → x ≡ Err error → refused (model_number error) 0 0 0 ≡ create c
       unfolding create pick
-      way_rate = rw (← e, h, rate_is) g.0
+      way_6 error l =
+          let a : frame_rate c.frame_rate_code c.frame_rate_extension_n c.frame_rate_extension_d ≡ refused (model_number error) 0 0 0 = sym k ∙ ap model_answer l in
+          rw (← e, h, a)
 
-      pub left-rate : r.writer ≡ or_else no_writer (create c)
+      pub way_rate : (g : ℕ × ℕ) (r : Answer CbrWriter) → x ≡ Ok g → r ≡ with_rate c g → r ≡ create c
       unfolding create pick
-      left-rate = rw (← e, h, rate_is) g.1
+      way_rate g r l q =
+          let a : frame_rate c.frame_rate_code c.frame_rate_extension_n c.frame_rate_extension_d ≡ value g = sym k ∙ ap model_answer l in
+          rw (← e, h, a) q
 
 -- ---- a creation that was accepted
 
@@ -249,7 +217,7 @@ unfolding fresh_writer all_fit
 fresh_writer_lem {c} x =
     let a = made_at c.mode.variable (writer_params c x.frames) x.model x.model_is in
     let f = config_ranges c x.ranges in
-    let t = targets_fit c c.mode.variable x.frames.0 x.frames.1 _ (Model x.model) x.model refl (sym x.model_is) refl f in
+    let t = targets_fit c c.mode.variable x.frames _ (Ok x.model) x.model refl (sym x.model_is) refl f in
     record {
       inv =
           record {

@@ -1,5 +1,6 @@
 -- What the test of a writer's state says, as bounds, and back.
 -- Assumes nothing.
+use Rattle.std.specs.Prelude.{Some, None}
 use mathlib.Core.Path.{◌≡◌, refl}
 use mathlib.Core.Bool.{Bool, true, false}
 use mathlib.Core.List.{List, [], ◌∷◌}
@@ -16,7 +17,6 @@ use Rattle.vbr.proofs.Either.{fits-params-at, fits_range_at}
 use Rattle.rate_control.specs.Create.{within}
 use Rattle.cadence.specs.Cadence.{cadence_fits}
 use Rattle.rate_control.specs.Writer.{quantiser_fits, all_fit, pending_fits, writer_fits}
-use Rattle.rate_control.specs.declared.Pending.TheVariants.{Nothing, Waits}
 use Rattle.rate_control.specs.declared.CbrWriter.{CbrWriter}
 use Rattle.rate_control.proofs.Retries.{Quant}
 
@@ -66,11 +66,11 @@ pub is_quantiser : {q : ℕ} → Quant q → quantiser_fits q ≡ true
 unfolding quantiser_fits
 is_quantiser {q} h = in_bounds 1 31 q h.low h.high
 
-pub none-fits : pending_fits Nothing ≡ true
+pub none-fits : pending_fits None ≡ true
 unfolding pending_fits
 none-fits = refl
 
-pub waits-fits : {q : ℕ} → Quant q → (k : _) → pending_fits (Waits k q) ≡ true
+pub waits-fits : {q : ℕ} → Quant q → (k : _) → pending_fits (Some (k, q)) ≡ true
 unfolding pending_fits
 waits-fits h k = is_quantiser h
 

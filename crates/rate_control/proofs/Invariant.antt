@@ -1,5 +1,6 @@
 -- What holds of a writer between calls, after n retries of the pending picture.
 -- Assumes nothing.
+use Rattle.std.specs.Prelude.{Option, Some, None}
 use mathlib.Core.Path.{◌≡◌, refl, sym, ap, ◌∙◌}
 use mathlib.Core.Bool.{true, false, true≢false}
 use Prim.Native.Nat.{ℕ, ◌+◌, ◌≤◌, ◌<◌}
@@ -21,8 +22,6 @@ use Rattle.rate_control.specs.Answers.{Given}
 use Rattle.rate_control.specs.Offer.{Offer, end, cadence_at, interval_at, delivered_at, delivered_next, with_pending, with_placed, left_by, withdraw}
 use Rattle.rate_control.specs.Calls.{Call, offering, withdrawing, step_of, left_by_call}
 use Rattle.rate_control.specs.Demand.{retries_by, retries_after}
-use Rattle.rate_control.specs.declared.Pending.{Pending}
-use Rattle.rate_control.specs.declared.Pending.TheVariants.{Nothing, Waits}
 use Rattle.rate_control.specs.declared.CbrWriter.{CbrWriter}
 use Rattle.rate_control.proofs.Chain.{q-of, Placing, Outcome, stays, closes, retries, hands_out, outcome}
 use Rattle.rate_control.proofs.Retries.{Quant, below_31, rest, rest_small, rest-step, coarser_quant, steered_quant}
@@ -32,9 +31,9 @@ use Rattle.rate_control.proofs.Lasting.{before-fits}
 use Rattle.rate_control.proofs.States.{withdraw-answer}
 
 -- no picture pending: no retries; one pending: those it had and those it may have are eleven at most
-abbrev pub PendingOk : ℕ → Pending → Type 0
-PendingOk n Nothing = n ≡ 0
-PendingOk n (Waits k q) = Quant q × (n + rest q ≤ 11)
+abbrev pub PendingOk : ℕ → Option (PictureKind × ℕ) → Type 0
+PendingOk n None = n ≡ 0
+PendingOk n (Some (k, q)) = Quant q × (n + rest q ≤ 11)
 
 pub record Inv (n : ℕ) (w : CbrWriter) : Type 0 where
   pub fits : writer_fits w ≡ true
@@ -51,9 +50,9 @@ none_removed {w = w} h e =
     let z = h.none_yet e in
     (omega (arith, f.few), omega (arith, f.stuffed))
 
-pub pending-few : (n : ℕ) (x : Pending) → PendingOk n x → n ≤ 11
-pending-few n Nothing h = omega arith
-pending-few n (Waits k q) h = omega arith
+pub pending-few : (n : ℕ) (x : Option (PictureKind × ℕ)) → PendingOk n x → n ≤ 11
+pending-few n None h = omega arith
+pending-few n (Some (k, q)) h = omega arith
 
 -- ---- the quantiser of an offer, and the retries it may still have
 
@@ -66,10 +65,10 @@ kind_quant : {n : ℕ} {w : CbrWriter} (k : PictureKind) → Inv n w → Quant (
 unfolding of
 kind_quant {w = w} k h = quantiser_is (all_fit-at quantiser_fits w.q (index k) (writer_fits_lem h.fits).quantisers (omega (arith, index-low k, h.three)))
 
-asked_of : (n : ℕ) {q : ℕ} (x : Pending) → PendingOk n x → Quant q → Quant (pending_or x q) × (n + rest (pending_or x q) ≤ 11)
+asked_of : (n : ℕ) {q : ℕ} (x : Option (PictureKind × ℕ)) → PendingOk n x → Quant q → Quant (pending_or x q) × (n + rest (pending_or x q) ≤ 11)
 unfolding pending_or
-asked_of n Nothing h g = (g, omega (arith, rest_small g))
-asked_of n (Waits k q) h g = h
+asked_of n None h g = (g, omega (arith, rest_small g))
+asked_of n (Some (k, q)) h g = h
 
 pub asked_quant : {n : ℕ} {w : CbrWriter} (k : PictureKind) → Inv n w → Quant (asked w k) × (n + rest (asked w k) ≤ 11)
 unfolding asked
@@ -115,7 +114,7 @@ place_inv {w = w} {o = o} h g =
 -- ---- kept by every call
 
 -- another pending picture
-pending_inv : {n m : ℕ} {w : CbrWriter} (x : Pending) → Inv n w → PendingOk m x → pending_fits x ≡ true → Inv m (with_pending w x)
+pending_inv : {n m : ℕ} {w : CbrWriter} (x : Option (PictureKind × ℕ)) → Inv n w → PendingOk m x → pending_fits x ≡ true → Inv m (with_pending w x)
 unfolding with_pending
 pending_inv {w = w} x h k e =
     let f = writer_fits_lem h.fits in
@@ -141,18 +140,18 @@ pending_inv {w = w} x h k e =
 pub outcome_inv : {n : ℕ} {w : CbrWriter} {o : Offer} {a : Answer Given} → Inv n w → Outcome w o a → Inv (retries_by n a) (left_by w o a)
 unfolding pick
 outcome_inv h (stays e) = rw e h
-outcome_inv h (closes g) = pending_inv Nothing h refl none-fits
+outcome_inv h (closes g) = pending_inv None h refl none-fits
 outcome_inv {n} {w} {o} h (retries g) =
     let a = asked_quant o.kind h in
     let l = below_31 a.0 g in
     let c = coarser_quant a.0 in
-    pending_inv (Waits o.kind (coarser (q-of w o))) h (c, omega (arith, rest-step a.0 l)) (waits-fits c o.kind)
+    pending_inv (Some (o.kind, (coarser (q-of w o)))) h (c, omega (arith, rest-step a.0 l)) (waits-fits c o.kind)
 outcome_inv h (hands_out g) = place_inv h g
 
-pub withdraw_is : (w : CbrWriter) → writer_fits w ≡ true → or_else w (withdraw w) ≡ with_pending w Nothing
+pub withdraw_is : (w : CbrWriter) → writer_fits w ≡ true → or_else w (withdraw w) ≡ with_pending w None
 withdraw_is w e = ap (or_else w) (withdraw-answer w e)
 
 pub call_inv : {n : ℕ} {w : CbrWriter} (c : Call) → Inv n w → Inv (retries_after n (step_of w c)) (left_by_call w c)
 unfolding step_of left_by_call
 call_inv {w = w} (offering o) h = outcome_inv h (outcome w o)
-call_inv {w = w} withdrawing h = rw (withdraw_is w h.fits) (pending_inv Nothing h refl none-fits)
+call_inv {w = w} withdrawing h = rw (withdraw_is w h.fits) (pending_inv None h refl none-fits)

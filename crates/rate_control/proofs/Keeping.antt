@@ -1,5 +1,6 @@
 -- What calls keep of a writer: after a refusal, with nothing pending, and between any calls.
 -- Assumes nothing.
+use Rattle.std.specs.Prelude.{None}
 use mathlib.Core.Path.{◌≡◌, refl, ap, ◌∙◌}
 use mathlib.Core.Bool.{true}
 use mathlib.Core.List.{List, [], ◌∷◌}
@@ -17,7 +18,6 @@ use Rattle.rate_control.specs.Answers.{Given}
 use Rattle.rate_control.specs.Offer.{Offer, with_pending, with_placed, offer, left_by, left, out_after, withdraw}
 use Rattle.rate_control.specs.Calls.{Call, offering, withdrawing, left_by_call, final}
 use Rattle.rate_control.specs.declared.CbrConfig.{CbrConfig}
-use Rattle.rate_control.specs.declared.Pending.TheVariants.{Nothing}
 use Rattle.rate_control.specs.declared.CbrWriter.{CbrWriter}
 use Rattle.rate_control.proofs.Chain.{Outcome, stays, closes, retries, hands_out, outcome}
 use Rattle.rate_control.proofs.Invariant.{Inv, withdraw_is, call_inv}
@@ -39,11 +39,11 @@ module _ (w : CbrWriter) (o : Offer) {n k c e : ℕ} (h : offer w o ≡ refused 
 
 -- ---- nothing pending: nothing to close
 
-none-pending : (w : CbrWriter) → w.pending ≡ Nothing → with_pending w Nothing ≡ w
+none-pending : (w : CbrWriter) → w.pending ≡ None → with_pending w None ≡ w
 unfolding with_pending
 none-pending w h = rw (← h)
 
-pub withdraw_unpending : (w : CbrWriter) → w.pending ≡ Nothing → or_else w (withdraw w) ≡ w
+pub withdraw_unpending : (w : CbrWriter) → w.pending ≡ None → or_else w (withdraw w) ≡ w
 unfolding withdraw
 withdraw_unpending w p = pick_elim (λ (r : Answer CbrWriter). or_else w r ≡ w) _ (λ e. refl) (λ e. none-pending w p)
 

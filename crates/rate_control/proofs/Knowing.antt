@@ -1,5 +1,6 @@
 -- What a writer holds after any calls is what creation, the calls and their answers told.
 -- Assumes nothing.
+use Rattle.std.specs.Prelude.{None}
 use mathlib.Core.Path.{◌≡◌, refl, sym, ap, ◌∙◌}
 use mathlib.Core.Bool.{Bool, true, false}
 use mathlib.Core.List.{List, [], ◌∷◌}
@@ -25,7 +26,6 @@ use Rattle.rate_control.specs.Create.{writer_params, fresh_writer, create}
 use Rattle.rate_control.specs.Offer.{Offer, end, cadence_at, interval_at, delivered_at, delivered_next, placed_bytes, with_pending, with_placed, offer, left_by, left, withdraw}
 use Rattle.rate_control.specs.Calls.{Call, offering, withdrawing, step_of, left_by_call, steps_of, final}
 use Rattle.rate_control.specs.Due.{Known, at_first, delivered_for, cadence_for, facts_for, lasts_in, pending_now, known_after_offer, known_after, holding, targets_of}
-use Rattle.rate_control.specs.declared.Pending.TheVariants.{Nothing}
 use Rattle.rate_control.specs.declared.CbrConfig.{CbrConfig}
 use Rattle.rate_control.specs.Demand.{retries_after}
 use Rattle.rate_control.specs.declared.CbrWriter.{CbrWriter}
@@ -86,7 +86,7 @@ module _ (p : VbvParams) (t : List ℕ) where
   pub offer_told : (w : CbrWriter) (x : Known) (o : Offer) → w ≡ holding p t x → left w o ≡ holding p t (known_after_offer p t x o (offer w o))
   offer_told w x o e = rw e (outcome_told x o (outcome _ o))
 
-  pub withdrawal_told : (w : CbrWriter) (x : Known) → writer_fits w ≡ true → w ≡ holding p t x → or_else w (withdraw w) ≡ holding p t (pending_now x Nothing)
+  pub withdrawal_told : (w : CbrWriter) (x : Known) → writer_fits w ≡ true → w ≡ holding p t x → or_else w (withdraw w) ≡ holding p t (pending_now x None)
   unfolding with_pending
   withdrawal_told w x f e = withdraw_is w f ∙ rw e
 

@@ -1,5 +1,6 @@
 -- The code's answers to an offer are the definition's, by number, and so is the writer that is left.
 -- Assumes nothing.
+use Rattle.std.specs.Prelude.{Some, None, Ok, Err}
 use mathlib.Core.Path.{◌≡◌, refl}
 use mathlib.Core.Bool.{false}
 use Prim.Native.Nat.{ℕ}
@@ -13,25 +14,24 @@ use Rattle.rate_control.specs.Writer.{asked}
 use Rattle.rate_control.specs.Offer.{Offer, stuffing, delay, placed_bytes, with_pending, too_large_answer, offer, left_by, left}
 use Rattle.rate_control.specs.Steps.{refused_in_code, too_large_in_code, placed_in_code, offer_in_code}
 use Rattle.rate_control.specs.declared.CbrWriter.{CbrWriter}
-use Rattle.rate_control.specs.declared.Pending.TheVariants.{Nothing, Waits}
 use Rattle.rate_control.specs.declared.CbrError.{CbrError}
 use Rattle.rate_control.specs.declared.CbrError.TheVariants.{TooLarge}
-use Rattle.rate_control.specs.declared.CbrAnswer.TheVariants.{Again, Refused}
+use Rattle.rate_control.specs.declared.CbrGiven.TheVariants.{Again}
 use Rattle.rate_control.specs.declared.CbrOffered.{CbrOffered}
 
 module _ (w : CbrWriter) (o : Offer) where
   Same : CbrOffered → Answer Given → Type 0
   Same r a = (offer_answer r.answer ≡ a) × (r.writer ≡ left_by w o a)
 
-  refused-same : (e : CbrError) → eqb (offer_refusal e).number 21 ≡ false → Same (refused_in_code w e) (offer_answer (Refused e))
+  refused-same : (e : CbrError) → eqb (offer_refusal e).number 21 ≡ false → Same (refused_in_code w e) (offer_answer (Err e))
   unfolding Same refused_in_code pick
   refused-same e h = (refl, rw h)
 
-  largest-same : Same (record { answer = Refused TooLarge; writer = with_pending w Nothing }) (refused 21 0 0 0)
+  largest-same : Same (record { answer = Err TooLarge; writer = with_pending w None }) (refused 21 0 0 0)
   unfolding Same pick
   largest-same = (refl, refl)
 
-  again-same : (q : ℕ) → Same (record { answer = Again q; writer = with_pending w (Waits o.kind q) }) (value (again q))
+  again-same : (q : ℕ) → Same (record { answer = Ok (Again q); writer = with_pending w (Some (o.kind, q)) }) (value (again q))
   unfolding Same
   again-same q = (refl, refl)
 

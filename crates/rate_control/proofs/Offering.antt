@@ -1,14 +1,15 @@
 -- The ways through an offer: each with its answer, and with what the output part then holds.
 -- Assumes nothing.
+use Rattle.std.specs.Prelude.{Result, Ok, Err}
 use mathlib.Core.Path.{◌≡◌, refl, sym, ap, ◌∙◌}
-use mathlib.Core.Bool.{Bool, true, false, not, ◌||◌}
+use mathlib.Core.Bool.{Bool, true, false}
 use mathlib.Core.List.{List, [], ◌++◌}
 use Prim.Native.Nat.{ℕ, ◌+◌, ◌≤◌, ◌<◌}
 use native.Mathlib.Omega.{arith}
 use lib.Dec.{leb, ltb, eqb}
 use lib.ListN.{length, replicate}
 use borrow.Author.Tests.{leb-true, lt-ltb, le-ltb, ltb-false, not-false}
-use Rattle.bits.proofs.Flags.{or_right, pick_elim, yes, no, was_no, clash, pick-alike}
+use Rattle.bits.proofs.Flags.{or_right, pick_elim, was_no, clash, pick-alike}
 use Rattle.bits.specs.Bits.{pick}
 use Rattle.bits.specs.Answers.{over}
 use Rattle.bits.specs.Refusals.{Answer}
@@ -16,26 +17,24 @@ use Rattle.vbv.specs.Model.{farthest}
 use Rattle.vbv.specs.Steps.{ParamsFit}
 use Rattle.vbv.specs.Patch.{patched}
 use Rattle.vbv.specs.declared.RemovalInterval.{RemovalInterval}
-use Rattle.vbv.specs.declared.VbvError.TheVariants.{Params}
 use Rattle.vbv.proofs.Fitting.{params_fit_lem}
 use Rattle.vbv.proofs.Laws.{fits-params}
 use Rattle.layers.specs.declared.PictureKind.{PictureKind}
-use Rattle.layers.specs.Headers.{headers_fit}
-use Rattle.layers.specs.Layer.{layer_fits, facts_in}
+use Rattle.layers.specs.Layer.{facts_in}
 use Rattle.cadence.specs.Cadence.{after}
 use Rattle.cadence.specs.declared.VbvCadence.{VbvCadence}
 use Rattle.rate_control.specs.Answers.{Given, offer_answer}
-use Rattle.rate_control.specs.Writer.{writer_fits, index, of, clashes, asked}
+use Rattle.rate_control.specs.Writer.{writer_fits, index, of, asked}
 use Rattle.rate_control.specs.Offer.{Offer, position, content, end, cadence_at, interval_at, stuffing, end_code, placed_bytes, with_placed, offer, left, out_of, out_after}
 use Rattle.rate_control.specs.Steps.{timing, measured, tested, Placeable, placed_by, refused_in_code, too_large_in_code, placed_in_code, offer_in_code}
 use Rattle.rate_control.specs.declared.CbrWriter.{CbrWriter}
 use Rattle.rate_control.specs.declared.CbrError.{CbrError}
-use Rattle.rate_control.specs.declared.CbrError.TheVariants.{Model, Kind, Headers, Layer, Output}
+use Rattle.rate_control.specs.declared.CbrError.TheVariants.{Output}
 use Rattle.rate_control.specs.declared.CbrOffered.{CbrOffered}
-use Rattle.rate_control.specs.declared.Placement.{Placement}
 use Rattle.rate_control.specs.declared.Timing.{Timing}
-use Rattle.rate_control.specs.declared.Tested.{Tested}
-use Rattle.rate_control.specs.declared.Tested.TheVariants.{Refused, TooLarge, Ready}
+use Rattle.rate_control.specs.declared.Placement.{Placement}
+use Rattle.rate_control.specs.declared.Untested.{Untested}
+use Rattle.rate_control.specs.declared.Untested.TheVariants.{Refused, TooLarge}
 use Rattle.rate_control.proofs.Fitting.{all_fit_get, writer_fits_lem, end_far, model-constant}
 use Rattle.rate_control.proofs.Lasting.{timing-lasts}
 use Rattle.rate_control.proofs.Placing.{placed_size}
@@ -51,37 +50,10 @@ module _ (w : CbrWriter) (f : Bool) (e : f ≡ writer_fits w) (h : f ≡ true) w
   pub params_of : w.variable ≡ false → ParamsFit w.model.params
   params_of c = params_fit_lem (fits-params w.model (model-constant w (writer_fits_lem (sym e ∙ h)) c))
 
-module _ (w : CbrWriter) (headers : List ℕ) (k : PictureKind) (i : RemovalInterval) (last : Bool) (layer : List ℕ) (j : RemovalInterval) (f : Bool) (e : f ≡ writer_fits w) where
-  pub way_unfit : f ≡ false → Refused (Model Params) ≡ tested w headers k i last layer j
-  unfolding tested
-  way_unfit h = yes _ _ _ (rw (← e, h)) refl
-
-  module _ (h : f ≡ true) (c : Bool) (q : c ≡ clashes w.pending k) where
-    fine : not (writer_fits w) ≡ false
-    fine = rw (← e, h)
-
-    pub way_17 : (w.finished || c) ≡ true → Refused Kind ≡ tested w headers k i last layer j
-    unfolding tested
-    way_17 g = no _ _ _ fine (yes _ _ _ (rw (← q) g) refl)
-
-    module _ (g : (w.finished || c) ≡ false) (t : Bool) (a : t ≡ headers_fit w.model.params w.model.started headers) where
-      pub way_18 : t ≡ false → Refused Headers ≡ tested w headers k i last layer j
-      unfolding tested
-      way_18 l = no _ _ _ fine (no _ _ _ (rw (← q) g) (yes _ _ _ (rw (← a, l)) refl))
-
-      module _ (l : t ≡ true) (u : Bool) (b : u ≡ layer_fits w.cadence.film k i layer) where
-        pub way_20 : u ≡ false → Refused Layer ≡ tested w headers k i last layer j
-        unfolding tested
-        way_20 r = no _ _ _ fine (no _ _ _ (rw (← q) g) (no _ _ _ (rw (← a, l)) (yes _ _ _ (rw (← b, r)) refl)))
-
-        pub way_on : (v : Tested) → u ≡ true → v ≡ measured w.variable w.model (length headers) (length layer) j last → v ≡ tested w headers k i last layer j
-        unfolding tested
-        way_on v r z = no _ _ _ fine (no _ _ _ (rw (← q) g) (no _ _ _ (rw (← a, l)) (no _ _ _ (rw (← b, r)) z)))
-
 -- ---- the answer of the tests
 
 -- what they are for an offer
-abbrev pub tested_for : CbrWriter → Offer → Tested
+abbrev pub tested_for : CbrWriter → Offer → Result Placement Untested
 tested_for w o = tested w o.headers o.kind o.interval o.last o.layer (interval_at w o)
 
 -- the cadence after its picture
@@ -99,11 +71,11 @@ timing-same w o =
     pick-alike Same _ refl λ h20.
     ap (λ (j : RemovalInterval). measured w.variable w.model (length o.headers) (length o.layer) j o.last) (timing-lasts w o (not-false _ h20))
   where
-    Same : Tested → Tested → Type 0
+    Same : Result Placement Untested → Result Placement Untested → Type 0
     Same s t = s ≡ t
 
 -- as the code comes to them, by the cadence k before the picture
-pub tested_by : (w : CbrWriter) (o : Offer) {k : VbvCadence} {x : Timing} {t : Tested} → k ≡ cadence_at w o.headers → x ≡ timing k o.interval o.layer
+pub tested_by : (w : CbrWriter) (o : Offer) {k : VbvCadence} {x : Timing} {t : Result Placement Untested} → k ≡ cadence_at w o.headers → x ≡ timing k o.interval o.layer
     → t ≡ tested w o.headers o.kind o.interval o.last o.layer x.interval → t ≡ tested_for w o
 tested_by w o a b e = e ∙ rw (b, a) (timing-same w o)
 
@@ -113,18 +85,18 @@ pub placed-left : (w : CbrWriter) (headers : List ℕ) (k : PictureKind) (i : Re
 unfolding timing
 placed-left w headers k i layer last p a b e = e ∙ rw (b, a)
 
-unfoldable answer_to : CbrWriter → Offer → Tested → CbrOffered
-answer_to w o (Refused e) = refused_in_code w e
-answer_to w o TooLarge = too_large_in_code w o.kind (asked w o.kind)
-answer_to w o (Ready p) =
+unfoldable answer_to : CbrWriter → Offer → Result Placement Untested → CbrOffered
+answer_to w o (Err (Refused e)) = refused_in_code w e
+answer_to w o (Err TooLarge) = too_large_in_code w o.kind (asked w o.kind)
+answer_to w o (Ok p) =
     pick (ltb (length o.out) p.bytes) (refused_in_code w Output) (placed_by w o.kind (length o.layer) o.last p (cadence_left w o))
 
 module _ (w : CbrWriter) (o : Offer) where
-  answer-refused : (e : CbrError) → answer_to w o (Refused e) ≡ refused_in_code w e
+  answer-refused : (e : CbrError) → answer_to w o (Err (Refused e)) ≡ refused_in_code w e
   unfolding answer_to
   answer-refused e = refl
 
-  answer_large : answer_to w o TooLarge ≡ too_large_in_code w o.kind (asked w o.kind)
+  answer_large : answer_to w o (Err TooLarge) ≡ too_large_in_code w o.kind (asked w o.kind)
   unfolding answer_to
   answer_large = refl
 
@@ -132,12 +104,12 @@ module _ (w : CbrWriter) (o : Offer) where
   unfolding placement placed_by placed_in_code with_placed
   placed_same = refl
 
-  answer_ready : answer_to w o (Ready (placement w o))
+  answer_ready : answer_to w o (Ok (placement w o))
       ≡ pick (ltb (length o.out) (length (placed_bytes w o))) (refused_in_code w Output) (placed_in_code w o (asked w o.kind))
   unfolding answer_to placement
   answer_ready = ap (pick (ltb (length o.out) (length (placed_bytes w o))) (refused_in_code w Output)) placed_same
 
-  abbrev Gives : Tested → CbrOffered → Type 0
+  abbrev Gives : Result Placement Untested → CbrOffered → Type 0
   Gives j r = answer_to w o j ≡ r
 
   offer_is : answer_to w o (tested_for w o) ≡ offer_in_code w o
@@ -157,18 +129,15 @@ module _ (w : CbrWriter) (o : Offer) where
 
 -- ---- a picture to place
 
-not_ready : {e : CbrError} {p : Placement} → Refused e ≡ Ready p → ⊥
+not_ready : {u : Untested} {p : Placement} → Err u ≡ Ok p → ⊥
 not_ready h = clash cc
-
-large_ready : {p : Placement} → TooLarge ≡ Ready p → ⊥
-large_ready h = clash cc
 
 record Readied (w : CbrWriter) (o : Offer) (p : Placement) : Type 0 where
   fitted : writer_fits w ≡ true
   end_far : end w o ≤ farthest
   is : p ≡ placement w o
 
-readied : (w : CbrWriter) (o : Offer) (p : Placement) → tested_for w o ≡ Ready p → Readied w o p
+readied : (w : CbrWriter) (o : Offer) (p : Placement) → tested_for w o ≡ Ok p → Readied w o p
 unfolding tested measured_for
 readied w o p h =
     let a = was_no _ _ _ not_ready h in
@@ -179,7 +148,7 @@ readied w o p h =
     let e14 = was_no _ _ _ not_ready (sym (measured_is w o f) ∙ d.1) in
     let e7 = was_no _ _ _ not_ready e14.1 in
     let e9 = was_no _ _ _ not_ready e7.1 in
-    let size = was_no _ _ _ large_ready e9.1 in
+    let size = was_no _ _ _ not_ready e9.1 in
     let e22 = was_no _ _ _ not_ready size.1 in
     record {
       fitted = f;
@@ -187,10 +156,10 @@ readied w o p h =
       is = ready_same _ _ (sym e22.1);
     }
   where
-    ready_same : (x y : Placement) → Ready x ≡ Ready y → x ≡ y
+    ready_same : (x y : Placement) → ◌≡◌ {A = Result Placement Untested} (Ok x) (Ok y) → x ≡ y
     ready_same x y e = cc
 
-module _ (w : CbrWriter) (o : Offer) (j : Tested) (e : j ≡ tested_for w o) (p : Placement) (h : j ≡ Ready p) where
+module _ (w : CbrWriter) (o : Offer) (j : Result Placement Untested) (e : j ≡ tested_for w o) (p : Placement) (h : j ≡ Ok p) where
   ready : Readied w o p
   ready = readied w o p (sym e ∙ h)
 
@@ -218,8 +187,8 @@ module _ (w : CbrWriter) (headers : List ℕ) (k : PictureKind) (i : RemovalInte
   abbrev any_out : Offer
   any_out = record { headers = headers; kind = k; interval = i; last = last; layer = layer; out = [] }
 
-  module _ {b : VbvCadence} {x : Timing} {t : Tested} (a : b ≡ cadence_at w headers) (c : x ≡ timing b i layer)
-      (e : t ≡ tested w headers k i last layer x.interval) (p : Placement) (h : t ≡ Ready p) where
+  module _ {b : VbvCadence} {x : Timing} {t : Result Placement Untested} (a : b ≡ cadence_at w headers) (c : x ≡ timing b i layer)
+      (e : t ≡ tested w headers k i last layer x.interval) (p : Placement) (h : t ≡ Ok p) where
     pub bytes_are : p.bytes ≡ length headers + length layer + p.stuffing_bytes + length (end_code last)
     bytes_are = bytes_of w any_out t (tested_by w any_out a c e) p h
 
@@ -240,14 +209,14 @@ promised w o r x e h =
 
 -- ---- the ways
 
-module _ (w : CbrWriter) (o : Offer) (j : Tested) (e : j ≡ tested_for w o) (r : CbrOffered) where
-  pub offer-refused : (error : CbrError) → j ≡ Refused error → r ≡ refused_in_code w error → OfferPromised w o r o.out
+module _ (w : CbrWriter) (o : Offer) (j : Result Placement Untested) (e : j ≡ tested_for w o) (r : CbrOffered) where
+  pub offer-refused : (error : CbrError) → j ≡ Err (Refused error) → r ≡ refused_in_code w error → OfferPromised w o r o.out
   unfolding answer_to refused_in_code
   offer-refused error h g =
       let a : offer_in_code w o ≡ refused_in_code w error = sym (offer_is w o) ∙ rw (← e, h) in
       promised w o r o.out (g ∙ sym a) (rw g)
 
-  pub offer_large : j ≡ TooLarge → r ≡ too_large_in_code w o.kind (asked w o.kind) → OfferPromised w o r o.out
+  pub offer_large : j ≡ Err TooLarge → r ≡ too_large_in_code w o.kind (asked w o.kind) → OfferPromised w o r o.out
   unfolding answer_to too_large_in_code
   offer_large h g =
       let a : offer_in_code w o ≡ too_large_in_code w o.kind (asked w o.kind) = sym (offer_is w o) ∙ rw (← e, h) in
@@ -255,7 +224,7 @@ module _ (w : CbrWriter) (o : Offer) (j : Tested) (e : j ≡ tested_for w o) (r 
       (rw g
       (pick_elim (λ (s : CbrOffered). o.out ≡ out_of (offer_answer s.answer) (placed_bytes w o) o.out) (eqb (asked w o.kind) 31) (λ f. refl) (λ f. refl)))
 
-  module _ (p : Placement) (h : j ≡ Ready p) where
+  module _ (p : Placement) (h : j ≡ Ok p) where
     pub offer-short : length o.out < p.bytes → r ≡ refused_in_code w Output → OfferPromised w o r o.out
     unfolding pick refused_in_code
     offer-short l g =

@@ -1,5 +1,6 @@
 -- The removals of the pictures that a list of calls places, one after another.
 -- Assumes nothing.
+use Rattle.std.specs.Prelude.{None}
 use mathlib.Core.Path.{◌≡◌, refl, sym, ap, subst, subst₂, ◌∙◌}
 use mathlib.Core.Bool.{Bool, true, false, true≢false}
 use mathlib.Core.List.{List, [], ◌∷◌}
@@ -24,7 +25,6 @@ use Rattle.rate_control.specs.Answers.{Given, placed, again}
 use Rattle.rate_control.specs.Offer.{Offer, position, content, end, cadence_at, interval_at, delivered_at, delivered_next, stuffing, delay, placed_bytes, with_pending, with_placed, left_by, out_of}
 use Rattle.rate_control.specs.Calls.{Call, offering, withdrawing, step_of, left_by_call, steps_of}
 use Rattle.rate_control.specs.Sent.{position_of, content_of, Stuffs, Sent, sent_position, sent_end, sent_by, sent, Removals, no_removal, removal_then, EachRemoval, InBuffer, WellPlaced, LeastStuffing}
-use Rattle.rate_control.specs.declared.Pending.TheVariants.{Nothing}
 use Rattle.rate_control.specs.Demand.{retries_after}
 use Rattle.rate_control.specs.declared.CbrWriter.{CbrWriter}
 use Rattle.rate_control.proofs.Chain.{Placing, Outcome, stays, closes, retries, hands_out, outcome}
@@ -93,7 +93,7 @@ outcome_finished h (closes g) = (λ k out rest. refl, h)
 outcome_finished h (retries g) = (λ k out rest. refl, h)
 outcome_finished h (hands_out g) = absurd (true≢false (sym h ∙ g.unfinished))
 
-still_finished : (w : CbrWriter) → w.finished ≡ true → (with_pending w Nothing).finished ≡ true
+still_finished : (w : CbrWriter) → w.finished ≡ true → (with_pending w None).finished ≡ true
 unfolding with_pending
 still_finished w e = e
 
@@ -183,11 +183,11 @@ outcome_removals n l h k (retries g) c = c
 outcome_removals {w = w} {o = o} n l h k (hands_out g) c =
     rw (over-take (placed_bytes w o) o.out) (place_removals n w o h k g _ (placed-removals w o c))
 
-withdrawn-removals : {v : CbrWriter} (w : CbrWriter) (xs : List Sent) → v ≡ with_pending w Nothing → Claim v xs → Claim w xs
+withdrawn-removals : {v : CbrWriter} (w : CbrWriter) (xs : List Sent) → v ≡ with_pending w None → Claim v xs → Claim w xs
 unfolding with_pending Claim
 withdrawn-removals w xs e c = subst (λ (v : CbrWriter). Claim v xs) e c
 
-withdrawn-bytes : (w : CbrWriter) (n : ℕ) → w.model.prev_end_bits ≡ 8 * n → (with_pending w Nothing).model.prev_end_bits ≡ 8 * n
+withdrawn-bytes : (w : CbrWriter) (n : ℕ) → w.model.prev_end_bits ≡ 8 * n → (with_pending w None).model.prev_end_bits ≡ 8 * n
 unfolding with_pending
 withdrawn-bytes w n k = k
 

@@ -1,7 +1,8 @@
 -- The ranges of a writer's state as the code tests them.
 -- Assumes nothing.
+use Rattle.std.specs.Prelude.{None}
 use mathlib.Core.Path.{◌≡◌, sym, ◌∙◌}
-use mathlib.Core.Bool.{Bool, true, false, ◌&&◌, and_assoc}
+use mathlib.Core.Bool.{Bool, true, ◌&&◌, and_assoc}
 use mathlib.Core.List.{List, [], ◌∷◌}
 use mathlib.Core.Logic.{⊎_elim}
 use Prim.Native.Nat.{ℕ, ◌*◌, ◌/◌, ◌%◌, ◌≤◌, ◌<◌, max}
@@ -16,9 +17,8 @@ use Rattle.vbv.proofs.Fitting.{both_below}
 use Rattle.vbr.specs.Variable.{model_fits_at}
 use Rattle.cadence.specs.Cadence.{cadence_fits}
 use Rattle.rate_control.specs.Writer.{all_fit, quantiser_fits, pending_fits, writer_fits}
-use Rattle.bits.specs.Refusals.{value, refused, or_else}
+use Rattle.bits.specs.Refusals.{value}
 use Rattle.rate_control.specs.Offer.{with_pending, withdraw}
-use Rattle.rate_control.specs.declared.Pending.TheVariants.{Nothing}
 use Rattle.rate_control.specs.declared.CbrWriter.{CbrWriter}
 
 -- three numbers
@@ -61,24 +61,6 @@ writer-tested w f t q p k g a h b d e c =
     (simp and_assoc)
 
 -- a writer that fits is not refused
-pub withdraw-answer : (w : CbrWriter) → writer_fits w ≡ true → withdraw w ≡ value (with_pending w Nothing)
+pub withdraw-answer : (w : CbrWriter) → writer_fits w ≡ true → withdraw w ≡ value (with_pending w None)
 unfolding withdraw pick
 withdraw-answer w f = rw f
-
--- the ways through a withdrawal
-module _ (w : CbrWriter) (f : Bool) (e : f ≡ writer_fits w) where
-  pub way_withdrawn : (x : CbrWriter) → f ≡ true → x ≡ with_pending w Nothing → value x ≡ withdraw w
-  unfolding withdraw pick
-  way_withdrawn x h g = rw (← e, h, g)
-
-  pub left-withdrawn : (x : CbrWriter) → f ≡ true → x ≡ with_pending w Nothing → x ≡ or_else w (withdraw w)
-  unfolding withdraw pick
-  left-withdrawn x h g = rw (← e, h, g)
-
-  pub way_unfit : f ≡ false → refused 12 0 0 0 ≡ withdraw w
-  unfolding withdraw pick
-  way_unfit h = rw (← e, h)
-
-  pub left-unfit : f ≡ false → w ≡ or_else w (withdraw w)
-  unfolding withdraw pick
-  left-unfit h = rw (← e, h)

@@ -1,42 +1,31 @@
 -- What a writer keeps for each kind, and the writer after an offer, as the code goes.
 -- Assumes nothing.
+use Rattle.std.specs.Prelude.{None, Ok}
 use mathlib.Core.Path.{◌≡◌}
-use mathlib.Core.Bool.{Bool, false, not}
+use mathlib.Core.Bool.{Bool}
 use Prim.Native.Nat.{ℕ, ◌+◌, ◌*◌, ◌≤◌}
-use lib.Dec.{eqb}
 use lib.ListN.{get_or, set}
 use Rattle.layers.specs.declared.PictureKind.{PictureKind}
 use Rattle.cadence.specs.declared.VbvCadence.{VbvCadence}
-use Rattle.rate_control.specs.Writer.{index, of, clashes, asked, steered}
+use Rattle.rate_control.specs.Writer.{index, of, asked, steered}
 use Rattle.rate_control.specs.Steps.{placed_by}
-use Rattle.rate_control.specs.declared.Pending.{Pending}
-use Rattle.rate_control.specs.declared.Pending.TheVariants.{Nothing, Waits}
 use Rattle.rate_control.specs.declared.CbrWriter.{CbrWriter}
-use Rattle.rate_control.specs.declared.CbrAnswer.TheVariants.{Placed}
+use Rattle.rate_control.specs.declared.CbrGiven.TheVariants.{Placed}
 use Rattle.rate_control.specs.declared.CbrOffered.{CbrOffered}
 use Rattle.rate_control.specs.declared.Placement.{Placement}
-
--- the pending picture
-pub clash_none : (p : Pending) (k : PictureKind) → p ≡ Nothing → false ≡ clashes p k
-unfolding clashes
-clash_none p k e = rw e
-
-pub clash_some : (p : Pending) (k j : PictureKind) (n a b : ℕ) → p ≡ Waits j n → a ≡ index j → b ≡ index k → not (eqb a b) ≡ clashes p k
-unfolding clashes
-clash_some p k j n a b e f g = rw (e, f, g)
 
 -- placed
 pub placed_told : (w : CbrWriter) (k : PictureKind) (layer : ℕ) (last : Bool) (p : Placement) (c : VbvCadence) (q i s : ℕ)
     → q ≡ asked w k → i ≡ index k → s ≡ steered q (get_or w.target_bits i 0) (8 * layer)
     → ◌≡◌ {A = CbrOffered}
     (record {
-      answer = Placed q p.vbv_delay p.bytes p.stuffing_bytes;
+      answer = Ok (Placed q p.vbv_delay p.bytes p.stuffing_bytes);
       writer =
           record {
             model = p.model;
             target_bits = w.target_bits;
             q = set w.q i s;
-            pending = Nothing;
+            pending = None;
             stuffing_bytes = w.stuffing_bytes + p.stuffing_bytes;
             finished = last;
             cadence = c;

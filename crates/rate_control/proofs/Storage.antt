@@ -3,11 +3,13 @@
 use mathlib.Core.Path.{◌≡◌, refl, sym, ap, ◌∙◌}
 use mathlib.Core.Bool.{Bool, true, false}
 use mathlib.Core.List.{List, [], ◌++◌, append_assoc}
-use Prim.Native.Nat.{ℕ, zero, suc, ◌+◌, ◌-◌, ◌≤◌, ◌<◌}
+use Prim.Native.Nat.{ℕ, ◌+◌, ◌-◌, ◌≤◌}
 use native.Mathlib.Omega.{arith}
-use native.Mathlib.Numerals.{add-one}
-use lib.ListN.{length, get_or, take, drop, set, replicate, drop_of_length-le, length-append, length-replicate}
-use lib.Seq.{sets, sets-eq, length-sets, drop-cons, take_at, drop_at, length-take-le}
+use lib.ListN.{length, take, drop, replicate, length-append, length-drop, length-replicate}
+use lib.Seq.{sets, sets-eq, length-sets, take_at, drop_at, length-take-le}
+use borrow.Rule.Slice.PartMut.{put_mid}
+use Rattle.std.proofs.lemmas.List.{take_all}
+use Rattle.std.proofs.lemmas.Slice.{put_mid-paste}
 use Rattle.bits.specs.Answers.{over}
 use Rattle.bits.proofs.Over.{over_sets, sets_append}
 use Rattle.vbv.specs.Patch.{patched}
@@ -15,23 +17,17 @@ use Rattle.vbv.proofs.After.{patched_size}
 use Rattle.scan.specs.Codes.{sequence_end}
 use Rattle.rate_control.specs.Offer.{end_code}
 
--- one byte more
-pub put_step : (out bytes : List ℕ) (at k : ℕ) → k < length bytes
-    → sets (set out (at + k) (get_or bytes k 0)) (at + (k + 1)) (drop (k + 1) bytes) ≡ sets out (at + k) (drop k bytes)
-put_step out bytes at k h =
-    let e : at + (k + 1) ≡ suc (at + k) = omega arith in
-    rw (e, add-one k, drop-cons bytes k 0 h)
+-- a part of a run, written
+pub part_set : (s x y : List ℕ) (a k : ℕ) → a + length x ≤ length s → k ≡ length x → y ≡ x → put_mid a k s y ≡ sets s a x
+part_set s x y a k h e g =
+    put_mid-paste a k s y x (length x) g (sym e) refl
+    ∙ rw (take_all (length x) x (omega arith)) (sym (sets-eq x s a h))
 
-pub put_done : (out bytes : List ℕ) (at k : ℕ) → length bytes ≤ k → sets out at (drop k bytes) ≡ out
-put_done out bytes at k h = ap (sets out at) (drop_of_length-le bytes h)
-
-pub zeros_step : (out : List ℕ) (k left : ℕ) → 0 < left → sets (set out k 0) (k + 1) (replicate (left - 1) 0) ≡ sets out k (replicate left 0)
-zeros_step out k zero h = absurd (omega arith)
-zeros_step out k (suc left) h = let e : suc left - 1 ≡ left = omega arith in rw (e, add-one k)
-
-pub zeros_end : (out : List ℕ) (k left : ℕ) → left ≤ 0 → sets out k (replicate left 0) ≡ out
-zeros_end out k zero h = refl
-zeros_end out k (suc left) h = absurd (omega arith)
+pub zeros_set : (s y : List ℕ) (a z : ℕ) → a + z ≤ length s → y ≡ replicate (length (take (a + z - a) (drop a s))) 0 → put_mid a (a + z - a) s y ≡ sets s a (replicate z 0)
+zeros_set s y a z h g =
+    let l : length (replicate {A = ℕ} z 0) ≡ z = length-replicate {A = ℕ} z 0 in
+    let n : length (take (a + z - a) (drop a s)) ≡ z = length-take-le (a + z - a) (drop a s) (omega (arith, length-drop a s)) ∙ omega arith in
+    part_set s (replicate z 0) y a (a + z - a) (omega arith) (omega arith) (rw (g, n))
 
 -- the sequence's end, after the last picture
 pub end_code-last : (last : Bool) → last ≡ true → end_code last ≡ sequence_end

@@ -1,5 +1,6 @@
 -- The tests as the code goes come to the chain of an offer.
 -- Assumes nothing.
+use Rattle.std.specs.Prelude.{Result, Ok, Err}
 use mathlib.Core.Path.{◌≡◌, refl, sym, ap, ◌∙◌}
 use mathlib.Core.Bool.{Bool, true, false, not, ◌||◌, ◌&&◌}
 use Prim.Native.Nat.{ℕ, ◌+◌, ◌*◌, ◌≤◌, ◌<◌, max, ◌/◌}
@@ -10,20 +11,17 @@ use borrow.Author.Tests.{ltb-true, ltb-false, lt-ltb, le-ltb}
 use Rattle.bits.proofs.Flags.{pick_elim, yes, no, pick-alike}
 use Rattle.bits.specs.Bits.{pick}
 use Rattle.vbv.specs.Annex.{first_delivered, full, overflows, beyond, arrived, expected_delay, greatest_end, least_end}
-use Rattle.vbv.specs.Steps.{EndFits, delay_of, bits_of, removal_of}
+use Rattle.vbv.specs.Steps.{EndFits, model_of, removal_of}
 use Rattle.vbv.specs.Model.{farthest, params_fit, delivered, model_fits, at_delivered, after_removal, next_delivered, periods, delay_for_picture, remove_picture, max_end_bits, min_end_bits}
 use Rattle.vbv.specs.declared.RemovalInterval.{RemovalInterval}
 use Rattle.vbv.specs.declared.VbvParams.{VbvParams}
 use Rattle.vbv.specs.declared.VbvCbrModel.{VbvCbrModel}
+use Rattle.vbv.specs.declared.VbvError.{VbvError}
 use Rattle.vbv.specs.declared.VbvError.TheVariants.{Early, Range}
 use Rattle.vbv.specs.declared.VbvViolation.{VbvViolation}
+use Rattle.vbv.specs.declared.VbvRemovalError.{VbvRemovalError}
+use Rattle.vbv.specs.declared.VbvRemovalError.TheVariants as rm
 use Rattle.vbv.specs.declared.VbvViolation.TheVariants.{Overflow, Underflow}
-use Rattle.vbv.specs.declared.VbvModel.{VbvModel}
-use Rattle.vbv.specs.declared.VbvModel.TheVariants as md
-use Rattle.vbv.specs.declared.VbvRemoval.{VbvRemoval}
-use Rattle.vbv.specs.declared.VbvRemoval.TheVariants as rm
-use Rattle.vbv.specs.declared.VbvDelay.TheVariants as dl
-use Rattle.vbv.specs.declared.VbvBits.TheVariants as bt
 use Rattle.vbv.proofs.Fitting.{params_fit_lem}
 use Rattle.vbv.proofs.Laws.{beyond-greatest, delay-most, fits-params, started, model-starts}
 use Rattle.vbv.proofs.Told.{next_delivered_is}
@@ -34,13 +32,13 @@ use Rattle.vbr.proofs.Laws.{variable-starts, variable_started}
 use Rattle.vbr.proofs.Named.{variable-starts_named, variable-removal_named}
 use Rattle.rate_control.specs.Writer.{writer_fits}
 use Rattle.rate_control.specs.Offer.{Offer, position, content, end, first_delay, delivered_at, interval_at, brought_next, delivered_next, stuffing, delay, end_code, placed_bytes}
-use Rattle.rate_control.specs.Steps.{started_at, stuffing_up_to, ready_by, by_end, violated, by_size, by_most, with_stuffing, by_least, by_start, filled_at, flowed_by, by_filled, by_rate, extent_of, within14, measured}
+use Rattle.rate_control.specs.Steps.{started_at, stuffing_up_to, ready_by, by_end, violated, not_removed, by_size, by_most, with_stuffing, by_least, by_start, filled_at, flowed_by, by_filled, by_rate, extent_of, within14, measured}
 use Rattle.rate_control.specs.declared.CbrWriter.{CbrWriter}
 use Rattle.rate_control.specs.declared.CbrError.TheVariants.{Model, Violation, Stuffing}
 use Rattle.rate_control.specs.declared.Extent.{Extent}
 use Rattle.rate_control.specs.declared.Placement.{Placement}
-use Rattle.rate_control.specs.declared.Tested.{Tested}
-use Rattle.rate_control.specs.declared.Tested.TheVariants.{Refused, TooLarge, Ready}
+use Rattle.rate_control.specs.declared.Untested.{Untested}
+use Rattle.rate_control.specs.declared.Untested.TheVariants.{Refused, TooLarge}
 use Rattle.rate_control.proofs.Fitting.{writer_fits_lem, end_far, model-constant, model-variable}
 use Rattle.rate_control.proofs.Placing.{delivered-later, delivered-first, placed_size, stuffing-variable, end-variable, never-overflows, delay_is}
 use Rattle.rate_control.proofs.Ways.{first-low}
@@ -68,14 +66,14 @@ placement w o = record {
   stuffing_bytes = stuffing w o;
 }
 
-unfoldable pub measured_for : CbrWriter → Offer → Tested
+unfoldable pub measured_for : CbrWriter → Offer → Result Placement Untested
 measured_for w o =
-    pick (ltb farthest (position w o) || ltb farthest (end w o)) (Refused (Model Range))
-    (pick (not w.variable && beyond w.model.params (position w o) (delivered_at w o)) (Refused (Model Early))
-    (pick (overflows w.model.params w.model.prev_end_bits (delivered_at w o)) (Refused (Violation (Overflow w.model.removed 0 0)))
-    (pick (beyond w.model.params (content w o) (delivered_at w o)) TooLarge
-    (pick (beyond w.model.params (end w o) (delivered_at w o)) (Refused Stuffing)
-    (Ready (placement w o))))))
+    pick (ltb farthest (position w o) || ltb farthest (end w o)) (Err (Refused (Model Range)))
+    (pick (not w.variable && beyond w.model.params (position w o) (delivered_at w o)) (Err (Refused (Model Early)))
+    (pick (overflows w.model.params w.model.prev_end_bits (delivered_at w o)) (Err (Refused (Violation (Overflow w.model.removed 0 0))))
+    (pick (beyond w.model.params (content w o) (delivered_at w o)) (Err TooLarge)
+    (pick (beyond w.model.params (end w o) (delivered_at w o)) (Err (Refused Stuffing))
+    (Ok (placement w o))))))
 
 -- ---- the model that the pending picture is removed from
 
@@ -88,9 +86,9 @@ pub record StartedFor (v : Bool) (w : CbrWriter) (o : Offer) (n : VbvCbrModel) :
   pub same_count : n.removed ≡ w.model.removed
   pub delivered_is : delivered n ≡ delivered_at w o
 
-pub record StartedModel (v : Bool) (w : CbrWriter) (o : Offer) (r : VbvModel) : Type 0 where
+pub record StartedModel (v : Bool) (w : CbrWriter) (o : Offer) (r : Result VbvCbrModel VbvError) : Type 0 where
   pub model : VbvCbrModel
-  pub started_is : r ≡ md.Model model
+  pub started_is : r ≡ Ok model
   pub begun : StartedFor v w o model
 
 kept : (v : Bool) (w : CbrWriter) (o : Offer) → model_fits_at v w.model ≡ true → w.model.started ≡ true → StartedFor v w o w.model
@@ -166,31 +164,31 @@ end_same w o = refl
 -- the cases of each test
 module _ (m : VbvCbrModel) (x : Extent) (z : ℕ) (i : RemovalInterval) where
   delay_case : (next : VbvCbrModel) (d : ℕ)
-      → ready_by next x z (dl.Delay d) ≡ Ready (record { model = next; vbv_delay = d; bytes = x.bytes + z; stuffing_bytes = z })
+      → ready_by next x z (Ok d) ≡ Ok (record { model = next; vbv_delay = d; bytes = x.bytes + z; stuffing_bytes = z })
   unfolding ready_by
   delay_case next d = refl
 
-  end-violated : (v : VbvViolation) → by_end m x z (rm.Violation v) ≡ Refused Stuffing
+  end-violated : (v : VbvViolation) → by_end m x z (Err (rm.Violation v)) ≡ Err (Refused Stuffing)
   unfolding by_end
   end-violated v = refl
 
-  end-model : (next : VbvCbrModel) → by_end m x z (rm.Model next) ≡ ready_by next x z (delay_of (delay_for_picture m x.position))
+  end-model : (next : VbvCbrModel) → by_end m x z (Ok next) ≡ ready_by next x z (model_of (delay_for_picture m x.position))
   unfolding by_end
   end-model next = refl
 
-  size_over : (k c e : ℕ) → by_size m x z i (rm.Violation (Overflow k c e)) ≡ Refused (Violation (Overflow k c e))
-  unfolding by_size violated
+  size_over : (k c e : ℕ) → by_size m x z i (Err (rm.Violation (Overflow k c e))) ≡ Err (Refused (Violation (Overflow k c e)))
+  unfolding by_size violated not_removed
   size_over k c e = refl
 
-  size_under : (k c e : ℕ) → by_size m x z i (rm.Violation (Underflow k c e)) ≡ TooLarge
-  unfolding by_size violated
+  size_under : (k c e : ℕ) → by_size m x z i (Err (rm.Violation (Underflow k c e))) ≡ Err TooLarge
+  unfolding by_size violated not_removed
   size_under k c e = refl
 
-  size_model : (next : VbvCbrModel) → by_size m x z i (rm.Model next) ≡ by_end m x z (removal_of (remove_picture m (x.content + 8 * z) i))
+  size_model : (next : VbvCbrModel) → by_size m x z i (Ok next) ≡ by_end m x z (removal_of (remove_picture m (x.content + 8 * z) i))
   unfolding by_size
   size_model next = refl
 
-  most_case : (most : ℕ) → by_most m x z i (bt.Bits most) ≡ pick (ltb most x.position) (Refused (Model Early)) (by_size m x z i (removal_of (remove_picture m x.content i)))
+  most_case : (most : ℕ) → by_most m x z i (Ok most) ≡ pick (ltb most x.position) (Err (Refused (Model Early))) (by_size m x z i (removal_of (remove_picture m x.content i)))
   unfolding by_most
   most_case most = refl
 
@@ -236,17 +234,17 @@ module _ (w : CbrWriter) (o : Offer) (f : writer_fits w ≡ true) (c : w.variabl
   unfolding brought_next
   next-same = brought ∙ sym (next-at w o c)
 
-  pub least_told : bits_of (min_end_bits n (interval_at w o)) ≡ bt.Bits (least_end p (brought_next w o))
+  pub least_told : model_of (min_end_bits n (interval_at w o)) ≡ Ok (least_end p (brought_next w o))
   least_told = min_named n b.fits b.is_started (interval_at w o) ∙ rw (brought, b.same_params)
 
-  most_told : bits_of (max_end_bits n) ≡ bt.Bits (greatest_end p (delivered_at w o))
+  most_told : model_of (max_end_bits n) ≡ Ok (greatest_end p (delivered_at w o))
   most_told = max_named n b.fits b.is_started ∙ rw (b.delivered_is, b.same_params)
 
   removal : (e : ℕ) → w.model.prev_end_bits ≤ e → e ≤ farthest
       → removal_of (remove_picture n e (interval_at w o))
-      ≡ pick (overflows p w.model.prev_end_bits (delivered_at w o)) (rm.Violation (Overflow w.model.removed 0 0))
-      (pick (beyond p e (delivered_at w o)) (rm.Violation (Underflow w.model.removed 0 0))
-      (rm.Model (after_removal w.model e (delivered_next w o))))
+      ≡ pick (overflows p w.model.prev_end_bits (delivered_at w o)) (Err (rm.Violation (Overflow w.model.removed 0 0)))
+      (pick (beyond p e (delivered_at w o)) (Err (rm.Violation (Underflow w.model.removed 0 0)))
+      (Ok (after_removal w.model e (delivered_next w o))))
   removal e l h =
       removal_named n b.fits b.is_started e (interval_at w o) (ends w o f b e l h)
       ∙ rw (next-same, after_same w.model n e (delivered_next w o) b.same_params b.same_count, b.delivered_is, b.same_end, b.same_count, b.same_params)
@@ -254,7 +252,7 @@ module _ (w : CbrWriter) (o : Offer) (f : writer_fits w ≡ true) (c : w.variabl
   -- in time and no overflow: the delay can be told
   ready_told : position w o ≤ farthest → beyond p (position w o) (delivered_at w o) ≡ false
       → overflows p w.model.prev_end_bits (delivered_at w o) ≡ false
-      → ready_by (after_removal w.model (end w o) (delivered_next w o)) x (stuffing w o) (delay_of (delay_for_picture n (position w o))) ≡ Ready (placement w o)
+      → ready_by (after_removal w.model (end w o) (delivered_next w o)) x (stuffing w o) (model_of (delay_for_picture n (position w o))) ≡ Ok (placement w o)
   unfolding placement
   ready_told h t g =
       let e : beyond n.params (position w o) (delivered n) ≡ false = rw (b.delivered_is, b.same_params) t in
@@ -266,69 +264,68 @@ module _ (w : CbrWriter) (o : Offer) (f : writer_fits w ≡ true) (c : w.variabl
   module _ (near : position w o ≤ farthest) (far : end w o ≤ farthest) where
     end_told : beyond p (position w o) (delivered_at w o) ≡ false → overflows p w.model.prev_end_bits (delivered_at w o) ≡ false
         → by_end n x (stuffing w o) (removal_of (remove_picture n (end w o) (interval_at w o)))
-        ≡ pick (beyond p (end w o) (delivered_at w o)) (Refused Stuffing) (Ready (placement w o))
+        ≡ pick (beyond p (end w o) (delivered_at w o)) (Err (Refused Stuffing)) (Ok (placement w o))
     end_told t g =
         let i = interval_at w o in
         ap (by_end n x (stuffing w o)) (removal (end w o) (omega (arith, inside w o, end_same w o)) far ∙ sym (no _ _ _ g refl))
-        ∙ pick-alike (λ (r : VbvRemoval) (j : Tested). by_end n x (stuffing w o) r ≡ j) _ (end-violated n x (stuffing w o) i _)
+        ∙ pick-alike (λ (r : Result VbvCbrModel VbvRemovalError) (j : Result Placement Untested). by_end n x (stuffing w o) r ≡ j) _ (end-violated n x (stuffing w o) i _)
         (λ h22. end-model n x (stuffing w o) i _ ∙ ready_told near t g)
 
     size_told : beyond p (position w o) (delivered_at w o) ≡ false
         → by_size n x (stuffing w o) (interval_at w o) (removal_of (remove_picture n (content w o) (interval_at w o)))
-        ≡ pick (overflows p w.model.prev_end_bits (delivered_at w o)) (Refused (Violation (Overflow w.model.removed 0 0)))
-        (pick (beyond p (content w o) (delivered_at w o)) TooLarge
-        (pick (beyond p (end w o) (delivered_at w o)) (Refused Stuffing) (Ready (placement w o))))
+        ≡ pick (overflows p w.model.prev_end_bits (delivered_at w o)) (Err (Refused (Violation (Overflow w.model.removed 0 0))))
+        (pick (beyond p (content w o) (delivered_at w o)) (Err TooLarge)
+        (pick (beyond p (end w o) (delivered_at w o)) (Err (Refused Stuffing)) (Ok (placement w o))))
     size_told t =
         let i = interval_at w o in
         let z = stuffing w o in
         ap (by_size n x z i) (removal (content w o) (inside w o) (omega (arith, end_same w o)))
-        ∙ pick-alike (λ (r : VbvRemoval) (j : Tested). by_size n x z i r ≡ j) _ (size_over n x z i _ _ _)
-        (λ h9. pick-alike (λ (r : VbvRemoval) (j : Tested). by_size n x z i r ≡ j) _ (size_under n x z i _ _ _)
+        ∙ pick-alike (λ (r : Result VbvCbrModel VbvRemovalError) (j : Result Placement Untested). by_size n x z i r ≡ j) _ (size_over n x z i _ _ _)
+        (λ h9. pick-alike (λ (r : Result VbvCbrModel VbvRemovalError) (j : Result Placement Untested). by_size n x z i r ≡ j) _ (size_under n x z i _ _ _)
         (λ size. size_model n x z i _ ∙ rw (end_same w o) (end_told t h9)))
 
     asked_7 : (t : Bool) → t ≡ (not w.variable && t)
     asked_7 t = ap (λ (v : Bool). not v && t) (sym c)
 
-    pub position_told : by_most n x (stuffing w o) (interval_at w o) (bits_of (max_end_bits n)) ≡ measured_for w o
+    pub position_told : by_most n x (stuffing w o) (interval_at w o) (model_of (max_end_bits n)) ≡ measured_for w o
     unfolding measured_for
     position_told =
         rw most_told
         (most_case n x (stuffing w o) (interval_at w o) _
         ∙ rw (← beyond-greatest p params-fits (position w o) (delivered_at w o), ← asked_7 (beyond p (position w o) (delivered_at w o)))
-        (pick-alike (λ (a b : Tested). a ≡ b) _ refl (λ h7. size_told h7) ∙ no _ _ _ (neither (position w o) (end w o) near far) refl))
+        (pick-alike (λ (a b : Result Placement Untested). a ≡ b) _ refl (λ h7. size_told h7) ∙ no _ _ _ (neither (position w o) (end w o) near far) refl))
 
 -- ---- at a variable rate
 
 module _ (x : Extent) where
-  flow_under : (k c e : ℕ) → flowed_by x (rm.Violation (Underflow k c e)) ≡ TooLarge
-  unfolding flowed_by violated
+  flow_under : (k c e : ℕ) → flowed_by x (Err (rm.Violation (Underflow k c e))) ≡ Err TooLarge
+  unfolding flowed_by violated not_removed
   flow_under k c e = refl
 
-  flow_model : (next : VbvCbrModel) → flowed_by x (rm.Model next) ≡ Ready (record { model = next; vbv_delay = 0xFFFF; bytes = x.bytes; stuffing_bytes = 0 })
+  flow_model : (next : VbvCbrModel) → flowed_by x (Ok next) ≡ Ok (record { model = next; vbv_delay = 0xFFFF; bytes = x.bytes; stuffing_bytes = 0 })
   unfolding flowed_by
   flow_model next = refl
 
-  fill_case : (i : RemovalInterval) (m : VbvCbrModel) → by_filled x i (md.Model m) ≡ flowed_by x (removal_of (remove_variable m x.content i))
+  fill_case : (i : RemovalInterval) (m : VbvCbrModel) → by_filled x i (Ok m) ≡ flowed_by x (removal_of (remove_variable m x.content i))
   unfolding by_filled
   fill_case i m = refl
 
 module _ (w : CbrWriter) (o : Offer) (f : writer_fits w ≡ true) (c : w.variable ≡ true) (n : VbvCbrModel) (b : StartedFor true w o n) where
   flowed-removal : content w o ≤ farthest
       → removal_of (remove_variable n (content w o) (interval_at w o))
-      ≡ pick (beyond w.model.params (content w o) (delivered_at w o)) (rm.Violation (Underflow w.model.removed 0 0))
-      (rm.Model (after_removal w.model (end w o) (delivered_next w o)))
+      ≡ pick (beyond w.model.params (content w o) (delivered_at w o)) (Err (rm.Violation (Underflow w.model.removed 0 0)))
+      (Ok (after_removal w.model (end w o) (delivered_next w o)))
   flowed-removal h =
       variable-removal_named n b.fits b.is_started (content w o) (interval_at w o) (ends w o f b (content w o) (inside w o) h)
       ∙ rw (next-at w o c, end-variable w o c, b.delivered_is, after_same w.model n (content w o) _ b.same_params b.same_count, b.same_params, b.same_count)
 
-  flowed_ready : Ready (record { model = after_removal w.model (end w o) (delivered_next w o); vbv_delay = 0xFFFF; bytes = (extent w o).bytes; stuffing_bytes = 0 })
-      ≡ Ready (placement w o)
+  flowed_ready : ◌≡◌ {A = Result Placement Untested} (Ok (record { model = after_removal w.model (end w o) (delivered_next w o); vbv_delay = 0xFFFF; bytes = (extent w o).bytes; stuffing_bytes = 0 })) (Ok (placement w o))
   unfolding placement
   flowed_ready =
       let s : length (placed_bytes w o) ≡ (extent w o).bytes = omega (arith, sizes w o, stuffing-variable w o c) in
       rw (s, stuffing-variable w o c, delay_is w o c)
 
-  pub flowed_told : position w o ≤ farthest → content w o ≤ farthest → by_filled (extent w o) (interval_at w o) (md.Model n) ≡ measured_for w o
+  pub flowed_told : position w o ≤ farthest → content w o ≤ farthest → by_filled (extent w o) (interval_at w o) (Ok n) ≡ measured_for w o
   unfolding measured_for
   flowed_told near far =
       no _ _ _ (neither (position w o) (end w o) near (omega (arith, end-variable w o c)))
@@ -336,16 +333,16 @@ module _ (w : CbrWriter) (o : Offer) (f : writer_fits w ≡ true) (c : w.variabl
       (no _ _ _ (never-overflows w o f c)
       (fill_case (extent w o) (interval_at w o) n
       ∙ ap (flowed_by (extent w o)) (flowed-removal far)
-      ∙ pick-alike (λ (r : VbvRemoval) (j : Tested). flowed_by (extent w o) r ≡ j) _ (flow_under (extent w o) _ _ _)
+      ∙ pick-alike (λ (r : Result VbvCbrModel VbvRemovalError) (j : Result Placement Untested). flowed_by (extent w o) r ≡ j) _ (flow_under (extent w o) _ _ _)
       (λ size. flow_model (extent w o) _ ∙ flowed_ready ∙ no _ _ _ (rw (end-variable w o c) size) refl))))
 
 -- ---- 14
 
 module _ (w : CbrWriter) (o : Offer) where
-  abbrev Same : Tested → Type 0
+  abbrev Same : Result Placement Untested → Type 0
   Same j = j ≡ measured_for w o
 
-  far_told : farthest < max (position w o) (end w o) → Refused (Model Range) ≡ measured_for w o
+  far_told : farthest < max (position w o) (end w o) → Err (Refused (Model Range)) ≡ measured_for w o
   unfolding measured_for
   far_told h = yes _ _ _ (either (position w o) (end w o) h) refl
 

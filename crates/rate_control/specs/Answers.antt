@@ -1,18 +1,11 @@
 -- What a writer answers: the number of each refusal in paper 01's table with what it carries, and each answer by number and values. A 9 names its picture, and no delays,
 -- since nothing was coded. Assumes nothing.
-use Rattle.std.specs.Prelude.{ℕ}
+use Rattle.std.specs.Prelude.{ℕ, Result, Ok, Err}
 use Rattle.bits.specs.Refusals.{Answer, value, refused, plain}
-use Rattle.vbv.specs.Answers.{model_number, violation_refusal, model_refusal}
+use Rattle.vbv.specs.Answers.{model_number, violation_refusal}
 use Rattle.bits.specs.declared.VbvRefusal.{VbvRefusal}
-use Rattle.rate_control.specs.declared.CbrWriter.{CbrWriter}
-use Rattle.rate_control.specs.declared.CbrCreation.{CbrCreation}
-use Rattle.rate_control.specs.declared.CbrCreation.TheVariants.{Created, Refused as NotCreated}
-use Rattle.rate_control.specs.declared.CbrCreated.{CbrCreated}
-use Rattle.rate_control.specs.declared.CbrAnswer.{CbrAnswer}
-use Rattle.rate_control.specs.declared.CbrAnswer.TheVariants.{Placed, Again, Refused}
-use Rattle.rate_control.specs.declared.CbrWithdrawal.{CbrWithdrawal}
-use Rattle.rate_control.specs.declared.CbrWithdrawal.TheVariants.{Withdrawn, Refused as NotWithdrawn}
-use Rattle.rate_control.specs.declared.CbrWithdrawn.{CbrWithdrawn}
+use Rattle.rate_control.specs.declared.CbrGiven.{CbrGiven}
+use Rattle.rate_control.specs.declared.CbrGiven.TheVariants.{Placed, Again}
 use Rattle.rate_control.specs.declared.CbrError.{CbrError}
 use Rattle.rate_control.specs.declared.CbrError.TheVariants.{Model, Violation, Kind, Headers, Layer, TooLarge, Stuffing, Output}
 
@@ -32,22 +25,7 @@ pub data Given : Type 0 where
   again : ℕ → Given
 
 -- each answer by its number and values
-abbrev pub offer_answer : CbrAnswer → Answer Given
-offer_answer (Placed q d n z) = value (placed q d n z)
-offer_answer (Again q) = value (again q)
-offer_answer (Refused e) = refused (offer_refusal e).number (offer_refusal e).picture (offer_refusal e).coded (offer_refusal e).expected
-
--- a creation's and a withdrawal's writer stands beside the answer
-abbrev pub creation_answer : CbrCreation → CbrWriter → Answer CbrWriter
-creation_answer Created w = value w
-creation_answer (NotCreated e) w = model_refusal e
-
-abbrev pub created_answer : CbrCreated → Answer CbrWriter
-created_answer r = creation_answer r.answer r.writer
-
-abbrev pub withdrawal_answer : CbrWithdrawal → CbrWriter → Answer CbrWriter
-withdrawal_answer Withdrawn w = value w
-withdrawal_answer (NotWithdrawn e) w = model_refusal e
-
-abbrev pub withdrawn_answer : CbrWithdrawn → Answer CbrWriter
-withdrawn_answer r = withdrawal_answer r.answer r.writer
+abbrev pub offer_answer : Result CbrGiven CbrError → Answer Given
+offer_answer (Ok (Placed q d n z)) = value (placed q d n z)
+offer_answer (Ok (Again q)) = value (again q)
+offer_answer (Err e) = refused (offer_refusal e).number (offer_refusal e).picture (offer_refusal e).coded (offer_refusal e).expected

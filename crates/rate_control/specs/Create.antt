@@ -1,6 +1,6 @@
 -- Creation of a writer (paper 01, 'A placed picture'; requests 02, 05 and 06): 12 for a mode or a range, 6 for the rate code, at a constant rate 12 for the ratio.
 -- Assumes nothing.
-use Rattle.std.specs.Prelude.{ℕ, [], ◌∷◌, Bool, true, false, not, ◌&&◌, leb}
+use Rattle.std.specs.Prelude.{ℕ, [], ◌∷◌, Bool, true, false, not, ◌&&◌, leb, None}
 use Rattle.bits.specs.Refusals.{Answer, value, refuse, and_then}
 use Rattle.vbv.specs.Params.{params_of}
 use Rattle.vbv.specs.Answers.{frame_rate}
@@ -12,7 +12,6 @@ use Rattle.pictures.specs.declared.VbvStandard.{VbvStandard}
 use Rattle.pictures.specs.declared.VbvStandard.TheVariants.{Mpeg1, Mpeg2}
 use Rattle.rate_control.specs.Targets.{targets}
 use Rattle.rate_control.specs.declared.CbrConfig.{CbrConfig}
-use Rattle.rate_control.specs.declared.Pending.TheVariants.{Nothing}
 use Rattle.rate_control.specs.declared.CbrWriter.{CbrWriter}
 
 -- from low to high
@@ -44,7 +43,7 @@ fresh_writer c m = record {
   model = m;
   target_bits = targets m.params c.b_between c.anchors_per_gop;
   q = c.initial_quantiser_scale_code ∷ c.initial_quantiser_scale_code ∷ c.initial_quantiser_scale_code ∷ [];
-  pending = Nothing;
+  pending = None;
   stuffing_bytes = 0;
   finished = false;
   cadence = opened c.mode.film false false;
@@ -57,16 +56,3 @@ create c =
     (and_then (frame_rate c.frame_rate_code c.frame_rate_extension_n c.frame_rate_extension_d) (λ f.
     and_then (new_model_at c.mode.variable (writer_params c f)) (λ m.
     value (fresh_writer c m))))
-
--- beside a refusal stands a writer of no use: all zeros, so that every call refuses it
-unfoldable pub no_writer : CbrWriter
-no_writer = record {
-  model = record { params = record { bit_rate = 0; buffer_size_bits = 0; frn = 0; frd = 0 }; whole = 0; rest = 0; prev_end_bits = 0; removed = 0; started = false };
-  target_bits = 0 ∷ 0 ∷ 0 ∷ [];
-  q = 0 ∷ 0 ∷ 0 ∷ [];
-  pending = Nothing;
-  stuffing_bytes = 0;
-  finished = false;
-  cadence = opened false false false;
-  variable = false;
-}

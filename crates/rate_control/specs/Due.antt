@@ -1,7 +1,7 @@
 -- Which answer is due to creation and to each offer (paper 01, 'A placed picture'), by conditions in ≤ and <, from creation, the calls and their answers: not from the writer's state,
 -- nor from the tests, positions, stuffing or bytes of `offer`. The fit tests, `first_delay`, `end_code`, `patched`, `coarser`, `steered`, `pending_or`, `of`, `index`, `frame_rate`, `writer_params`, `targets`, `periods`, `cadence_by`, `offered_facts`, `interval`, `after` and
 -- Annex C are the ones that `create` and `offer` compute with: they are to be read against the papers themselves; vbv/specs/Arrival holds `first_arrived` and `arrived`, cadence/specs/Table and History hold `interval` and `after`, `SequenceOpens` (pictures/specs/Due) holds `cadence_by`. Assumes nothing.
-use Rattle.std.specs.Prelude.{ℕ, suc, ◌+◌, ◌*◌, ◌/◌, ◌%◌, ◌≤◌, ◌<◌, ◌≡◌, List, [], ◌∷◌, ◌++◌, Bool, true, false, eqb, ltb, length, take, drop, replicate, set}
+use Rattle.std.specs.Prelude.{ℕ, suc, ◌+◌, ◌*◌, ◌/◌, ◌%◌, ◌≤◌, ◌<◌, ◌≡◌, List, [], ◌∷◌, ◌++◌, Bool, true, false, eqb, ltb, length, take, drop, replicate, set, Option, Some, None}
 use Rattle.bits.specs.Bits.{pick}
 use Rattle.bits.specs.Refusals.{Answer, value, refused}
 use Rattle.rate_control.specs.Create.{writer_params}
@@ -25,8 +25,6 @@ use Rattle.rate_control.specs.Writer.{index, of, pending_or, coarser, steered}
 use Rattle.rate_control.specs.Offer.{Offer, first_delay, end_code}
 use Rattle.rate_control.specs.Calls.{Step, offered, withdrawn}
 use Rattle.rate_control.specs.Sent.{position_of, content_of, Stuffs}
-use Rattle.rate_control.specs.declared.Pending.{Pending}
-use Rattle.rate_control.specs.declared.Pending.TheVariants.{Nothing, Waits}
 use Rattle.rate_control.specs.declared.CbrConfig.{CbrConfig}
 use Rattle.rate_control.specs.declared.CbrWriter.{CbrWriter}
 
@@ -40,7 +38,7 @@ pub record Known : Type 0 where
   pub pictures : ℕ
   pub delivered : ℕ
   pub q : List ℕ
-  pub pending : Pending
+  pub pending : Option (PictureKind × ℕ)
   pub finished : Bool
   pub cadence : VbvCadence
   pub variable : Bool
@@ -53,7 +51,7 @@ at_first c = record {
   pictures = 0;
   delivered = 0;
   q = c.initial_quantiser_scale_code ∷ c.initial_quantiser_scale_code ∷ c.initial_quantiser_scale_code ∷ [];
-  pending = Nothing;
+  pending = None;
   finished = false;
   cadence = opened c.mode.film false false;
   variable = c.mode.variable;
@@ -81,7 +79,7 @@ lasts_in x o = interval (cadence_for x o) (facts_for o)
 abbrev pub asked_for : Known → Offer → ℕ
 asked_for x o = pending_or x.pending (of o.kind x.q)
 
-abbrev pub pending_now : Known → Pending → Known
+abbrev pub pending_now : Known → Option (PictureKind × ℕ) → Known
 pending_now x y = record {
   bytes = x.bytes;
   stuffing = x.stuffing;
@@ -102,18 +100,18 @@ known_after_offer p t x o (value (placed q delay bytes stuffing)) = record {
   pictures = suc x.pictures;
   delivered = arrived x.variable p (8 * (x.bytes + bytes)) (delivered_for p x o) (periods (lasts_in x o));
   q = set x.q (index o.kind) (steered q (of o.kind t) (8 * length o.layer));
-  pending = Nothing;
+  pending = None;
   finished = o.last;
   cadence = after (cadence_for x o) (facts_for o);
   variable = x.variable;
 }
-known_after_offer p t x o (value (again q)) = pending_now x (Waits o.kind q)
-known_after_offer p t x o (refused n picture coded expected) = pick (eqb n 21) (pending_now x Nothing) x
+known_after_offer p t x o (value (again q)) = pending_now x (Some (o.kind, q))
+known_after_offer p t x o (refused n picture coded expected) = pick (eqb n 21) (pending_now x None) x
 
 -- after a call
 abbrev pub known_after_step : VbvParams → List ℕ → Known → Step → Known
 known_after_step p t x (offered o a out) = known_after_offer p t x o a
-known_after_step p t x (withdrawn n) = pending_now x Nothing
+known_after_step p t x (withdrawn n) = pending_now x None
 
 abbrev pub known_after : VbvParams → List ℕ → Known → List Step → Known
 known_after p t x [] = x
@@ -145,7 +143,7 @@ holding p t x = record {
 -- 17: the last picture is placed, or another kind is pending
 pub data OutOfTurn (x : Known) (o : Offer) : Type 0 where
   last_placed : x.finished ≡ true → OutOfTurn x o
-  other_kind : {k : PictureKind} {q : ℕ} → x.pending ≡ Waits k q → (k ≡ o.kind → ⊥) → OutOfTurn x o
+  other_kind : {k : PictureKind} {q : ℕ} → x.pending ≡ Some (k, q) → (k ≡ o.kind → ⊥) → OutOfTurn x o
 
 -- passed: 17, 18, 20
 pub record Fitting (p : VbvParams) (x : Known) (o : Offer) : Type 0 where

@@ -1,6 +1,6 @@
 -- An offer and a withdrawal (paper 01, 'A placed picture'; paper 02, requests 05 and 06): in this order 12 for the state, then 17, 18, 20, 14, 7, 9, size, 22, 19; else the picture is placed. At a variable rate 7 is not asked, for a picture whose start has not arrived is too large, and 9 and 22 do not arise.
 -- Assumes nothing.
-use Rattle.std.specs.Prelude.{ℕ, ◌+◌, ◌-◌, ◌*◌, ◌/◌, List, [], ◌++◌, Bool, true, false, not, ◌&&◌, ◌||◌, ltb, eqb, length, replicate, set}
+use Rattle.std.specs.Prelude.{ℕ, ◌+◌, ◌-◌, ◌*◌, ◌/◌, List, [], ◌++◌, Bool, true, false, not, ◌&&◌, ◌||◌, ltb, eqb, length, replicate, set, Option, Some, None}
 use Rattle.bits.specs.Bits.{pick}
 use Rattle.bits.specs.Answers.{over}
 use Rattle.bits.specs.Refusals.{Answer, value, refused, refuse, violate}
@@ -18,8 +18,6 @@ use Rattle.cadence.specs.declared.VbvCadence.{VbvCadence}
 use Rattle.pictures.specs.Cadence.{cadence_by}
 use Rattle.rate_control.specs.Answers.{Given, placed, again}
 use Rattle.rate_control.specs.Writer.{writer_fits, index, of, clashes, asked, coarser, steered}
-use Rattle.rate_control.specs.declared.Pending.{Pending}
-use Rattle.rate_control.specs.declared.Pending.TheVariants.{Nothing, Waits}
 use Rattle.rate_control.specs.declared.CbrWriter.{CbrWriter}
 
 -- headers, kind, interval (frame or field), last flag, one layer and an output part
@@ -114,7 +112,7 @@ offer w o =
     (refuse 19 (ltb (length o.out) (length (placed_bytes w o)))
     (value (placed (asked w o.kind) (delay w o) (length (placed_bytes w o)) (stuffing w o))))))))))))
 
-unfoldable pub with_pending : CbrWriter → Pending → CbrWriter
+unfoldable pub with_pending : CbrWriter → Option (PictureKind × ℕ) → CbrWriter
 with_pending w x = record {
   model = w.model;
   target_bits = w.target_bits;
@@ -132,7 +130,7 @@ with_placed w o = record {
   model = after_removal w.model (end w o) (delivered_next w o);
   target_bits = w.target_bits;
   q = set w.q (index o.kind) (steered (asked w o.kind) (of o.kind w.target_bits) (8 * length o.layer));
-  pending = Nothing;
+  pending = None;
   stuffing_bytes = w.stuffing_bytes + stuffing w o;
   finished = o.last;
   cadence = after (cadence_at w o.headers) (facts_in o.layer);
@@ -142,8 +140,8 @@ with_placed w o = record {
 -- the writer that an answer leaves: a refusal changes nothing, 21 excepted, which closes the pending picture
 abbrev pub left_by : CbrWriter → Offer → Answer Given → CbrWriter
 left_by w o (value (placed q delay bytes stuffing)) = with_placed w o
-left_by w o (value (again q)) = with_pending w (Waits o.kind q)
-left_by w o (refused n picture coded expected) = pick (eqb n 21) (with_pending w Nothing) w
+left_by w o (value (again q)) = with_pending w (Some (o.kind, q))
+left_by w o (refused n picture coded expected) = pick (eqb n 21) (with_pending w None) w
 
 abbrev pub left : CbrWriter → Offer → CbrWriter
 left w o = left_by w o (offer w o)
@@ -159,4 +157,4 @@ out_after w o = out_of (offer w o) (placed_bytes w o) o.out
 
 -- a withdrawal closes a pending picture, if there is one
 unfoldable pub withdraw : CbrWriter → Answer CbrWriter
-withdraw w = refuse 12 (not (writer_fits w)) (value (with_pending w Nothing))
+withdraw w = refuse 12 (not (writer_fits w)) (value (with_pending w None))

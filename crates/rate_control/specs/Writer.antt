@@ -1,6 +1,6 @@
 -- A writer's state: its ranges, and what it keeps for each kind of picture (paper 01, 'A placed picture').
 -- Assumes nothing.
-use Rattle.std.specs.Prelude.{ℕ, ◌+◌, ◌-◌, ◌*◌, ◌/◌, ◌%◌, min, max, List, [], ◌∷◌, Bool, true, false, not, ◌&&◌, leb, ltb, eqb, get_or}
+use Rattle.std.specs.Prelude.{ℕ, ◌+◌, ◌-◌, ◌*◌, ◌/◌, ◌%◌, min, max, List, [], ◌∷◌, Bool, true, false, not, ◌&&◌, leb, ltb, eqb, get_or, Option, Some, None}
 use Rattle.bits.specs.Bits.{pick}
 use Rattle.vbv.specs.Model.{farthest}
 use Rattle.vbr.specs.Variable.{model_fits_at}
@@ -8,8 +8,6 @@ use Rattle.cadence.specs.Cadence.{cadence_fits}
 use Rattle.layers.specs.declared.PictureKind.{PictureKind}
 use Rattle.layers.specs.declared.PictureKind.TheVariants.{I, P, B}
 use Rattle.rate_control.specs.Create.{within}
-use Rattle.rate_control.specs.declared.Pending.{Pending}
-use Rattle.rate_control.specs.declared.Pending.TheVariants.{Nothing, Waits}
 use Rattle.rate_control.specs.declared.CbrWriter.{CbrWriter}
 
 -- ---- ranges
@@ -23,9 +21,9 @@ unfoldable pub all_fit : (ℕ → Bool) → List ℕ → Bool
 all_fit f [] = true
 all_fit f (x ∷ xs) = f x && all_fit f xs
 
-unfoldable pub pending_fits : Pending → Bool
-pending_fits Nothing = true
-pending_fits (Waits k n) = quantiser_fits n
+unfoldable pub pending_fits : Option (PictureKind × ℕ) → Bool
+pending_fits None = true
+pending_fits (Some x) = quantiser_fits x.1
 
 -- the model's ranges, at a variable rate its own (request 06); the previous end is whole bytes, at least as many as pictures placed, and as bytes stuffed; targets up to 2^48, quantisers 1 to 31; outside film no cadence is kept
 unfoldable pub writer_fits : CbrWriter → Bool
@@ -50,14 +48,14 @@ unfoldable pub of : PictureKind → List ℕ → ℕ
 of k xs = get_or xs (index k) 0
 
 -- the pending picture is of another kind
-unfoldable pub clashes : Pending → PictureKind → Bool
-clashes Nothing k = false
-clashes (Waits j n) k = not (eqb (index j) (index k))
+unfoldable pub clashes : Option (PictureKind × ℕ) → PictureKind → Bool
+clashes None k = false
+clashes (Some x) k = not (eqb (index x.0) (index k))
 
 -- the quantiser that a layer is asked for with: the pending picture's, or the kind's
-unfoldable pub pending_or : Pending → ℕ → ℕ
-pending_or Nothing q = q
-pending_or (Waits j n) q = n
+unfoldable pub pending_or : Option (PictureKind × ℕ) → ℕ → ℕ
+pending_or None q = q
+pending_or (Some x) q = x.1
 
 unfoldable pub asked : CbrWriter → PictureKind → ℕ
 unfolding pending_or of

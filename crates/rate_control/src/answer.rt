@@ -4,7 +4,7 @@ ghost use Rattle.rate_control.specs.Writer.{asked};
 ghost use Rattle.rate_control.specs.Steps.{Placeable, placed_by, refused_in_code, too_large_in_code};
 
 use crate::state::{coarser, index, steered};
-use crate::{CbrAnswer, CbrError, CbrOffered, CbrWriter, Pending, Placement};
+use crate::{CbrError, CbrGiven, CbrOffered, CbrWriter, Placement};
 use cadence::VbvCadence;
 use layers::PictureKind;
 
@@ -15,7 +15,7 @@ impl CbrWriter {
         ensures { result ≡ refused_in_code self error }
     {
         CbrOffered {
-            answer: CbrAnswer::Refused(error),
+            answer: Err(error),
             writer: self,
         }
     }
@@ -28,14 +28,14 @@ impl CbrWriter {
         let q = self.asked(kind);
         if q == 31 {
             return CbrOffered {
-                answer: CbrAnswer::Refused(CbrError::TooLarge),
-                writer: self.with_pending(Pending::Nothing),
+                answer: Err(CbrError::TooLarge),
+                writer: self.with_pending(None),
             };
         }
         let next = coarser(q);
         CbrOffered {
-            answer: CbrAnswer::Again(next),
-            writer: self.with_pending(Pending::Waits(kind, next)),
+            answer: Ok(CbrGiven::Again(next)),
+            writer: self.with_pending(Some((kind, next))),
         }
     }
 
@@ -53,28 +53,24 @@ impl CbrWriter {
     {
         let q = self.asked(kind);
         let k = index(kind);
-        let target_bits = self.target_bits;
-        let target = target_bits[k];
         let mut next = self.q;
-        next[k] = steered(q, target, 8 * layer);
-        let model = placement.model;
+        next[k] = steered(q, self.target_bits[k], 8 * layer);
         let stuffing_bytes = placement.stuffing_bytes;
         CbrOffered {
-            answer: CbrAnswer::Placed {
+            answer: Ok(CbrGiven::Placed {
                 q,
                 vbv_delay: placement.vbv_delay,
                 bytes: placement.bytes,
                 stuffing_bytes,
-            },
+            }),
             writer: CbrWriter {
-                model,
-                target_bits,
+                model: placement.model,
                 q: next,
-                pending: Pending::Nothing,
+                pending: None,
                 stuffing_bytes: self.stuffing_bytes + stuffing_bytes,
                 finished: last,
                 cadence,
-                variable: self.variable,
+                ..self
             },
         }
     }

@@ -3,6 +3,9 @@
 
 ghost use Rattle.std.specs.Prelude.{◌≡◌};
 ghost use Rattle.rate_control.specs.Answers.{offer_refusal};
+ghost use Rattle.rate_control.specs.Steps.{not_removed};
+ghost use Rattle.rate_control.specs.declared.CbrError.TheVariants.{Model};
+ghost use Rattle.rate_control.specs.declared.Untested.TheVariants.{Refused};
 
 mod create; // creation, and the targets
 mod state; // the ranges of a state, and what it keeps for each kind
@@ -13,20 +16,21 @@ mod answer; // the writer after an offer
 mod output; // the bytes placed
 mod offer; // an offer: its tests and its answer
 
-pub use crate::create::no_writer;
+use crate::measure::violated;
 use bits::{VbvRefusal, plain};
 use cadence::VbvCadence;
 use layers::PictureKind;
-use vbv::{RemovalInterval, VbvCbrModel, VbvError, VbvViolation};
+use vbv::{RemovalInterval, VbvCbrModel, VbvError, VbvRemovalError, VbvViolation};
 use verify::VbvMode;
 
 // What a writer is created with: MPEG-2, plain or film, at a constant or a variable rate; the sequence header's fields, the
-// quantiser that every kind starts from, B pictures between anchors and anchors in a group.
+// quantiser that every kind starts from, B pictures between anchors and anchors in a group. It has no equality, as its mode has none.
 #[derive(Clone, Copy)]
 pub struct CbrConfig {
     pub mode: VbvMode,
     pub bit_rate_value: u32,
     pub vbv_buffer_size_value: u16,
+    // A code as it stands: creation answers 6 to one that Table 6-4 lacks.
     pub frame_rate_code: u8,
     pub frame_rate_extension_n: u8,
     pub frame_rate_extension_d: u8,
@@ -35,42 +39,24 @@ pub struct CbrConfig {
     pub anchors_per_gop: u8,
 }
 
-// The picture that is to be offered again, and the quantiser to encode it with.
-#[derive(Clone, Copy)]
-pub enum Pending {
-    Nothing,
-    Waits(PictureKind, u8),
-}
-
 // The model is started once a picture is placed; its previous end is the end of what was handed out. Targets and quantisers are
-// those of I, P and B. The cadence is that of the pictures placed; the rate is constant or variable.
+// those of I, P and B, an array each: the theorem of lists of calls (`holding`) names them so. Pending is the kind of the picture
+// that is to be offered again, with the quantiser to encode it with. The cadence is that of the pictures placed; the rate is
+// constant or variable. It has no equality, as its cadence has none.
 #[derive(Clone, Copy)]
 pub struct CbrWriter {
     pub model: VbvCbrModel,
     pub target_bits: [u64; 3],
     pub q: [u8; 3],
-    pub pending: Pending,
+    pub pending: Option<(PictureKind, u8)>,
     pub stuffing_bytes: u64,
     pub finished: bool,
     pub cadence: VbvCadence,
     pub variable: bool,
 }
 
-#[derive(Drop)]
-pub enum CbrCreation {
-    Created,
-    Refused(VbvError),
-}
-
-// A writer beside whether it was created.
-#[derive(Drop)]
-pub struct CbrCreated {
-    pub answer: CbrCreation,
-    pub writer: CbrWriter,
-}
-
 // Why an offer is refused.
-#[derive(Clone, Copy)]
+#[derive(Clone, Copy, PartialEq, Eq)]
 pub enum CbrError {
     // The writer's state, a position or an end out of range, or a position beyond the bits delivered.
     Model(VbvError),
@@ -88,8 +74,9 @@ pub enum CbrError {
     Output,
 }
 
-#[derive(Clone, Copy)]
-pub enum CbrAnswer {
+// The answer to an offer that is not refused.
+#[derive(Clone, Copy, PartialEq, Eq)]
+pub enum CbrGiven {
     Placed {
         q: u8,
         vbv_delay: u16,
@@ -98,26 +85,12 @@ pub enum CbrAnswer {
     },
     // To be offered again, encoded with this quantiser.
     Again(u8),
-    Refused(CbrError),
 }
 
-// The writer after an offer, beside the answer.
+// The writer after an offer, beside the answer: a refusal of a picture too large leaves another one than was called.
 #[derive(Drop)]
 pub struct CbrOffered {
-    pub answer: CbrAnswer,
-    pub writer: CbrWriter,
-}
-
-#[derive(Drop)]
-pub enum CbrWithdrawal {
-    Withdrawn,
-    Refused(VbvError),
-}
-
-// The writer after a withdrawal, beside the answer.
-#[derive(Drop)]
-pub struct CbrWithdrawn {
-    pub answer: CbrWithdrawal,
+    pub answer: Result<CbrGiven, CbrError>,
     pub writer: CbrWriter,
 }
 
@@ -145,16 +118,36 @@ struct Placement {
     pub stuffing_bytes: u64,
 }
 
-// What the tests of an offer come to, but for the room in the output part.
+// Why a picture is not placed, but for the room in the output part.
 #[derive(Drop)]
-enum Tested {
+enum Untested {
     Refused(CbrError),
     TooLarge,
-    Ready(Placement),
+}
+
+impl From<VbvError> for Untested {
+    ghost from_gives = { λ e r. r ≡ Refused (Model e) };
+
+    fn from(error: VbvError) -> Untested {
+        Untested::Refused(CbrError::Model(error))
+    }
+}
+
+// At the end of its data: an underflow is a picture too large.
+impl From<VbvRemovalError> for Untested {
+    ghost from_gives = { λ e r. r ≡ not_removed e };
+
+    #[tactic(auto, unfolding(crate::specs::Steps::not_removed))]
+    fn from(error: VbvRemovalError) -> Untested {
+        match error {
+            VbvRemovalError::Model(error) => Untested::Refused(CbrError::Model(error)),
+            VbvRemovalError::Violation(violation) => violated(violation),
+        }
+    }
 }
 
 impl CbrError {
-    // Paper 01's number, and what the refusal carries (docs/REFUSALS.md).
+    // The number, and what the refusal carries (docs/REFUSALS.md), as C is given them: `From` would not say so.
     pub fn refusal(self) -> VbvRefusal
         ensures { result ≡ offer_refusal self }
     {

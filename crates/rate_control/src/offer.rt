@@ -7,7 +7,7 @@ ghost use Rattle.rate_control.specs.Steps.{tested, timing};
 use crate::measure::measured;
 use crate::output::put_placed;
 use crate::state::clashes;
-use crate::{CbrError, CbrOffered, CbrWriter, Tested, Timing};
+use crate::{CbrError, CbrOffered, CbrWriter, Placement, Timing, Untested};
 use cadence::VbvCadence;
 use layers::PictureKind;
 use pictures::cadence_by;
@@ -33,15 +33,14 @@ impl CbrWriter {
     fn cadence_at(self, headers: &[u8]) -> VbvCadence
         ensures { result ≡ cadence_at self headers.now }
     {
-        let model = self.model;
-        let cadence = self.cadence;
-        if model.started {
-            return cadence;
+        if self.model.started {
+            return self.cadence;
         }
-        cadence_by(headers, cadence.film)
+        cadence_by(headers, self.cadence.film)
     }
 
     // 12 for the state, 17, 18 and 20, then what lengths and model say to a picture that lasts so long.
+    #[tactic(auto, unfolding(crate::specs::Steps::tested, bits::specs::Bits::pick), using(crate::proofs::Offering::end_of, crate::proofs::Offering::params_of))]
     fn tested(
         self,
         headers: &[u8],
@@ -50,28 +49,25 @@ impl CbrWriter {
         last: bool,
         layer: &[u8],
         lasts: RemovalInterval,
-    ) -> Tested
+    ) -> Result<Placement, Untested>
         ensures { result ≡ tested self headers.now kind interval last layer.now lasts }
     {
-        if self.fits() {
-            let model = self.model;
-            let pending = self.pending;
-            let cadence = self.cadence;
-            if self.finished | clashes(pending, kind) {
-                return Tested::Refused(CbrError::Kind);
-            }
-            let params = model.params;
-            if layers::headers_fit(headers, params, model.started) {
-                if layers::layer_fits(layer, cadence.film, kind, interval) {
-                    let ahead = headers.len() as u64;
-                    let bytes = layer.len() as u64;
-                    return measured(model, self.variable, ahead, bytes, lasts, last);
-                }
-                return Tested::Refused(CbrError::Layer);
-            }
-            return Tested::Refused(CbrError::Headers);
+        if !self.fits() {
+            return Err(Untested::from(VbvError::Params));
         }
-        Tested::Refused(CbrError::Model(VbvError::Params))
+        if self.finished | clashes(self.pending, kind) {
+            return Err(Untested::Refused(CbrError::Kind));
+        }
+        let model = self.model;
+        if !layers::headers_fit(headers, model.params, model.started) {
+            return Err(Untested::Refused(CbrError::Headers));
+        }
+        if !layers::layer_fits(layer, self.cadence.film, kind, interval) {
+            return Err(Untested::Refused(CbrError::Layer));
+        }
+        let ahead = headers.len() as u64;
+        let bytes = layer.len() as u64;
+        measured(model, self.variable, ahead, bytes, lasts, last)
     }
 
     // Places a picture in the output part, asks for it again with a coarser quantiser, or refuses it.
@@ -91,9 +87,9 @@ impl CbrWriter {
         let timing = timing(self.cadence_at(headers), interval, layer);
         let lasts = timing.interval;
         match self.tested(headers, kind, interval, last, layer, lasts) {
-            Tested::Refused(error) => self.refused(error),
-            Tested::TooLarge => self.too_large(kind),
-            Tested::Ready(placement) => {
+            Err(Untested::Refused(error)) => self.refused(error),
+            Err(Untested::TooLarge) => self.too_large(kind),
+            Ok(placement) => {
                 let bytes = placement.bytes;
                 let room = out.len() as u64;
                 if room < bytes {

@@ -12,11 +12,7 @@ fn put(out: &mut [u8], at: usize, bytes: &[u8])
     requires { at + length bytes.now ≤ length out.old }
     ensures { out.new ≡ sets out.old at bytes.now }
 {
-    let mut k: usize = 0;
-    while k < bytes.len() {
-        out[at + k] = bytes[k];
-        k += 1;
-    }
+    out[at..at + bytes.len()].copy_from_slice(bytes);
 }
 
 // So many zeros from place `at` on.
@@ -24,13 +20,7 @@ fn put_zeros(out: &mut [u8], at: usize, zeros: usize)
     requires { at + zeros ≤ length out.old }
     ensures { out.new ≡ sets out.old at (replicate zeros 0) }
 {
-    let mut k = at;
-    let mut left = zeros;
-    while 0 < left {
-        out[k] = 0;
-        k += 1;
-        left -= 1;
-    }
+    out[at..at + zeros].fill(0);
 }
 
 // The sequence's end at place `at`, after the last picture.
@@ -59,7 +49,7 @@ pub(crate) fn put_placed(
     let after = picture + layer.len();
     put(out, 0, headers);
     put(out, picture, layer);
-    vbv::patch_vbv_delay(&mut out[picture..after], vbv_delay);
+    let _patched = vbv::patch_vbv_delay(&mut out[picture..after], vbv_delay);
     put_zeros(out, after, zeros);
     put_end(out, after + zeros, last);
 }

@@ -4,8 +4,7 @@ ghost use Rattle.rate_control.specs.Writer.{quantiser_fits, all_fit, pending_fit
 ghost use Rattle.vbv.specs.Model.{farthest};
 ghost use Rattle.vbr.specs.Variable.{model_fits_at};
 
-use crate::measure::greater;
-use crate::{CbrWriter, Pending};
+use crate::CbrWriter;
 use layers::PictureKind;
 use vbv::FARTHEST;
 
@@ -27,16 +26,16 @@ fn all_quantisers(q: [u8; 3]) -> bool
 fn all_targets(target_bits: [u64; 3]) -> bool
     ensures { result ≡ all_fit (λ t. leb t farthest) target_bits }
 {
-    greater(target_bits[0], greater(target_bits[1], target_bits[2])) <= FARTHEST
+    target_bits[0].max(target_bits[1]).max(target_bits[2]) <= FARTHEST
 }
 
 #[tactic(auto, unfolding(crate::specs::Writer::pending_fits))]
-fn pending_fits(pending: Pending) -> bool
+fn pending_fits(pending: Option<(PictureKind, u8)>) -> bool
     ensures { result ≡ pending_fits pending }
 {
     match pending {
-        Pending::Nothing => true,
-        Pending::Waits(_, q) => quantiser(q),
+        None => true,
+        Some((_, q)) => quantiser(q),
     }
 }
 
@@ -51,12 +50,13 @@ pub(crate) fn index(kind: PictureKind) -> usize
 }
 
 // Whether the pending picture is of another kind.
-pub(crate) fn clashes(pending: Pending, kind: PictureKind) -> bool
+#[tactic(auto, unfolding(crate::specs::Writer::clashes, crate::specs::Writer::index))]
+pub(crate) fn clashes(pending: Option<(PictureKind, u8)>, kind: PictureKind) -> bool
     ensures { result ≡ clashes pending kind }
 {
     match pending {
-        Pending::Nothing => false,
-        Pending::Waits(other, _) => index(other) != index(kind),
+        None => false,
+        Some((other, _)) => other != kind,
     }
 }
 
@@ -66,26 +66,7 @@ pub(crate) fn coarser(q: u8) -> u8
     ensures { result ≡ coarser q }
 {
     let wide = q as u16;
-    let next = wide + 1 + wide / 4;
-    if next < 31 { next as u8 } else { 31 }
-}
-
-fn up(q: u8) -> u8
-    ensures { result ≡ min 31 (q + 1) }
-{
-    if q < 31 { q + 1 } else { 31 }
-}
-
-fn down(q: u8) -> u8
-    ensures { result ≡ max 1 (q - 1) }
-{
-    if 2 < q { q - 1 } else { 1 }
-}
-
-fn at_least_one(target: u64) -> u64
-    ensures { result ≡ max 1 target }
-{
-    if 1 < target { target } else { 1 }
+    (wide + 1 + wide / 4).min(31) as u8
 }
 
 // The kind's next quantiser, from the one just placed and the layer's bits; a target of 0 counts as 1.
@@ -95,12 +76,12 @@ pub(crate) fn steered(q: u8, target: u64, bits: u64) -> u8
     requires bits_le_farthest { bits ≤ farthest }
     ensures { result ≡ steered q target bits }
 {
-    let aim = at_least_one(target);
+    let aim = target.max(1);
     if 6 * aim < 5 * bits {
-        return up(q);
+        return q.min(30) + 1;
     }
     if 10 * bits < 7 * aim {
-        return down(q);
+        return q.max(2) - 1;
     }
     q
 }
@@ -111,27 +92,21 @@ impl CbrWriter {
     pub(crate) fn asked(self, kind: PictureKind) -> u8
         ensures { result ≡ asked self kind }
     {
-        let pending = self.pending;
-        let q = self.q;
-        match pending {
-            Pending::Nothing => {
-                let k = index(kind);
-                q[k]
-            }
-            Pending::Waits(_, n) => n,
+        match self.pending {
+            None => self.q[index(kind)],
+            Some((_, q)) => q,
         }
     }
 
-    // The model's ranges, at its rate.
+    // The model's ranges at its rate: a flag of the definition (`model_fits_at`), so a switch is no less plain than two impls.
     #[tactic(auto, unfolding(vbr::specs::Variable::model_fits_at, bits::specs::Bits::pick))]
     fn model_fits(self) -> bool
         ensures { result ≡ model_fits_at self.variable self.model }
     {
-        let model = self.model;
         if self.variable {
-            return vbr::fits(model);
+            return vbr::fits(self.model);
         }
-        model.fits()
+        self.model.fits()
     }
 
     // Every field in its range. What was handed out is whole bytes, at least as many as pictures, and as bytes of stuffing:
@@ -139,17 +114,12 @@ impl CbrWriter {
     pub fn fits(self) -> bool
         ensures { result ≡ writer_fits self }
     {
-        let model = self.model;
-        let target_bits = self.target_bits;
-        let q = self.q;
-        let pending = self.pending;
-        let cadence = self.cadence;
-        let bits = model.prev_end_bits;
-        let bytes = bits / 8;
+        let bits = self.model.prev_end_bits;
         self.model_fits()
             & ((bits % 8 == 0)
-                & ((greater(model.removed, self.stuffing_bytes) <= bytes)
-                    & (all_targets(target_bits)
-                        & (all_quantisers(q) & (pending_fits(pending) & cadence.fits())))))
+                & ((self.model.removed.max(self.stuffing_bytes) <= bits / 8)
+                    & (all_targets(self.target_bits)
+                        & (all_quantisers(self.q)
+                            & (pending_fits(self.pending) & self.cadence.fits())))))
     }
 }

@@ -14,7 +14,8 @@ use Rattle.bits.specs.Fields.{same_bytes}
 use Rattle.bits.specs.StartCodes.{start_code_prefix}
 use Rattle.bits.proofs.Flags.{and_left, and_right, clash}
 use Rattle.bits.proofs.Reading.{same_self, same_more, same_not}
-use Rattle.scan.specs.Codes.{Code, starts, codes_from, codes, ends_prefix}
+use Rattle.scan.specs.declared.StartCode.{StartCode}
+use Rattle.scan.specs.Codes.{starts, codes_from, codes, ends_prefix}
 use Rattle.scan.proofs.Prefix.{starts_four, starts_is, starts_long, starts-before, ends-few, ends-here, ends_tail, ends_neither}
 
 -- ---- bytes that complete no prefix which another part began
@@ -77,7 +78,7 @@ codes_from-append (b ∷ x) y o zero h p f =
 -- ---- moved on
 
 -- a code moved on by d bytes
-unfoldable pub moved : ℕ → Code → Code
+unfoldable pub moved : ℕ → StartCode → StartCode
 moved d c = record { offset = d + c.offset; code = c.code }
 
 pub codes_from_moved : (d o k : ℕ) (s : List ℕ) → codes_from (d + o) k s ≡ map (moved d) (codes_from o k s)

@@ -5,7 +5,7 @@ use Prim.Native.Nat.{ℕ}
 use mathlib.Core.List.{List, [], ◌∷◌, ◌++◌}
 use mathlib.Core.Bool.{true}
 use lib.ListN.{length, replicate}
-use Rattle.scan.specs.declared.Found.TheVariants.{At, Nothing}
+use Rattle.std.specs.Prelude.{Some, None}
 use Rattle.scan.specs.Codes.{codes, every, ends_prefix, sequence_end}
 use Rattle.scan.specs.Scanned.{scanned}
 use Rattle.scan.specs.Pictures.{pictures, is_slice, not_slice, not_picture}
@@ -25,27 +25,27 @@ unfolding codes
 zeros_before = simp (same_more, same_none)
 
 -- request 03: what the scan by places finds, and how many places it looks at
-one_place : scanned (2 ∷ 2 ∷ 2 ∷ 2 ∷ []) 0 ≡ record { found = Nothing; looked = 1 }
+one_place : scanned (2 ∷ 2 ∷ 2 ∷ 2 ∷ []) 0 ≡ record { found = None; looked = 1 }
 unfolding scanned
 one_place = simp same_more
 
-own_place : scanned (0 ∷ 0 ∷ 1 ∷ 0xB3 ∷ []) 0 ≡ record { found = At 0 0xB3; looked = 1 }
+own_place : scanned (0 ∷ 0 ∷ 1 ∷ 0xB3 ∷ []) 0 ≡ record { found = Some (record { offset = 0; code = 0xB3 }); looked = 1 }
 unfolding scanned
 own_place = simp (same_more, same_none)
 
-after-zero : scanned (0 ∷ 0 ∷ 0 ∷ 1 ∷ 0xB3 ∷ []) 0 ≡ record { found = At 1 0xB3; looked = 2 }
+after-zero : scanned (0 ∷ 0 ∷ 0 ∷ 1 ∷ 0xB3 ∷ []) 0 ≡ record { found = Some (record { offset = 1; code = 0xB3 }); looked = 2 }
 unfolding scanned
 after-zero = simp (same_more, same_none)
 
-after_five : scanned (5 ∷ 0 ∷ 0 ∷ 1 ∷ 0xB3 ∷ []) 0 ≡ record { found = At 1 0xB3; looked = 2 }
+after_five : scanned (5 ∷ 0 ∷ 0 ∷ 1 ∷ 0xB3 ∷ []) 0 ≡ record { found = Some (record { offset = 1; code = 0xB3 }); looked = 2 }
 unfolding scanned
 after_five = simp (same_more, same_none)
 
-after_ones : scanned (1 ∷ 1 ∷ 1 ∷ 0 ∷ 0 ∷ 1 ∷ 0 ∷ []) 0 ≡ record { found = At 3 0; looked = 2 }
+after_ones : scanned (1 ∷ 1 ∷ 1 ∷ 0 ∷ 0 ∷ 1 ∷ 0 ∷ []) 0 ≡ record { found = Some (record { offset = 3; code = 0 }); looked = 2 }
 unfolding scanned
 after_ones = simp (same_more, same_none)
 
-three_bytes : scanned (0 ∷ 0 ∷ 1 ∷ []) 0 ≡ record { found = Nothing; looked = 0 }
+three_bytes : scanned (0 ∷ 0 ∷ 1 ∷ []) 0 ≡ record { found = None; looked = 0 }
 unfolding scanned
 three_bytes = refl
 

@@ -11,7 +11,8 @@ use lib.Dec.{eqb}
 use Rattle.bits.specs.Bits.{pick}
 use Rattle.bits.specs.StartCodes.{picture_start_code, sequence_end_code}
 use Rattle.bits.proofs.Flags.{both_true, pick_in}
-use Rattle.scan.specs.Codes.{Code, codes, codes_from, every, sequence_end}
+use Rattle.scan.specs.declared.StartCode.{StartCode}
+use Rattle.scan.specs.Codes.{codes, codes_from, every, sequence_end}
 use Rattle.scan.specs.Pictures.{Pic, skip, is_slice, not_slice, not_picture, after_slices, end_at, pictures_f, pictures_of, pictures}
 use Rattle.scan.proofs.Codes.{fresh, fresh_code, moved, codes-append}
 use Rattle.scan.proofs.PictureCodes.{codes-opened}
@@ -21,14 +22,14 @@ use Rattle.scan.proofs.Pictures.{pictures_other, pictures-picture}
 
 -- ---- lists of codes
 
-skip-every : (p : ℕ → Bool) (cs ds : List Code) → every p cs ≡ true → skip p (cs ++ ds) ≡ skip p ds
+skip-every : (p : ℕ → Bool) (cs ds : List StartCode) → every p cs ≡ true → skip p (cs ++ ds) ≡ skip p ds
 unfolding every skip pick
 skip-every p [] ds h = refl
 skip-every p (c ∷ cs) ds h =
     let b = both_true (p c.code) (every p cs) h in
     rw b.0 (skip-every p cs ds b.1)
 
-headers-none : (e : ℕ) (cs ds : List Code) → every not_picture cs ≡ true → pictures_of e (cs ++ ds) ≡ pictures_of e ds
+headers-none : (e : ℕ) (cs ds : List StartCode) → every not_picture cs ≡ true → pictures_of e (cs ++ ds) ≡ pictures_of e ds
 unfolding every
 headers-none e [] ds h = refl
 headers-none e (c ∷ cs) ds h =
@@ -39,15 +40,15 @@ picture_0 : not_picture 0 ≡ false
 unfolding not_picture
 picture_0 = refl
 
-slice_stops : (c : Code) (cs : List Code) → is_slice c.code ≡ true → skip not_slice (c ∷ cs) ≡ c ∷ cs
+slice_stops : (c : StartCode) (cs : List StartCode) → is_slice c.code ≡ true → skip not_slice (c ∷ cs) ≡ c ∷ cs
 unfolding not_slice
 slice_stops c cs h = skip_stops not_slice c cs (rw h)
 
-slice_passes : (c : Code) (cs : List Code) → is_slice c.code ≡ true → skip is_slice (c ∷ cs) ≡ skip is_slice cs
+slice_passes : (c : StartCode) (cs : List StartCode) → is_slice c.code ≡ true → skip is_slice (c ∷ cs) ≡ skip is_slice cs
 unfolding skip pick
 slice_passes c cs h = rw h
 
-after_all : (cs : List Code) (at : ℕ) (o : OnePicture cs at) (ds : List Code) → skip is_slice ds ≡ ds → after_slices (o.extensions ++ (o.slice ∷ o.slices) ++ ds) ≡ ds
+after_all : (cs : List StartCode) (at : ℕ) (o : OnePicture cs at) (ds : List StartCode) → skip is_slice ds ≡ ds → after_slices (o.extensions ++ (o.slice ∷ o.slices) ++ ds) ≡ ds
 unfolding after_slices
 after_all cs at o ds h =
     ap (λ l. skip is_slice (skip not_slice l)) (append_assoc o.extensions (o.slice ∷ o.slices) ds)
@@ -57,7 +58,7 @@ after_all cs at o ds h =
     ∙ h
 
 -- the codes of one picture before codes that begin with no slice
-one_then : (e : ℕ) (cs : List Code) (at : ℕ) → OnePicture cs at → (ds : List Code) → skip is_slice ds ≡ ds
+one_then : (e : ℕ) (cs : List StartCode) (at : ℕ) → OnePicture cs at → (ds : List StartCode) → skip is_slice ds ≡ ds
     → pictures_of e (cs ++ ds) ≡ record { start = at; end = end_at e ds } ∷ pictures_of e ds
 one_then e cs at o ds h =
     ap (λ l. pictures_of e (l ++ ds)) o.shape
@@ -72,7 +73,7 @@ one_then e cs at o ds h =
 unfoldable moved_pic : ℕ → Pic → Pic
 moved_pic d p = record { start = d + p.start; end = d + p.end }
 
-skip_moved : (p : ℕ → Bool) (d : ℕ) (cs : List Code) → skip p (map (moved d) cs) ≡ map (moved d) (skip p cs)
+skip_moved : (p : ℕ → Bool) (d : ℕ) (cs : List StartCode) → skip p (map (moved d) cs) ≡ map (moved d) (skip p cs)
 unfolding skip pick moved
 skip_moved p d [] = refl
 skip_moved p d (c ∷ cs) = go (p c.code) (skip_moved p d cs)
@@ -82,11 +83,11 @@ skip_moved p d (c ∷ cs) = go (p c.code) (skip_moved p d cs)
     go true h = h
     go false h = refl
 
-after_moved : (d : ℕ) (cs : List Code) → after_slices (map (moved d) cs) ≡ map (moved d) (after_slices cs)
+after_moved : (d : ℕ) (cs : List StartCode) → after_slices (map (moved d) cs) ≡ map (moved d) (after_slices cs)
 unfolding after_slices
 after_moved d cs = rw (skip_moved not_slice d cs, skip_moved is_slice d (skip not_slice cs))
 
-end_at_moved : (d e : ℕ) (cs : List Code) → end_at (d + e) (map (moved d) cs) ≡ d + end_at e cs
+end_at_moved : (d e : ℕ) (cs : List StartCode) → end_at (d + e) (map (moved d) cs) ≡ d + end_at e cs
 unfolding end_at pick moved
 end_at_moved d e [] = refl
 end_at_moved d e (c ∷ cs) = go (eqb c.code sequence_end_code)
@@ -95,7 +96,7 @@ end_at_moved d e (c ∷ cs) = go (eqb c.code sequence_end_code)
     go true = omega arith
     go false = refl
 
-pictures_f_moved : (d e n : ℕ) (cs : List Code) → pictures_f (d + e) n (map (moved d) cs) ≡ map (moved_pic d) (pictures_f e n cs)
+pictures_f_moved : (d e n : ℕ) (cs : List StartCode) → pictures_f (d + e) n (map (moved d) cs) ≡ map (moved_pic d) (pictures_f e n cs)
 unfolding pictures_f pick moved moved_pic
 pictures_f_moved d e zero cs = refl
 pictures_f_moved d e (suc n) [] = refl
@@ -103,7 +104,7 @@ pictures_f_moved d e (suc n) (c ∷ cs) =
     rw (after_moved d cs, end_at_moved d e (after_slices cs), pictures_f_moved d e n (after_slices cs), pictures_f_moved d e n cs)
     (sym (pick_in (map (moved_pic d)) (eqb c.code picture_start_code) _ _))
 
-pictures_of_moved : (d e : ℕ) (cs : List Code) → pictures_of (d + e) (map (moved d) cs) ≡ map (moved_pic d) (pictures_of e cs)
+pictures_of_moved : (d e : ℕ) (cs : List StartCode) → pictures_of (d + e) (map (moved d) cs) ≡ map (moved_pic d) (pictures_of e cs)
 unfolding pictures_of
 pictures_of_moved d e cs = rw length-map (pictures_f_moved d e (length cs) cs)
 

@@ -6,16 +6,17 @@ use mathlib.Core.List.{List, [], ◌∷◌, ◌++◌}
 use mathlib.Core.Bool.{true, false}
 use lib.ListN.{length}
 use lib.Dec.{eqb}
-use Rattle.scan.specs.Codes.{Code, codes, every, ends_prefix}
+use Rattle.scan.specs.declared.StartCode.{StartCode}
+use Rattle.scan.specs.Codes.{codes, every, ends_prefix}
 use Rattle.scan.specs.Pictures.{Pic, is_slice, not_slice, not_picture}
 use Rattle.bits.specs.StartCodes.{sequence_end_code}
 
 -- the codes of a piece: headers, the picture's code at `at`, its extensions, its slices
-pub record OnePicture (cs : List Code) (at : ℕ) : Type 0 where
-  pub headers : List Code
-  pub extensions : List Code
-  pub slice : Code
-  pub slices : List Code
+pub record OnePicture (cs : List StartCode) (at : ℕ) : Type 0 where
+  pub headers : List StartCode
+  pub extensions : List StartCode
+  pub slice : StartCode
+  pub slices : List StartCode
   pub shape : cs ≡ headers ++ (record { offset = at; code = 0 } ∷ (extensions ++ (slice ∷ slices)))
   pub no_picture : every not_picture headers ≡ true
   pub no_slice : every not_slice extensions ≡ true

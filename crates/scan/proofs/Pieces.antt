@@ -6,26 +6,27 @@ use mathlib.Core.List.{List, [], ◌∷◌, ◌++◌, map, map-append, append_as
 use mathlib.Core.Bool.{Bool, true, false}
 use lib.ListN.{length, replicate}
 use Rattle.bits.proofs.Flags.{both_true}
-use Rattle.scan.specs.Codes.{Code, codes, every, ends_prefix}
+use Rattle.scan.specs.declared.StartCode.{StartCode}
+use Rattle.scan.specs.Codes.{codes, every, ends_prefix}
 use Rattle.scan.specs.Pictures.{is_slice, not_slice, not_picture}
 use Rattle.scan.proofs.Codes.{fresh, fresh_code, fresh_zeros, moved, codes-append, codes_from_zeros, ends-append, ends_zeros}
 use Rattle.scan.proofs.Laying.{OnePicture, Opened, Piece}
 
 -- ---- codes
 
-every_moved : (p : ℕ → Bool) (d : ℕ) (cs : List Code) → every p (map (moved d) cs) ≡ every p cs
+every_moved : (p : ℕ → Bool) (d : ℕ) (cs : List StartCode) → every p (map (moved d) cs) ≡ every p cs
 unfolding every moved
 every_moved p d [] = refl
 every_moved p d (c ∷ cs) = rw (every_moved p d cs)
 
-every_append : (p : ℕ → Bool) (cs ds : List Code) → every p cs ≡ true → every p ds ≡ true → every p (cs ++ ds) ≡ true
+every_append : (p : ℕ → Bool) (cs ds : List StartCode) → every p cs ≡ true → every p ds ≡ true → every p (cs ++ ds) ≡ true
 unfolding every
 every_append p [] ds h k = k
 every_append p (c ∷ cs) ds h k =
     let b = both_true (p c.code) (every p cs) h in
     rw b.0 (every_append p cs ds b.1 k)
 
-one_moved : (d : ℕ) {cs : List Code} {at : ℕ} → OnePicture cs at → OnePicture (map (moved d) cs) (d + at)
+one_moved : (d : ℕ) {cs : List StartCode} {at : ℕ} → OnePicture cs at → OnePicture (map (moved d) cs) (d + at)
 unfolding moved
 one_moved d o = record {
   headers = map (moved d) o.headers;
@@ -39,7 +40,7 @@ one_moved d o = record {
   all_slices = every_moved is_slice d o.slices ∙ o.all_slices;
 }
 
-one-after : (hs : List Code) {cs : List Code} {at : ℕ} → every not_picture hs ≡ true → OnePicture cs at → OnePicture (hs ++ cs) at
+one-after : (hs : List StartCode) {cs : List StartCode} {at : ℕ} → every not_picture hs ≡ true → OnePicture cs at → OnePicture (hs ++ cs) at
 one-after hs h o = record {
   headers = hs ++ o.headers;
   extensions = o.extensions;

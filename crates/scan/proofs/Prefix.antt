@@ -6,8 +6,8 @@ use mathlib.Core.List.{List, [], ◌∷◌}
 use mathlib.Core.Bool.{false, true, ◌&&◌, ◌||◌, and-false, and-true, or-false}
 use native.Mathlib.Omega.{arith}
 use lib.Dec.{eqb, leb}
-use lib.ListN.{length, get_or, take, drop, length-drop}
-use lib.Seq.{take_all, drop-drop}
+use lib.ListN.{length, get_or, drop, length-drop}
+use lib.Seq.{drop-drop}
 use borrow.Author.Tests.{leb-true, le-leb, ne_eqb}
 use Rattle.bits.specs.Fields.{same_bytes}
 use Rattle.bits.specs.StartCodes.{start_code_prefix}
@@ -54,14 +54,10 @@ starts-before a b s = starts_third (a ∷ b ∷ 0 ∷ s) (λ e. omega arith)
 no_prefix : (s : List ℕ) → (length s ≡ 3 → ⊥) → same_bytes s start_code_prefix ≡ false
 no_prefix s n = same_not s start_code_prefix (λ e. n (ap length e))
 
--- the last three bytes tell it
+-- fewer than three do not
 pub ends-few : (s : List ℕ) → length s < 3 → false ≡ ends_prefix s
 unfolding ends_prefix
 ends-few s h = sym (no_prefix (drop (length s - 3) s) (λ e. omega (arith, length-drop (length s - 3) s)))
-
-pub ends-last_three : (s : List ℕ) → 3 ≤ length s → same_bytes (take 3 (drop (length s - 3) s)) start_code_prefix ≡ ends_prefix s
-unfolding ends_prefix
-ends-last_three s h = rw (take_all 3 (drop (length s - 3) s) (omega (arith, length-drop (length s - 3) s)))
 
 pub ends-drop : (n : ℕ) (s : List ℕ) → n + 3 ≤ length s → ends_prefix s ≡ ends_prefix (drop n s)
 unfolding ends_prefix

@@ -11,12 +11,12 @@ use borrow.Author.Tests.{leb-true, leb-false, eqb-true, eqb-false}
 use Rattle.bits.specs.Bits.{pick}
 use Rattle.bits.specs.Fields.{same_bytes}
 use Rattle.bits.specs.StartCodes.{start_code_prefix}
-use Rattle.scan.specs.declared.Found.{Found}
-use Rattle.scan.specs.declared.Found.TheVariants.{At, Nothing}
+use Rattle.scan.specs.declared.StartCode.{StartCode}
+use Rattle.std.specs.Prelude.{Option, Some, None}
 use Rattle.scan.specs.declared.Scanned.{Scanned}
 use Rattle.scan.specs.Codes.{starts, codes_at, next_code}
 use Rattle.scan.specs.Scanned.{looked, scanned, looked_all, one_more, ScansGive, none, more, OwedOfScans}
-use Rattle.scan.proofs.NextCode.{three, prefix_test, no_third, next_here, next-short, next_on, far_on}
+use Rattle.scan.proofs.NextCode.{code_at, three, prefix_test, no_third, next_here, next-short, next_on, far_on}
 use Rattle.scan.proofs.Walk.{CodeSeen, code_seen, unseen}
 use Rattle.scan.proofs.Search.{codes_from-zero}
 use Rattle.scan.proofs.Looked.{looked_from, looked_is, looked_all_is, none_left, at_code, third_zero, third_other, third_left, few-left}
@@ -30,18 +30,18 @@ unfolding scanned
 looked_by s i e = ap (λ (x : Scanned). x.looked) e
 
 -- an answer by its parts
-pub scanned_is : (s : List ℕ) (i n : ℕ) (f : Found) → f ≡ next_code s i → n ≡ looked_from false s i → record { found = f; looked = n } ≡ scanned s i
+pub scanned_is : (s : List ℕ) (i n : ℕ) (f : Option StartCode) → f ≡ next_code s i → n ≡ looked_from false s i → record { found = f; looked = n } ≡ scanned s i
 unfolding scanned
 scanned_is s i n f e q = rw (e, q, looked_is s i)
 
 -- ---- the steps
 
-step-short : (s : List ℕ) (i : ℕ) → length s < i + 4 → scanned s i ≡ record { found = Nothing; looked = 0 }
-step-short s i h = sym (scanned_is s i 0 Nothing (next-short s i h) (sym (none_left false s i h)))
+step-short : (s : List ℕ) (i : ℕ) → length s < i + 4 → scanned s i ≡ record { found = None; looked = 0 }
+step-short s i h = sym (scanned_is s i 0 None (next-short s i h) (sym (none_left false s i h)))
 
-step-code : (s : List ℕ) (i : ℕ) → starts (drop i s) ≡ true → scanned s i ≡ record { found = At i (get_or s (i + 3) 0); looked = 1 }
+step-code : (s : List ℕ) (i : ℕ) → starts (drop i s) ≡ true → scanned s i ≡ record { found = Some (code_at i (get_or s (i + 3) 0)); looked = 1 }
 unfolding pick
-step-code s i e = sym (scanned_is s i 1 (At i (get_or s (i + 3) 0)) (next_here s i e) (sym (at_code false s i e)))
+step-code s i e = sym (scanned_is s i 1 (Some (code_at i (get_or s (i + 3) 0))) (next_here s i e) (sym (at_code false s i e)))
 
 more_is : (s : List ℕ) (i j : ℕ) → next_code s j ≡ next_code s i → looked_from false s i ≡ suc (looked_from false s j) → scanned s i ≡ one_more (scanned s j)
 unfolding one_more scanned
@@ -87,21 +87,21 @@ module _ {s : List ℕ} {from i k : ℕ} (v : Scanning s from i k) where
   pub go_other : i + 4 ≤ length s → (get_or s (i + 2) 0 ≡ 0 → ⊥) → same_bytes (three s i) start_code_prefix ≡ false → Scanning s from (i + 3) (k + 1)
   go_other h n e = three_later h (sym (prefix_test s i h) ∙ e) n
 
-  pub done-here : i + 4 ≤ length s → same_bytes (three s i) start_code_prefix ≡ true → record { found = At i (get_or s (i + 3) 0); looked = k + 1 } ≡ scanned s from
+  pub done-here : i + 4 ≤ length s → same_bytes (three s i) start_code_prefix ≡ true → record { found = Some (code_at i (get_or s (i + 3) 0)); looked = k + 1 } ≡ scanned s from
   unfolding pick
   done-here h e =
       let q : starts (drop i s) ≡ true = sym (prefix_test s i h) ∙ e in
       scanned_is s from (k + 1) _ (next_here s i q ∙ v.code) (omega (arith, v.count, at_code false s i q))
 
-  pub done_none : length s < i + 4 → record { found = Nothing; looked = k } ≡ scanned s from
+  pub done_none : length s < i + 4 → record { found = None; looked = k } ≡ scanned s from
   done_none h = scanned_is s from k _ (next-short s i h ∙ v.code) (omega (arith, v.count, none_left false s i h))
 
 -- ---- one after another
 
 -- what the scan of the whole looks at behind the code that it finds
-unfoldable behind : List ℕ → Found → ℕ
-behind s (At offset code) = looked_from true s (offset + 4)
-behind s Nothing = 0
+unfoldable behind : List ℕ → Option StartCode → ℕ
+behind s (Some c) = looked_from true s (c.offset + 4)
+behind s None = 0
 
 -- from i on it looks at those up to the first code, and at those behind it
 abbrev Splits : List ℕ → ℕ → Type 0
@@ -139,15 +139,15 @@ gives_one : (s : List ℕ) (i : ℕ) → ((j : ℕ) → i + 4 ≤ j → j ≤ le
 unfolding behind
 gives_one s i rest = go (next_code s i) refl (split (length s) s i (omega arith))
   where
-    go : (f : Found) → next_code s i ≡ f → Splits s i → ScansGive s i (codes_at s i) (looked_from true s i)
-    go Nothing e p =
+    go : (f : Option StartCode) → next_code s i ≡ f → Splits s i → ScansGive s i (codes_at s i) (looked_from true s i)
+    go None e p =
         let q : looked_from true s i ≡ looked_from false s i = p ∙ rw e (omega arith) in
-        rw (unseen s i e, q) (none (sym (scanned_is s i (looked_from false s i) Nothing (sym e) refl)))
-    go (At o c) e p =
-        let q : looked_from true s i ≡ looked_from false s i + looked_from true s (o + 4) = p ∙ rw e in
-        let m : CodeSeen s i o c = code_seen s i o c e in
+        rw (unseen s i e, q) (none (sym (scanned_is s i (looked_from false s i) None (sym e) refl)))
+    go (Some c) e p =
+        let q : looked_from true s i ≡ looked_from false s i + looked_from true s (c.offset + 4) = p ∙ rw e in
+        let m : CodeSeen s i c = code_seen s i c e in
         rw (m.list, q)
-        (more (sym (scanned_is s i (looked_from false s i) (At o c) (sym e) refl)) (rest (o + 4) (omega (arith, m.from)) m.room))
+        (more (sym (scanned_is s i (looked_from false s i) (Some c) (sym e) refl)) (rest (c.offset + 4) (omega (arith, m.from)) m.room))
 
 gives : (n : ℕ) (s : List ℕ) (i : ℕ) → length s ≤ i + n → ScansGive s i (codes_at s i) (looked_from true s i)
 gives zero s i h = gives_one s i (λ j a b. absurd (omega arith))
@@ -166,11 +166,11 @@ module _ {s : List ℕ} {i k : ℕ} {r : Scanned} (v : Looking s i k) (e : r ≡
   told : k + r.looked + behind s (next_code s i) ≡ looked_all s
   told = omega (arith, v.count, split (length s) s i (omega arith), looked_by s i e, looked_is s i)
 
-  pub looking_on : {o c : ℕ} → r.found ≡ At o c → Looking s (o + 4) (k + r.looked)
+  pub looking_on : {c : StartCode} → r.found ≡ Some c → Looking s (c.offset + 4) (k + r.looked)
   unfolding behind
   looking_on q = record { count = ap (λ f. k + r.looked + behind s f) (sym q ∙ found_by s i e) ∙ told }
 
-  pub looking_done : r.found ≡ Nothing → k + r.looked ≡ looked_all s
+  pub looking_done : r.found ≡ None → k + r.looked ≡ looked_all s
   unfolding behind
   looking_done q =
       let b : behind s (next_code s i) ≡ 0 = ap (behind s) (sym (found_by s i e) ∙ q) in

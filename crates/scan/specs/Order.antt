@@ -1,13 +1,12 @@
 -- What is owed of the pictures: that the walk from picture to picture gives them, and that they lie in order.
 -- Assumes nothing.
-use Rattle.std.specs.Prelude.{ℕ, ◌+◌, ◌≤◌, ◌≡◌, List, [], ◌∷◌, length}
-use Rattle.scan.specs.declared.Next.TheVariants.{Picture, Done}
+use Rattle.std.specs.Prelude.{ℕ, ◌+◌, ◌≤◌, ◌≡◌, Some, None, List, [], ◌∷◌, length}
 use Rattle.scan.specs.Pictures.{Pic, pictures, next_picture}
 
 -- the pictures that calls of `next_picture` give one by one from a place on, up to the last
 pub data WalkGives (s : List ℕ) : ℕ → List Pic → Type 0 where
-  done : {from : ℕ} → next_picture s from ≡ Done → WalkGives s from []
-  step : {from start end next : ℕ} {qs : List Pic} → next_picture s from ≡ Picture start end next → WalkGives s next qs
+  done : {from : ℕ} → next_picture s from ≡ None → WalkGives s from []
+  step : {from start end next : ℕ} {qs : List Pic} → next_picture s from ≡ Some (record { at = start; end = end; next = next }) → WalkGives s next qs
       → WalkGives s from (record { start = start; end = end } ∷ qs)
 
 -- what is owed: from the first byte on they are the stream's

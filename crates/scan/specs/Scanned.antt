@@ -1,10 +1,10 @@
 -- The scan by places (paper 02, request 03): how many places it looks at, and what is owed of it.
 -- Assumes nothing.
-use Rattle.std.specs.Prelude.{ℕ, zero, suc, ◌+◌, ◌-◌, ◌*◌, ◌/◌, ◌≤◌, ◌<◌, ◌≡◌, List, [], ◌∷◌, Bool, true, false, eqb, leb, length, get_or, drop}
+use Rattle.std.specs.Prelude.{ℕ, zero, suc, ◌+◌, ◌-◌, ◌*◌, ◌/◌, ◌≤◌, ◌<◌, ◌≡◌, Some, None, List, [], ◌∷◌, Bool, true, false, eqb, leb, length, get_or, drop}
 use Rattle.bits.specs.Bits.{pick}
-use Rattle.scan.specs.declared.Found.TheVariants.{At, Nothing}
+use Rattle.scan.specs.declared.StartCode.{StartCode}
 use Rattle.scan.specs.declared.Scanned.{Scanned}
-use Rattle.scan.specs.Codes.{Code, starts, codes, next_code}
+use Rattle.scan.specs.Codes.{starts, codes, next_code}
 
 -- from a place without a code, where `s` begins, the next is one on if its third byte is 00, otherwise three
 unfoldable pub stride : List ℕ → ℕ
@@ -42,9 +42,9 @@ unfoldable pub one_more : Scanned → Scanned
 one_more r = record { found = r.found; looked = suc r.looked }
 
 -- scans from `from` on, each from 4 bytes after the offset of the last one's code, up to one that finds none: the codes that they find, and the places that they look at together
-pub data ScansGive (s : List ℕ) : ℕ → List Code → ℕ → Type 0 where
-  none : {from n : ℕ} → scanned s from ≡ record { found = Nothing; looked = n } → ScansGive s from [] n
-  more : {from offset code n m : ℕ} {cs : List Code} → scanned s from ≡ record { found = At offset code; looked = n } → ScansGive s (offset + 4) cs m
+pub data ScansGive (s : List ℕ) : ℕ → List StartCode → ℕ → Type 0 where
+  none : {from n : ℕ} → scanned s from ≡ record { found = None; looked = n } → ScansGive s from [] n
+  more : {from offset code n m : ℕ} {cs : List StartCode} → scanned s from ≡ record { found = Some (record { offset = offset; code = code }); looked = n } → ScansGive s (offset + 4) cs m
       → ScansGive s from (record { offset = offset; code = code } ∷ cs) (n + m)
 
 -- all bytes from `from` on are above 01
@@ -56,8 +56,8 @@ pub record OwedOfScans : Type 0 where
   -- the code is the one found without a count
   pub same_code : (s : List ℕ) (i : ℕ) → (scanned s i).found ≡ next_code s i
   -- request 03 place by place: these four determine code and count
-  pub too_few : (s : List ℕ) (i : ℕ) → length s < i + 4 → scanned s i ≡ record { found = Nothing; looked = 0 }
-  pub at_code : (s : List ℕ) (i : ℕ) → starts (drop i s) ≡ true → scanned s i ≡ record { found = At i (get_or s (i + 3) 0); looked = 1 }
+  pub too_few : (s : List ℕ) (i : ℕ) → length s < i + 4 → scanned s i ≡ record { found = None; looked = 0 }
+  pub at_code : (s : List ℕ) (i : ℕ) → starts (drop i s) ≡ true → scanned s i ≡ record { found = Some (record { offset = i; code = get_or s (i + 3) 0 }); looked = 1 }
   pub one_on : (s : List ℕ) (i : ℕ) → i + 4 ≤ length s → starts (drop i s) ≡ false → get_or s (i + 2) 0 ≡ 0 → scanned s i ≡ one_more (scanned s (i + 1))
   pub three_on : (s : List ℕ) (i : ℕ) → i + 4 ≤ length s → starts (drop i s) ≡ false → (get_or s (i + 2) 0 ≡ 0 → ⊥) → scanned s i ≡ one_more (scanned s (i + 3))
   -- one after another scans find the stream's codes, and look at as many places together as the scan of the whole

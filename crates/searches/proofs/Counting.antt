@@ -5,8 +5,8 @@ use Prim.Native.Nat.{ℕ, ◌+◌, ◌≤◌}
 use native.Mathlib.Omega.{arith}
 use mathlib.Core.List.{List}
 use lib.ListN.{length}
-use Rattle.scan.specs.declared.Found.{Found}
-use Rattle.scan.specs.declared.Found.TheVariants.{At, Nothing}
+use Rattle.std.specs.Prelude.{Option, Some, None}
+use Rattle.scan.specs.declared.StartCode.{StartCode}
 use Rattle.scan.specs.Codes.{codes, codes_at, next_code}
 use Rattle.scan.proofs.Search.{codes_from-zero}
 use Rattle.scan.proofs.Walk.{code_seen, unseen}
@@ -19,13 +19,13 @@ pub record Counting (s : List ℕ) (i n : ℕ) : Type 0 where
 pub begun : (s : List ℕ) → Counting s 0 0
 begun s = record { count = omega (arith, ap length (codes_from-zero s)); few = omega arith }
 
-module _ {s : List ℕ} {i n : ℕ} {f : Found} (v : Counting s i n) (e : f ≡ next_code s i) where
-  pub one_more : {o c : ℕ} → f ≡ At o c → Counting s (o + 4) (n + 1)
+module _ {s : List ℕ} {i n : ℕ} {f : Option StartCode} (v : Counting s i n) (e : f ≡ next_code s i) where
+  pub one_more : {c : StartCode} → f ≡ Some c → Counting s (c.offset + 4) (n + 1)
   one_more q =
-      let m = code_seen s i _ _ (sym e ∙ q) in
+      let m = code_seen s i _ (sym e ∙ q) in
       record { count = omega (arith, v.count, ap length m.list); few = omega (arith, v.few, m.from) }
 
-  pub all_found : f ≡ Nothing → n ≡ length (codes s)
+  pub all_found : f ≡ None → n ≡ length (codes s)
   all_found q =
       let l : length (codes_at s i) ≡ 0 = ap length (unseen s i (sym e ∙ q)) in
       omega (arith, v.count, l)

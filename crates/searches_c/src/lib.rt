@@ -1,5 +1,5 @@
 // The searches of `searches` as C calls them, for the benchmark and for the comparison with the original: each calls the
-// library's function of its name and promises the same.
+// library's function of its name and promises the same. (A crate is a library or a static library.)
 #![tactic(auto)]
 
 ghost use Rattle.std.specs.Prelude.{◌≡◌, length};

@@ -4,6 +4,7 @@ use mathlib.Core.Path.{◌≡◌, refl, sym, subst, ◌∙◌}
 use mathlib.Core.Bool.{Bool, true, false}
 use mathlib.Core.List.{[], ◌∷◌}
 use Prim.Native.Nat.{ℕ}
+use Rattle.std.specs.Prelude.{Ok, Err}
 use Rattle.bits.specs.Numbers.{Numbered}
 use Rattle.bits.specs.Refusals.{Answer, value, refused}
 use Rattle.bits.proofs.Following.{same_value}
@@ -14,7 +15,6 @@ use Rattle.vbv.specs.declared.RemovalInterval.{RemovalInterval}
 use Rattle.vbv.specs.declared.VbvParams.{VbvParams}
 use Rattle.vbv.specs.declared.VbvCbrModel.{VbvCbrModel}
 use Rattle.vbv.specs.declared.VbvError.TheVariants.{Params}
-use Rattle.vbv.specs.declared.VbvModel.TheVariants.{Model, Refused}
 use Rattle.vbv.proofs.After as after
 use Rattle.vbv.proofs.Cases.{model_at, zero-model}
 use Rattle.vbv.proofs.Fitting.{fits-model_range}
@@ -77,12 +77,12 @@ pub makes_at : (v : Bool) (p : VbvParams) → params_fit_at v p ≡ true
 makes_at true p h = variable_makes p h
 makes_at false p h = makes p h
 
-pub unmade_named_at : (v : Bool) (p : VbvParams) → params_fit_at v p ≡ false → model_of (new_model_at v p) ≡ Refused Params
+pub unmade_named_at : (v : Bool) (p : VbvParams) → params_fit_at v p ≡ false → model_of (new_model_at v p) ≡ Err Params
 unmade_named_at true p h = variable_unmade_named p h
 unmade_named_at false p h = unmade_named p h
 
 pub makes_named_at : (v : Bool) (p : VbvParams) → params_fit_at v p ≡ true
-    → model_of (new_model_at v p) ≡ Model (record { params = p; whole = 0; rest = 0; prev_end_bits = 0; removed = 0; started = false })
+    → model_of (new_model_at v p) ≡ Ok (record { params = p; whole = 0; rest = 0; prev_end_bits = 0; removed = 0; started = false })
 makes_named_at true p h = variable_makes_named p h
 makes_named_at false p h = makes_named p h
 

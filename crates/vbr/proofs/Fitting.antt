@@ -41,10 +41,6 @@ module _ (m : VbvCbrModel) where
   unfolding variable_fits pick
   by_range h s = rw (h, s)
 
-  pub no_range : model_in_range m ≡ false → false ≡ variable_fits m
-  unfolding variable_fits
-  no_range h = rw h
-
   -- it is in its ranges, and once started at most full
   pub fits_range : variable_fits m ≡ true → model_in_range m ≡ true
   unfolding variable_fits

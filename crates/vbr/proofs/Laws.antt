@@ -17,7 +17,7 @@ use Rattle.vbv.proofs.Fitting.{unit_pos_in, end_fits_lem, fitting-end}
 use Rattle.vbv.proofs.Laws.{units_over, occupancy-most_in}
 use Rattle.vbv.proofs.Arrival.{first-most, arrived-most, arrived-full}
 use Rattle.vbv.proofs.After.{model-with, model-after, with_range, after_range}
-use Rattle.vbr.specs.Variable.{variable_fits, new_variable, start_variable, remove_variable, occupancy_variable}
+use Rattle.vbr.specs.Variable.{variable_fits, of_filled, new_variable, start_variable, remove_variable, occupancy_variable}
 use Rattle.vbr.proofs.Fitting.{variable_fits_lem, variable_range, fitting-variable}
 
 -- a state that fits has parameters in their ranges
@@ -177,5 +177,5 @@ module _ (m : VbvCbrModel) (f : variable_fits m ≡ true) (s : m.started ≡ tru
   variable-removal_told end i h = sym (held _ _ _ f (held _ _ _ s (held _ _ _ (fitting-end m end h) refl)))
 
   pub variable-occupancy_told : occupancy_variable m ≡ value (occupancy m.params m.prev_end_bits (delivered m))
-  unfolding occupancy_variable
+  unfolding occupancy_variable of_filled
   variable-occupancy_told = sym (held _ _ _ f (held _ _ _ s refl))

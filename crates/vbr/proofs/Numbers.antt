@@ -8,7 +8,7 @@ use Rattle.bits.proofs.Flags.{pick_elim}
 use Rattle.vbv.specs.declared.RemovalInterval.{RemovalInterval}
 use Rattle.vbv.specs.declared.VbvParams.{VbvParams}
 use Rattle.vbv.specs.declared.VbvCbrModel.{VbvCbrModel}
-use Rattle.vbr.specs.Variable.{new_variable, start_variable, remove_variable, occupancy_variable}
+use Rattle.vbr.specs.Variable.{of_filled, new_variable, start_variable, remove_variable, occupancy_variable}
 use Rattle.vbr.specs.Numbers.{VariableNumbers, VariableStays}
 use Rattle.vbr.proofs.Laws.{variable-made, variable_started, variable-removed}
 
@@ -33,7 +33,7 @@ remove_numbered m end i =
     a_value
 
 occupancy_numbered : (m : VbvCbrModel) → Numbered (12 ∷ 13 ∷ []) [] [] (occupancy_variable m)
-unfolding occupancy_variable
+unfolding occupancy_variable of_filled
 occupancy_numbered m =
     pick_elim (Numbered (12 ∷ 13 ∷ []) [] []) _ (λ e. by_number refl) λ e.
     pick_elim (Numbered (12 ∷ 13 ∷ []) [] []) _ (λ e. by_number refl) λ e.

@@ -1,6 +1,6 @@
 -- The ways through each function's tests, in the direction of its promise.
 -- Assumes nothing.
-use mathlib.Core.Path.{◌≡◌, refl, sym, ap, ◌∙◌}
+use mathlib.Core.Path.{◌≡◌, refl, ap, ◌∙◌}
 use mathlib.Core.Bool.{Bool, true, false, not, ◌&&◌, ◌||◌}
 use Prim.Native.Nat.{ℕ, ◌+◌, ◌-◌, ◌*◌, ◌^◌, ◌≤◌, ◌<◌, min}
 use native.Mathlib.Omega.{arith}
@@ -8,25 +8,29 @@ use native.Mathlib.Nat.{mul-le-mul}
 use lib.Arith.{digits_div, digits_mod}
 use lib.Dec.{ltb, eqb}
 use borrow.Author.Tests.{ltb-true, ltb-false, eqb-true, eqb-false, lt-ltb, le-ltb}
+use Rattle.std.specs.Prelude.{Result, IsErrAnd}
 use Rattle.bits.specs.Bits.{pick}
 use Rattle.bits.specs.Refusals.{Answer, value, refused}
-use Rattle.bits.proofs.Flags.{yes, no, held, failed, is_true, clash}
+use Rattle.bits.proofs.Flags.{yes, no, held, failed, is_true}
+use Rattle.bits.proofs.Following.{refused-value, same_value}
 use Rattle.vbv.specs.Annex.{unit, overflows, full, arrived}
 use Rattle.vbv.specs.Model.{delivered, model_in_range, at_delivered, after_removal, periods, next_delivered, end_fits, gained}
-use Rattle.vbv.specs.Steps.{EndFits, model_of}
+use Rattle.vbv.specs.Answers.{model_refusal, model_answer, removal_answer}
+use Rattle.vbv.specs.Steps.{EndFits}
 use Rattle.vbv.specs.declared.RemovalInterval.{RemovalInterval}
 use Rattle.vbv.specs.declared.VbvCbrModel.{VbvCbrModel}
 use Rattle.vbv.specs.declared.VbvError.{VbvError}
-use Rattle.vbv.specs.declared.VbvModel.TheVariants.{Model, Refused}
+use Rattle.vbv.specs.declared.VbvRemovalError.{VbvRemovalError}
+use Rattle.vbv.specs.declared.VbvRemovalError.TheVariants.{Model}
 use Rattle.vbv.proofs.Fitting.{in_range, unit_pos_in, range_fits, fitting-end, delivered_parts}
 use Rattle.vbv.proofs.Laws.{over_units, units_over, beyond-whole, occupancy-whole}
 use Rattle.vbv.proofs.Arrival.{full_is}
-use Rattle.vbv.proofs.Told.{next_delivered_is}
-use Rattle.vbv.proofs.Named.{gained_named}
+use Rattle.vbv.proofs.Told.{next_delivered_is, gains}
+use Rattle.vbv.proofs.Ways.{handed_on, unready}
 use Rattle.vbv.proofs.After.{model-with, at_rest, after_same}
 use Rattle.vbv.proofs.Cases.{after_is, at_is}
-use Rattle.vbr.specs.Steps.{Cappable}
-use Rattle.vbr.specs.Variable.{variable_fits, start_variable, remove_variable, occupancy_variable}
+use Rattle.vbr.specs.Steps.{Ready, Cappable}
+use Rattle.vbr.specs.Variable.{variable_fits, of_filled, start_variable, remove_variable, occupancy_variable}
 use Rattle.vbr.proofs.Fitting.{fits_range, variable_fits_lem}
 use Rattle.vbr.proofs.Laws.{variable-starts, variable-occupancy_told}
 
@@ -63,40 +67,61 @@ full_test m h = go (ltb m.whole (most m)) refl (eqb m.whole (most m)) refl (eqb 
 pub most-fits : (m : VbvCbrModel) → model_in_range m ≡ true → m.prev_end_bits + m.params.buffer_size_bits < 2 ^ 64
 most-fits m h = omega (arith, (range_fits h).end_high, (in_range m.params (range_fits h).params_in).1)
 
--- a model that fits, out of order or out of range
-module _ (m : VbvCbrModel) (f : variable_fits m ≡ true) where
-  pub remove_order : (end : ℕ) (i : RemovalInterval) → m.started ≡ false → refused 13 0 0 0 ≡ remove_variable m end i
-  unfolding remove_variable
-  remove_order end i s = held _ _ _ f (failed _ _ _ s refl)
+-- the errors of `ready`, handed on
+module _ (m : VbvCbrModel) (e : VbvError) (h : model_refusal {X = Unit {0}} e ≡ of_filled m tt) where
+  pub remove_unready : (r : Result VbvCbrModel VbvRemovalError) → IsErrAnd r (λ x. x ≡ Model e) → (end : ℕ) (i : RemovalInterval) → removal_answer r ≡ remove_variable m end i
+  unfolding of_filled remove_variable
+  remove_unready r g end i = rw (handed_on r g) (unready (variable_fits m) m.started e tt _ h)
 
-  pub remove_range : (end : ℕ) (i : RemovalInterval) → m.started ≡ true → end_fits m end ≡ false → refused 14 0 0 0 ≡ remove_variable m end i
-  unfolding remove_variable
-  remove_range end i s h = held _ _ _ f (held _ _ _ s (failed _ _ _ h refl))
+  pub occupancy_unready : (r : Result ℕ VbvError) → IsErrAnd r (λ x. x ≡ e) → model_answer r ≡ occupancy_variable m
+  unfolding of_filled occupancy_variable
+  occupancy_unready r g = rw (handed_on r g) (unready (variable_fits m) m.started e tt _ h)
 
-  pub occupancy_order : m.started ≡ false → refused 13 0 0 0 ≡ occupancy_variable m
-  unfolding occupancy_variable
-  occupancy_order s = held _ _ _ f (failed _ _ _ s refl)
+-- out of its ranges, and not started
+module _ (m : VbvCbrModel) where
+  pub unfit : variable_fits m ≡ false → refused 12 0 0 0 ≡ of_filled m (tt {0})
+  unfolding of_filled
+  unfit f = failed _ _ _ f refl
+
+  pub unstarted : variable_fits m ≡ true → m.started ≡ false → refused 13 0 0 0 ≡ of_filled m (tt {0})
+  unfolding of_filled
+  unstarted f s = held _ _ _ f (failed _ _ _ s refl)
+
+-- a model that is ready
+pub answered : {m : VbvCbrModel} → Ready m → {X : Type 0} (x : X) → value x ≡ of_filled m x
+unfolding of_filled
+answered v x = held _ _ _ v.fits (held _ _ _ v.is_started refl)
+
+pub remove_range : {m : VbvCbrModel} → Ready m → (end : ℕ) (i : RemovalInterval) → end_fits m end ≡ false → refused 14 0 0 0 ≡ remove_variable m end i
+unfolding remove_variable
+remove_range v end i h = held _ _ _ v.fits (held _ _ _ v.is_started (failed _ _ _ h refl))
 
 -- a removal: not all there
-module _ (m : VbvCbrModel) (f : variable_fits m ≡ true) (s : m.started ≡ true) (end : ℕ) (g : EndFits m end) (i : RemovalInterval) where
+module _ {m : VbvCbrModel} (v : Ready m) (end : ℕ) (g : EndFits m end) (i : RemovalInterval) where
+  f : variable_fits m ≡ true
+  f = v.fits
+
+  s : m.started ≡ true
+  s = v.is_started
+
   pub remove_under : m.whole < end → refused 10 m.removed 0 0 ≡ remove_variable m end i
   unfolding remove_variable
   remove_under k =
       held _ _ _ f (held _ _ _ s (held _ _ _ (fitting-end m end g) (yes _ _ _ (beyond-whole m (fits_range m f) end ∙ lt-ltb _ _ k) refl)))
 
   -- taken out, with what the interval brings and no more than fills the buffer
-  module _ (next : VbvCbrModel) (e : model_of (gained m i) ≡ Model next) where
+  module _ (next : VbvCbrModel) (e : value next ≡ gained m i) where
     next_is : next ≡ at_delivered m (next_delivered m i)
-    next_is = let z : Model (at_delivered m (next_delivered m i)) ≡ Model next = sym (gained_named m i (fits_range m f) s) ∙ e in cc z
+    next_is = same_value (e ∙ gains m i (fits_range m f) s)
 
     pub cappable : Cappable next end
     cappable =
         let w = model-with m (next_delivered m i) in
-        let v = variable_fits_lem f in
+        let p = (variable_fits_lem f).params_in in
         rw next_is
         (record {
-          rest_low = rw w.params_kept (at_rest m (next_delivered m i) (unit_pos_in m.params v.params_in));
-          size_high = rw w.params_kept (in_range m.params v.params_in).1;
+          rest_low = rw w.params_kept (at_rest m (next_delivered m i) (unit_pos_in m.params p));
+          size_high = rw w.params_kept (in_range m.params p).1;
           end_far = g.end_far;
           count = rw w.count_kept g.count;
         })
@@ -114,8 +139,8 @@ module _ (m : VbvCbrModel) (f : variable_fits m ≡ true) (s : m.started ≡ tru
         held _ _ _ f (held _ _ _ s (held _ _ _ (fitting-end m end g) (no _ _ _ (beyond-whole m (fits_range m f) end ∙ le-ltb _ _ k) (rw b))))
 
   -- a model that fits gains
-  pub no_refusal : (x : VbvError) (a : Answer VbvCbrModel) → model_of (gained m i) ≡ Refused x → a ≡ remove_variable m end i
-  no_refusal x a e = let z : Model (at_delivered m (next_delivered m i)) ≡ Refused x = sym (gained_named m i (fits_range m f) s) ∙ e in absurd (clash cc)
+  pub no_refusal : (x : VbvError) (a : Answer VbvCbrModel) → model_refusal x ≡ gained m i → a ≡ remove_variable m end i
+  no_refusal x a e = absurd (refused-value (e ∙ gains m i (fits_range m f) s))
 
 -- no more than fills the buffer
 module _ (m : VbvCbrModel) (end : ℕ) (v : Cappable m end) where
@@ -130,24 +155,27 @@ module _ (m : VbvCbrModel) (end : ℕ) (v : Cappable m end) where
       omega (arith, delivered_parts m, full_is m.params end)
 
   pub capped_is : (w r : ℕ)
-      → w ≡ pick (ltb m.whole (end + m.params.buffer_size_bits)) m.whole (end + m.params.buffer_size_bits)
+      → w ≡ min m.whole (end + m.params.buffer_size_bits)
       → r ≡ pick (ltb m.whole (end + m.params.buffer_size_bits)) m.rest 0
       → ◌≡◌ {A = VbvCbrModel}
       (record { params = m.params; whole = w; rest = r; prev_end_bits = end; removed = m.removed + 1; started = true })
       (after_removal m end (min (delivered m) (full m.params end)))
   unfolding pick
-  capped_is w r x y = go (ltb m.whole (end + m.params.buffer_size_bits)) refl x y
+  capped_is w r x y = go (ltb m.whole (end + m.params.buffer_size_bits)) refl y
     where
-      go : (t : Bool) → ltb m.whole (end + m.params.buffer_size_bits) ≡ t
-          → w ≡ pick t m.whole (end + m.params.buffer_size_bits) → r ≡ pick t m.rest 0
+      go : (t : Bool) → ltb m.whole (end + m.params.buffer_size_bits) ≡ t → r ≡ pick t m.rest 0
           → ◌≡◌ {A = VbvCbrModel}
           (record { params = m.params; whole = w; rest = r; prev_end_bits = end; removed = m.removed + 1; started = true })
           (after_removal m end (min (delivered m) (full m.params end)))
-      go true e x y =
-          rw (after_is m end _, below_is (ltb-true _ _ e), x, y, digits_div m.whole v.rest_low, digits_mod m.whole v.rest_low)
-      go false e x y =
+      go true e y =
+          let l = ltb-true _ _ e in
+          let z : w ≡ m.whole = omega (arith, x, l) in
+          rw (after_is m end _, below_is l, z, y, digits_div m.whole v.rest_low, digits_mod m.whole v.rest_low)
+      go false e y =
+          let l = ltb-false _ _ e in
+          let z : w ≡ end + m.params.buffer_size_bits = omega (arith, x, l) in
           let u : 0 < unit m.params = omega (arith, v.rest_low) in
-          rw (after_is m end _, above_is (ltb-false _ _ e), x, y, digits_div (end + m.params.buffer_size_bits) u, digits_mod (end + m.params.buffer_size_bits) u)
+          rw (after_is m end _, above_is l, z, y, digits_div (end + m.params.buffer_size_bits) u, digits_mod (end + m.params.buffer_size_bits) u)
 
 -- a full buffer at the start
 pub start_is : (m : VbvCbrModel) → variable_fits m ≡ true → m.started ≡ false
@@ -168,5 +196,5 @@ start_is m f s =
     rw (variable-starts m f s, at_is m (full m.params 0), e, digits_div m.params.buffer_size_bits u, digits_mod m.params.buffer_size_bits u)
 
 -- whole bits in the buffer
-pub occupancy_is : (m : VbvCbrModel) → variable_fits m ≡ true → m.started ≡ true → (b : ℕ) → b ≡ m.whole - m.prev_end_bits → value b ≡ occupancy_variable m
-occupancy_is m f s b e = rw (variable-occupancy_told m f s, occupancy-whole m (fits_range m f), e)
+pub occupancy_is : {m : VbvCbrModel} → Ready m → (b : ℕ) → b ≡ m.whole - m.prev_end_bits → value b ≡ occupancy_variable m
+occupancy_is {m} v b e = rw (variable-occupancy_told m v.fits v.is_started, occupancy-whole m (fits_range m v.fits), e)

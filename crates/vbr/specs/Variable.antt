@@ -36,11 +36,15 @@ remove_variable m end i =
     (violate 10 m.removed 0 0 (beyond m.params end (delivered m))
     (value (after_removal m end (arrived true m.params end (delivered m) (periods i)))))))
 
-unfoldable pub occupancy_variable : VbvCbrModel → Answer ℕ
-occupancy_variable m =
+-- what a started model answers
+unfoldable pub of_filled : {X : Type 0} → VbvCbrModel → X → Answer X
+of_filled m x =
     refuse 12 (not (variable_fits m))
     (refuse 13 (not m.started)
-    (value (occupancy m.params m.prev_end_bits (delivered m))))
+    (value x))
+
+unfoldable pub occupancy_variable : VbvCbrModel → Answer ℕ
+occupancy_variable m = of_filled m (occupancy m.params m.prev_end_bits (delivered m))
 
 -- ---- at a variable rate, or a constant one
 

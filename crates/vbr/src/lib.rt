@@ -2,48 +2,38 @@
 // at the first removal, gains R times the period after each, and stays at B once it is full.
 #![tactic(auto)]
 
-ghost use Rattle.std.specs.Prelude.{◌≡◌, true, not, min};
+ghost use Rattle.std.specs.Prelude.{◌≡◌, OnOk, true, not, min};
 ghost use Rattle.vbv.specs.Annex.{full, overflows};
-ghost use Rattle.vbv.specs.Answers.{model_answer, removal_answer, model_bits_answer};
+ghost use Rattle.vbv.specs.Answers.{model_answer, removal_answer};
 ghost use Rattle.vbv.specs.Model.{delivered, model_in_range, after_removal};
-ghost use Rattle.vbv.specs.Steps.{EndFits};
-ghost use Rattle.vbr.specs.Variable.{variable_fits, new_variable, start_variable, remove_variable, occupancy_variable};
-ghost use Rattle.vbr.specs.Steps.{Cappable};
+ghost use Rattle.vbr.specs.Variable.{variable_fits, of_filled, new_variable, start_variable, remove_variable, occupancy_variable};
+ghost use Rattle.vbr.specs.Steps.{Ready, Cappable};
 
-use vbv::{
-    FARTHEST, RemovalInterval, VbvBits, VbvCbrModel, VbvError, VbvModel, VbvParams, VbvRemoval,
-    VbvViolation,
-};
+use vbv::{RemovalInterval, VbvCbrModel, VbvError, VbvParams, VbvRemovalError, VbvViolation};
 
 // At most a full buffer has arrived.
 fn at_most_full(model: VbvCbrModel) -> bool
     requires { model_in_range model ≡ true }
     ensures { result ≡ not (overflows model.params model.prev_end_bits (delivered model)) }
 {
-    let params = model.params;
-    let most = model.prev_end_bits + params.buffer_size_bits;
+    let most = model.prev_end_bits + model.params.buffer_size_bits;
     (model.whole < most) | ((model.whole == most) & (model.rest == 0))
 }
 
 // Every field in its range, and at most a full buffer arrived once a model is started.
+#[tactic(auto, unfolding(crate::specs::Variable::variable_fits))]
 pub fn fits(model: VbvCbrModel) -> bool
     ensures { result ≡ variable_fits model }
 {
-    if model.in_range() {
-        if model.started {
-            return at_most_full(model);
-        }
-        return true;
-    }
-    false
+    model.in_range() && (!model.started || at_most_full(model))
 }
 
-// The ratio of buffer and rate is not asked.
-pub fn new(params: VbvParams) -> VbvModel
+// The ratio of buffer and rate is not asked: `new_variable` promises a model where VbvCbrModel::new refuses one.
+pub fn new(params: VbvParams) -> Result<VbvCbrModel, VbvError>
     ensures { model_answer result ≡ new_variable params }
 {
     if params.in_range() {
-        VbvModel::Model(VbvCbrModel {
+        Ok(VbvCbrModel {
             params,
             whole: 0,
             rest: 0,
@@ -52,73 +42,64 @@ pub fn new(params: VbvParams) -> VbvModel
             started: false,
         })
     } else {
-        VbvModel::Refused(VbvError::Params)
+        Err(VbvError::Params)
+    }
+}
+
+// Every field in its range, and started: the constant model's `ready` asks for the ratio too.
+fn ready(model: VbvCbrModel) -> Result<(), VbvError>
+    ensures told { model_answer result ≡ of_filled model tt }
+    ensures is_ready { OnOk result (Ready model) }
+{
+    if !fits(model) {
+        return Err(VbvError::Params);
+    }
+    if model.started {
+        Ok(())
+    } else {
+        Err(VbvError::Order)
     }
 }
 
 // With a full buffer.
-pub fn start(model: VbvCbrModel) -> VbvModel
+pub fn start(model: VbvCbrModel) -> Result<VbvCbrModel, VbvError>
     ensures { model_answer result ≡ start_variable model }
 {
-    if fits(model) {
-        if model.started {
-            VbvModel::Refused(VbvError::Order)
-        } else {
-            let params = model.params;
-            VbvModel::Model(VbvCbrModel {
-                params,
-                whole: params.buffer_size_bits,
-                rest: 0,
-                prev_end_bits: model.prev_end_bits,
-                removed: model.removed,
-                started: true,
-            })
-        }
-    } else {
-        VbvModel::Refused(VbvError::Params)
+    if !fits(model) {
+        return Err(VbvError::Params);
     }
+    if model.started {
+        return Err(VbvError::Order);
+    }
+    Ok(VbvCbrModel {
+        whole: model.params.buffer_size_bits,
+        rest: 0,
+        started: true,
+        ..model
+    })
 }
 
-// Removes the pending picture, whose data ends at end.
-pub fn remove_picture(model: VbvCbrModel, end_bits: u64, interval: RemovalInterval) -> VbvRemoval
+// Removes the pending picture, whose data ends at end, where it is all there. (`gained` refuses no model that fits.)
+pub fn remove_picture(
+    model: VbvCbrModel,
+    end_bits: u64,
+    interval: RemovalInterval,
+) -> Result<VbvCbrModel, VbvRemovalError>
     ensures { removal_answer result ≡ remove_variable model end_bits interval }
 {
-    if fits(model) {
-        if model.started {
-            if (end_bits <= FARTHEST)
-                & (model.prev_end_bits <= end_bits)
-                & (model.removed < FARTHEST)
-            {
-                remove(model, end_bits, interval)
-            } else {
-                VbvRemoval::Refused(VbvError::Range)
-            }
-        } else {
-            VbvRemoval::Refused(VbvError::Order)
-        }
-    } else {
-        VbvRemoval::Refused(VbvError::Params)
+    ready(model)?;
+    if !model.end_fits(end_bits) {
+        return Err(VbvRemovalError::Model(VbvError::Range));
     }
-}
-
-// The picture is not all there, or is taken out. (`gained` refuses no model that fits.)
-fn remove(model: VbvCbrModel, end: u64, interval: RemovalInterval) -> VbvRemoval
-    requires model_value { variable_fits model ≡ true }
-    requires started_value { model.started ≡ true }
-    requires end_fits { EndFits model end }
-    ensures { removal_answer result ≡ remove_variable model end interval }
-{
-    if model.whole < end {
-        return VbvRemoval::Violation(VbvViolation::Underflow {
+    if model.whole < end_bits {
+        return Err(VbvRemovalError::Violation(VbvViolation::Underflow {
             picture: model.removed,
             coded: 0,
             expected: 0,
-        });
+        }));
     }
-    match model.gained(interval) {
-        VbvModel::Refused(error) => VbvRemoval::Refused(error),
-        VbvModel::Model(next) => VbvRemoval::Model(capped(next, end)),
-    }
+    let next = model.gained(interval)?;
+    Ok(capped(next, end_bits))
 }
 
 // The pending picture taken out of what has arrived by the next removal: no more than a full buffer stays.
@@ -126,33 +107,21 @@ fn capped(model: VbvCbrModel, end: u64) -> VbvCbrModel
     requires { Cappable model end }
     ensures { result ≡ after_removal model end (min (delivered model) (full model.params end)) }
 {
-    let params = model.params;
-    let most = end + params.buffer_size_bits;
-    let below = model.whole < most;
+    let most = end + model.params.buffer_size_bits;
     VbvCbrModel {
-        params,
-        whole: if below { model.whole } else { most },
-        rest: if below { model.rest } else { 0 },
+        whole: model.whole.min(most),
+        rest: if model.whole < most { model.rest } else { 0 },
         prev_end_bits: end,
         removed: model.removed + 1,
         started: true,
+        ..model
     }
 }
 
 // Whole bits in the buffer just before the pending removal.
-pub fn occupancy_before_removal_bits(model: VbvCbrModel) -> VbvBits
-    ensures { model_bits_answer result ≡ occupancy_variable model }
+pub fn occupancy_before_removal_bits(model: VbvCbrModel) -> Result<u64, VbvError>
+    ensures { model_answer result ≡ occupancy_variable model }
 {
-    if fits(model) {
-        if model.started {
-            if model.prev_end_bits < model.whole {
-                return VbvBits::Bits(model.whole - model.prev_end_bits);
-            }
-            VbvBits::Bits(0)
-        } else {
-            VbvBits::Refused(VbvError::Order)
-        }
-    } else {
-        VbvBits::Refused(VbvError::Params)
-    }
+    ready(model)?;
+    Ok(model.whole.saturating_sub(model.prev_end_bits))
 }

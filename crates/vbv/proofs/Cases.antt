@@ -1,17 +1,17 @@
--- Answers of the model in their cases: a model in its fields, a new one, and a rate code's frame rate.
+-- Answers of the model in their cases: a model in its fields, and a rate code's frame rate.
 -- Assumes nothing.
-use mathlib.Core.Path.{◌≡◌, refl, sym, ap, subst, ◌∙◌}
+use mathlib.Core.Path.{◌≡◌, refl, ap, subst}
 use mathlib.Core.Bool.{Bool, true, false, ◌&&◌}
 use Prim.Native.Nat.{ℕ, ◌+◌, ◌*◌, ◌/◌, ◌%◌, ◌≤◌}
 use native.Mathlib.Omega.{arith}
 use native.Mathlib.Nat.{div-add-mod', zero-div, zero-mod, mul-le-mul}
 use lib.Dec.{leb, eqb}
-use borrow.Author.Tests.{eqb-true, eqb-false, not-true, not-false, leb-true, le-leb}
+use borrow.Author.Tests.{eqb-true, eqb-false, leb-true, le-leb}
 use Rattle.bits.specs.Refusals.{Answer, value, refused, and_then}
 use Rattle.bits.proofs.Flags.{pick_elim, held, was_held, both_true}
 use Rattle.vbv.specs.Annex.{unit}
 use Rattle.vbv.specs.Answers.{code_rate, frame_rate}
-use Rattle.vbv.specs.Model.{params_fit, new_model, delivered, at_delivered, after_removal}
+use Rattle.vbv.specs.Model.{delivered, at_delivered, after_removal}
 use Rattle.vbv.specs.declared.VbvParams.{VbvParams}
 use Rattle.vbv.specs.declared.VbvCbrModel.{VbvCbrModel}
 use Rattle.bits.proofs.Following.{refused-value}
@@ -36,23 +36,6 @@ delivered-of p d end removed started = div-add-mod' d (unit p)
 pub zero-model : (p : VbvParams)
     → model_at p 0 0 0 false ≡ record { params = p; whole = 0; rest = 0; prev_end_bits = 0; removed = 0; started = false }
 zero-model p = rw (zero-div, zero-mod)
-
--- a new model, or parameters that do not fit
-pub data NewModel (p : VbvParams) : Answer VbvCbrModel → Type 0 where
-  makes : params_fit p ≡ true → NewModel p (value (model_at p 0 0 0 false))
-  unfit : params_fit p ≡ false → NewModel p (refused 12 0 0 0)
-
-pub new_model_lem : (p : VbvParams) → NewModel p (new_model p)
-unfolding new_model
-new_model_lem p =
-    pick_elim (NewModel p) _ (λ e. unfit (not-true _ e)) (λ e. subst (λ (m : VbvCbrModel). NewModel p (value m)) (zero-model p) (makes (not-false _ e)))
-
-pub made_is : (p : VbvParams) (m : VbvCbrModel) → new_model p ≡ value m → m ≡ model_at p 0 0 0 false
-unfolding new_model
-made_is p m h =
-    let a = was_held (params_fit p) _ _ refused-value h in
-    let e : m ≡ record { params = p; whole = 0; rest = 0; prev_end_bits = 0; removed = 0; started = false } = cc a.1 in
-    e ∙ sym (zero-model p)
 
 -- a rate code's frame rate in its bounds, at most so many times up and down; and which code has none
 pub data RateCode (c up down : ℕ) : Answer (ℕ × ℕ) → Type 0 where

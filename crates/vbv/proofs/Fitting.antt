@@ -115,11 +115,6 @@ model_in_range_lem {m} h =
       rest_low = r.rest_low;
     }
 
--- the tests of an end
-pub end_tests : (m : VbvCbrModel) (end : ℕ) → end_fits m end ≡ (leb end farthest && leb m.prev_end_bits end && ltb m.removed farthest)
-unfolding end_fits
-end_tests m end = refl
-
 pub end_fits_lem : {m : VbvCbrModel} {end : ℕ} → end_fits m end ≡ true → EndFits m end
 unfolding end_fits
 end_fits_lem h =
@@ -144,23 +139,6 @@ pub counts_are : (m : VbvCbrModel)
     ≡ counts_fit m
 unfolding counts_fit unit
 counts_are m = rw (both_below m.prev_end_bits m.removed farthest) (simp and_assoc)
-
--- the test of a state by that of its parameters
-pub by_params : (m : VbvCbrModel) → params_fit m.params ≡ true → counts_fit m ≡ model_fits m
-unfolding model_fits
-by_params m h = rw h
-
-pub no_params : (m : VbvCbrModel) → params_fit m.params ≡ false → false ≡ model_fits m
-unfolding model_fits
-no_params m h = rw h
-
-pub by_ranges : (m : VbvCbrModel) → params_in_range m.params ≡ true → counts_fit m ≡ model_in_range m
-unfolding model_in_range
-by_ranges m h = rw h
-
-pub no_ranges : (m : VbvCbrModel) → params_in_range m.params ≡ false → false ≡ model_in_range m
-unfolding model_in_range
-no_ranges m h = rw h
 
 -- and back
 pub fitting-params : (p : VbvParams) → ParamsFit p → params_fit p ≡ true

@@ -1,21 +1,28 @@
 -- The ways through each function's chain of tests, in the direction of its promise.
 -- Assumes nothing.
-use mathlib.Core.Path.{◌≡◌, refl, sym, ◌∙◌}
-use mathlib.Core.Bool.{true, false}
+use mathlib.Core.Path.{◌≡◌, refl, sym, ap, ◌∙◌}
+use mathlib.Core.Bool.{Bool, true, false, not}
 use Prim.Native.Nat.{ℕ, ◌+◌, ◌-◌, ◌*◌, ◌/◌, ◌%◌, ◌^◌, ◌≤◌, ◌<◌}
 use native.Mathlib.Omega.{arith}
 use native.Mathlib.Nat.{mod-lt}
 use lib.Dec.{ltb}
 use borrow.Author.Tests.{lt-ltb, le-ltb}
-use Rattle.bits.specs.Refusals.{Answer, value, refused, refuse}
+use Rattle.std.specs.Prelude.{Result, Ok, Err, IsErrAnd}
+use Rattle.bits.specs.Bits.{pick}
+use Rattle.bits.specs.Refusals.{Answer, value, refused, refuse, number}
+use Rattle.bits.proofs.Following.{refused-value}
+use Rattle.vbv.specs.declared.VbvError.{VbvError}
+use Rattle.vbv.specs.declared.VbvRemovalError.{VbvRemovalError}
+use Rattle.vbv.specs.declared.VbvRemovalError.TheVariants.{Model}
+use Rattle.vbv.specs.Answers.{model_number, model_refusal, model_answer, removal_answer}
 use Rattle.vbv.specs.declared.RemovalInterval.{RemovalInterval}
 use Rattle.vbv.specs.declared.VbvCbrModel.{VbvCbrModel}
 use Rattle.vbv.specs.Annex.{unit, first_delivered, gain, overflows, beyond, expected_delay, occupancy, greatest_end, least_end}
-use Rattle.vbv.specs.Steps.{ModelFits, EndFits}
+use Rattle.vbv.specs.Steps.{Ready, ModelFits, EndFits}
 use Rattle.vbv.specs.Model.{farthest, delivered, model_fits, at_delivered, after_removal, periods, next_delivered, gained, model_in_range, delay_for_picture, end_fits, remove_picture, of_started}
 use Rattle.vbv.proofs.Arith.{ceiling_whole, ceiling_more, above, floor_beyond, start_div, start_mod, next_div, next_mod, delay_split, delay_large}
 use Rattle.bits.proofs.Flags.{yes, no, held, failed}
-use Rattle.vbv.proofs.Fitting.{model_fits_lem, fitting-params, fitting-model, fitting-end, unit_pos, delivered_div}
+use Rattle.vbv.proofs.Fitting.{fitting-params, fitting-model, fitting-end, unit_pos, delivered_div}
 use Rattle.vbv.proofs.Laws.{beyond-greatest, overflow_ceiling, least_ceiling, fits-params, delivered_at_lem, next-whole}
 
 -- delivered, as whole bits and a remainder: at the start, and one interval on
@@ -69,24 +76,24 @@ module _ (m : VbvCbrModel) where
       let e : m.rest ≡ 0 = omega arith in
       sym (rw e (ceiling_whole m.whole (unit m.params) (omega arith)))
 
--- the whole bits of a state that fits
-module _ (m : VbvCbrModel) (v : ModelFits m) where
+-- a model that is ready: its whole bits
+module _ {m : VbvCbrModel} (v : Ready m) where
   fits : model_fits m ≡ true
-  fits = fitting-model m v
+  fits = fitting-model m v.fits
 
-  greatest-whole : greatest_end m.params (delivered m) ≡ m.whole
+  pub greatest_is : m.whole ≡ greatest_end m.params (delivered m)
   unfolding greatest_end
-  greatest-whole = delivered_div m fits
+  greatest_is = sym (delivered_div m fits)
 
   beyond_test : (end : ℕ) → beyond m.params end (delivered m) ≡ ltb m.whole end
-  beyond_test end = beyond-greatest m.params (fits-params m fits) end (delivered m) ∙ rw greatest-whole
+  beyond_test end = beyond-greatest m.params (fits-params m fits) end (delivered m) ∙ rw (← greatest_is)
 
   over_test : (u : ℕ) → u ≡ (delivered m + (unit m.params - 1)) / unit m.params
       → overflows m.params m.prev_end_bits (delivered m) ≡ ltb (m.prev_end_bits + m.params.buffer_size_bits) u
   over_test u e = overflow_ceiling m.params (fits-params m fits) m.prev_end_bits (delivered m) ∙ rw e
 
   -- the delay
-  module _ (s : m.started ≡ true) (position : ℕ) (h : position ≤ farthest) where
+  module _ (position : ℕ) (h : position ≤ farthest) where
     expected_is : position ≤ m.whole
         → expected_delay m.params position (delivered m)
         ≡ (180000 * (m.whole - position) + m.rest / m.params.frn + m.params.bit_rate) / (2 * m.params.bit_rate)
@@ -97,7 +104,7 @@ module _ (m : VbvCbrModel) (v : ModelFits m) where
 
     pub delay-early : m.whole < position → refused 7 0 0 0 ≡ delay_for_picture m position
     unfolding delay_for_picture
-    delay-early g = held _ _ _ fits (held _ _ _ s (no _ _ _ (le-ltb _ _ h) (yes _ _ _ (beyond_test position ∙ lt-ltb _ _ g) refl)))
+    delay-early g = held _ _ _ fits (held _ _ _ v.is_started (no _ _ _ (le-ltb _ _ h) (yes _ _ _ (beyond_test position ∙ lt-ltb _ _ g) refl)))
 
     -- beyond the test of the position
     there : position ≤ m.whole → (r : Answer ℕ)
@@ -106,7 +113,7 @@ module _ (m : VbvCbrModel) (v : ModelFits m) where
         (value (expected_delay m.params position (delivered m)))
         → r ≡ delay_for_picture m position
     unfolding delay_for_picture
-    there g r e = held _ _ _ fits (held _ _ _ s (no _ _ _ (le-ltb _ _ h) (no _ _ _ (beyond_test position ∙ le-ltb _ _ g) e)))
+    there g r e = held _ _ _ fits (held _ _ _ v.is_started (no _ _ _ (le-ltb _ _ h) (no _ _ _ (beyond_test position ∙ le-ltb _ _ g) e)))
 
     pub delay_long : position ≤ m.whole
         → 65534 < (180000 * (m.whole - position) + m.rest / m.params.frn + m.params.bit_rate) / (2 * m.params.bit_rate)
@@ -125,20 +132,20 @@ module _ (m : VbvCbrModel) (v : ModelFits m) where
     delay_is g k = there g _ (no _ _ _ (rw (expected_is g) (le-ltb _ _ k)) (rw (expected_is g)))
 
   -- a removal: over what was delivered, rounded up
-  module _ (s : m.started ≡ true) (end : ℕ) (g : EndFits m end) (i : RemovalInterval)
+  module _ (end : ℕ) (g : EndFits m end) (i : RemovalInterval)
       (u : ℕ) (e : u ≡ (delivered m + (unit m.params - 1)) / unit m.params) where
     pub remove-over : m.prev_end_bits + m.params.buffer_size_bits < u
         → refused 9 m.removed 0 0 ≡ remove_picture m end i
     unfolding remove_picture
     remove-over o =
-        held _ _ _ fits (held _ _ _ s (held _ _ _ (fitting-end m end g) (yes _ _ _ (over_test u e ∙ lt-ltb _ _ o) refl)))
+        held _ _ _ fits (held _ _ _ v.is_started (held _ _ _ (fitting-end m end g) (yes _ _ _ (over_test u e ∙ lt-ltb _ _ o) refl)))
 
     pub remove_under : u ≤ m.prev_end_bits + m.params.buffer_size_bits → m.whole < end
         → refused 10 m.removed 0 0 ≡ remove_picture m end i
     unfolding remove_picture
     remove_under o k =
         held _ _ _ fits
-        (held _ _ _ s
+        (held _ _ _ v.is_started
         (held _ _ _ (fitting-end m end g)
         (no _ _ _ (over_test u e ∙ le-ltb _ _ o) (yes _ _ _ (beyond_test end ∙ lt-ltb _ _ k) refl))))
 
@@ -146,54 +153,83 @@ module _ (m : VbvCbrModel) (v : ModelFits m) where
         → (x : VbvCbrModel) → x ≡ at_delivered m (next_delivered m i)
         → value
         (record {
-          params = m.params;
+          params = x.params;
           whole = x.whole;
           rest = x.rest;
           prev_end_bits = end;
           removed = m.removed + 1;
-          started = true;
+          started = x.started;
         })
         ≡ remove_picture m end i
     unfolding remove_picture at_delivered after_removal
     remove_is o k x a =
         held _ _ _ fits
-        (held _ _ _ s
+        (held _ _ _ v.is_started
         (held _ _ _ (fitting-end m end g)
         (no _ _ _ (over_test u e ∙ le-ltb _ _ o) (no _ _ _ (beyond_test end ∙ le-ltb _ _ k) (rw a)))))
 
--- a model that fits, out of order or out of range
-module _ (m : VbvCbrModel) (f : model_fits m ≡ true) where
-  pub delay_order : (position : ℕ) → m.started ≡ false → refused 13 0 0 0 ≡ delay_for_picture m position
+  -- out of range
+  pub delay_range : (position : ℕ) → farthest < position → refused 14 0 0 0 ≡ delay_for_picture m position
   unfolding delay_for_picture
-  delay_order position s = held _ _ _ f (failed _ _ _ s refl)
+  delay_range position h = held _ _ _ fits (held _ _ _ v.is_started (yes _ _ _ (lt-ltb _ _ h) refl))
 
-  pub remove_order : (end : ℕ) (i : RemovalInterval) → m.started ≡ false → refused 13 0 0 0 ≡ remove_picture m end i
+  pub remove_range : (end : ℕ) (i : RemovalInterval) → end_fits m end ≡ false → refused 14 0 0 0 ≡ remove_picture m end i
   unfolding remove_picture
-  remove_order end i s = held _ _ _ f (failed _ _ _ s refl)
+  remove_range end i h = held _ _ _ fits (held _ _ _ v.is_started (failed _ _ _ h refl))
 
-  module _ (s : m.started ≡ true) where
-    pub delay_range : (position : ℕ) → farthest < position → refused 14 0 0 0 ≡ delay_for_picture m position
-    unfolding delay_for_picture
-    delay_range position h = held _ _ _ f (held _ _ _ s (yes _ _ _ (lt-ltb _ _ h) refl))
-
-    pub remove_range : (end : ℕ) (i : RemovalInterval) → end_fits m end ≡ false → refused 14 0 0 0 ≡ remove_picture m end i
-    unfolding remove_picture
-    remove_range end i h = held _ _ _ f (held _ _ _ s (failed _ _ _ h refl))
-
--- bits that a started model answers
-module _ (m : VbvCbrModel) (b : ℕ) where
-  pub bits_params : model_fits m ≡ false → refused 12 0 0 0 ≡ of_started m b
+  -- the bits that it answers
+  pub answered : {X : Type 0} (x : X) → value x ≡ of_started m x
   unfolding of_started
-  bits_params f = failed _ _ _ f refl
+  answered x = held _ _ _ fits (held _ _ _ v.is_started refl)
 
-  module _ (f : model_fits m ≡ true) where
-    pub bits_order : m.started ≡ false → refused 13 0 0 0 ≡ of_started m b
-    unfolding of_started
-    bits_order s = held _ _ _ f (failed _ _ _ s refl)
+  pub occupancy_is : m.whole - m.prev_end_bits ≡ occupancy m.params m.prev_end_bits (delivered m)
+  unfolding occupancy delivered unit
+  occupancy_is = sym (floor_beyond m.whole m.rest m.prev_end_bits (180000 * m.params.frn) v.fits.rest_low)
 
-    pub bits_are : m.started ≡ true → (r : ℕ) → r ≡ b → value r ≡ of_started m b
-    unfolding of_started
-    bits_are s r e = held _ _ _ f (held _ _ _ s (rw e))
+  pub least_at : (i : RemovalInterval) (x : VbvCbrModel) → x ≡ at_delivered m (next_delivered m i)
+      → (u : ℕ) → u ≡ (delivered x + (unit x.params - 1)) / unit x.params
+      → u - m.params.buffer_size_bits ≡ least_end m.params (next_delivered m i)
+  unfolding at_delivered
+  least_at i x a u e =
+      let k : u ≡ (next_delivered m i + (unit m.params - 1)) / unit m.params =
+      e ∙ rw (a, delivered_at_lem m (next_delivered m i)) in
+      rw k (sym (least_ceiling m.params (fits-params m fits) (next_delivered m i)))
+
+-- the errors of `ready`, handed on, are what every chain that begins with its tests answers
+pub handed_on : {X E : Type 0} (r : Result X E) {e : E} → IsErrAnd r (λ x. x ≡ e) → r ≡ Err e
+handed_on (Ok x) h = absurd h
+handed_on (Err x) h = ap Err h
+
+pub unready : {X Y : Type 0} (f s : Bool) (e : VbvError) (y : Y) (a : Answer X)
+    → model_refusal e ≡ refuse 12 (not f) (refuse 13 (not s) (value y))
+    → model_refusal e ≡ refuse 12 (not f) (refuse 13 (not s) a)
+unfolding pick
+unready true true e y a h = absurd (refused-value h)
+unready true false e y a h = let n : model_number e ≡ 13 = ap number h in rw n
+unready false s e y a h = let n : model_number e ≡ 12 = ap number h in rw n
+
+module _ (m : VbvCbrModel) (e : VbvError) (h : model_refusal {X = Unit {0}} e ≡ of_started m tt) where
+  pub delay_unready : (r : Result ℕ VbvError) → IsErrAnd r (λ x. x ≡ e) → (position : ℕ) → model_answer r ≡ delay_for_picture m position
+  unfolding of_started delay_for_picture
+  delay_unready r g position = rw (handed_on r g) (unready (model_fits m) m.started e tt _ h)
+
+  pub remove_unready : (r : Result VbvCbrModel VbvRemovalError) → IsErrAnd r (λ x. x ≡ Model e) → (end : ℕ) (i : RemovalInterval) → removal_answer r ≡ remove_picture m end i
+  unfolding of_started remove_picture
+  remove_unready r g end i = rw (handed_on r g) (unready (model_fits m) m.started e tt _ h)
+
+  pub answer_unready : {X : Type 0} (r : Result X VbvError) → IsErrAnd r (λ x. x ≡ e) → (x : X) → model_answer r ≡ of_started m x
+  unfolding of_started
+  answer_unready r g x = rw (handed_on r g) (unready (model_fits m) m.started e tt _ h)
+
+-- and a model that is not
+module _ (m : VbvCbrModel) where
+  pub unfit : model_fits m ≡ false → refused 12 0 0 0 ≡ of_started m (tt {0})
+  unfolding of_started
+  unfit f = failed _ _ _ f refl
+
+  pub unstarted : model_fits m ≡ true → m.started ≡ false → refused 13 0 0 0 ≡ of_started m (tt {0})
+  unfolding of_started
+  unstarted f s = held _ _ _ f (failed _ _ _ s refl)
 
 -- an advance
 module _ (m : VbvCbrModel) (i : RemovalInterval) where
@@ -209,23 +245,6 @@ module _ (m : VbvCbrModel) (i : RemovalInterval) where
     pub gain_is : m.started ≡ true → (next : VbvCbrModel) → next ≡ at_delivered m (next_delivered m i) → value next ≡ gained m i
     unfolding gained
     gain_is s next e = held _ _ _ f (held _ _ _ s (rw e))
-
-module _ (m : VbvCbrModel) (f : model_fits m ≡ true) where
-  pub greatest_is : m.whole ≡ greatest_end m.params (delivered m)
-  greatest_is = sym (greatest-whole m (model_fits_lem f))
-
-  pub occupancy_is : m.whole - m.prev_end_bits ≡ occupancy m.params m.prev_end_bits (delivered m)
-  unfolding occupancy delivered unit
-  occupancy_is = sym (floor_beyond m.whole m.rest m.prev_end_bits (180000 * m.params.frn) (model_fits_lem f).rest_low)
-
-  pub least_at : (i : RemovalInterval) (x : VbvCbrModel) → x ≡ at_delivered m (next_delivered m i)
-      → (u : ℕ) → u ≡ (delivered x + (unit x.params - 1)) / unit x.params
-      → u - m.params.buffer_size_bits ≡ least_end m.params (next_delivered m i)
-  unfolding at_delivered
-  least_at i x a u e =
-      let k : u ≡ (next_delivered m i + (unit m.params - 1)) / unit m.params =
-      e ∙ rw (a, delivered_at_lem m (next_delivered m i)) in
-      rw k (sym (least_ceiling m.params (fits-params m f) (next_delivered m i)))
 
 -- the state one interval on can be rounded up
 pub next_fits : (m : VbvCbrModel) (i : RemovalInterval) → ModelFits m → (x : VbvCbrModel) → x ≡ at_delivered m (next_delivered m i)

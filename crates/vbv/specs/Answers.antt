@@ -1,6 +1,6 @@
 -- The refusals of the model with their numbers in paper 01's table, and the frame rates.
 -- Assumes nothing.
-use Rattle.std.specs.Prelude.{ℕ, ◌+◌, ◌*◌, not, ◌&&◌, leb, eqb}
+use Rattle.std.specs.Prelude.{ℕ, ◌+◌, ◌*◌, not, ◌&&◌, leb, eqb, Result, Ok, Err}
 use Rattle.bits.specs.Bits.{pick}
 use Rattle.bits.specs.Refusals.{Answer, value, refused, refuse, and_then}
 use Rattle.bits.specs.declared.VbvRefusal.{VbvRefusal}
@@ -8,19 +8,9 @@ use Rattle.vbv.specs.declared.VbvError.{VbvError}
 use Rattle.vbv.specs.declared.VbvError.TheVariants.{FrameRateCode, Early, DelayTooLong, Params, Order, Range}
 use Rattle.vbv.specs.declared.VbvViolation.{VbvViolation}
 use Rattle.vbv.specs.declared.VbvViolation.TheVariants.{Overflow, Underflow, DelayMismatch}
-use Rattle.vbv.specs.declared.FrameRate.{FrameRate}
-use Rattle.vbv.specs.declared.FrameRate.TheVariants.{Rate, Refused}
-use Rattle.vbv.specs.declared.VbvCbrModel.{VbvCbrModel}
-use Rattle.vbv.specs.declared.VbvModel.{VbvModel}
-use Rattle.vbv.specs.declared.VbvModel.TheVariants as md
-use Rattle.vbv.specs.declared.VbvRemoval.{VbvRemoval}
-use Rattle.vbv.specs.declared.VbvRemoval.TheVariants as rm
-use Rattle.vbv.specs.declared.VbvDelay.{VbvDelay}
-use Rattle.vbv.specs.declared.VbvDelay.TheVariants as dl
-use Rattle.vbv.specs.declared.VbvBits.{VbvBits}
-use Rattle.vbv.specs.declared.VbvBits.TheVariants as bt
-use Rattle.vbv.specs.declared.VbvPatch.{VbvPatch}
-use Rattle.vbv.specs.declared.VbvPatch.TheVariants as pt
+use Rattle.vbv.specs.declared.VbvRemovalError.{VbvRemovalError}
+use Rattle.vbv.specs.declared.VbvRemovalError.TheVariants.{Model, Violation}
+use Rattle.vbv.specs.declared.NotAPicture.{NotAPicture}
 
 abbrev pub model_number : VbvError → ℕ
 model_number FrameRateCode = 6
@@ -63,30 +53,18 @@ model_refusal e = refused (model_number e) 0 0 0
 abbrev pub violation : {X : Type 0} → VbvViolation → Answer X
 violation v = refused (violation_number v) (violation_picture v) (violation_coded v) (violation_expected v)
 
-abbrev pub model_answer : VbvModel → Answer VbvCbrModel
-model_answer (md.Model m) = value m
-model_answer (md.Refused e) = model_refusal e
+abbrev pub model_answer : {X : Type 0} → Result X VbvError → Answer X
+model_answer (Ok x) = value x
+model_answer (Err e) = model_refusal e
 
-abbrev pub removal_answer : VbvRemoval → Answer VbvCbrModel
-removal_answer (rm.Model m) = value m
-removal_answer (rm.Refused e) = model_refusal e
-removal_answer (rm.Violation v) = violation v
+abbrev pub removal_answer : {X : Type 0} → Result X VbvRemovalError → Answer X
+removal_answer (Ok x) = value x
+removal_answer (Err (Model e)) = model_refusal e
+removal_answer (Err (Violation v)) = violation v
 
-abbrev pub delay_answer : VbvDelay → Answer ℕ
-delay_answer (dl.Delay t) = value t
-delay_answer (dl.Refused e) = model_refusal e
-
-abbrev pub model_bits_answer : VbvBits → Answer ℕ
-model_bits_answer (bt.Bits b) = value b
-model_bits_answer (bt.Refused e) = model_refusal e
-
-abbrev pub patch_answer : VbvPatch → Answer (Unit {0})
-patch_answer pt.Done = value tt
-patch_answer pt.NotAPicture = refused 20 0 0 0
-
-abbrev pub rate_answer : FrameRate → Answer (ℕ × ℕ)
-rate_answer (Rate n d) = value (n, d)
-rate_answer (Refused e) = model_refusal e
+abbrev pub patch_answer : Result (Unit {0}) NotAPicture → Answer (Unit {0})
+patch_answer (Ok x) = value x
+patch_answer (Err e) = refused 20 0 0 0
 
 -- Table 6-4's frame_rate_value of a code, and 11172-2 2.4.3.2's picture_rate: numerator and denominator
 unfoldable pub code_rate : ℕ → Answer (ℕ × ℕ)

@@ -139,12 +139,12 @@ remove_picture m end i =
     (violate 10 m.removed 0 0 (beyond m.params end (delivered m))
     (value (after_removal m end (next_delivered m i)))))))
 
--- bits that a started model answers
-unfoldable pub of_started : VbvCbrModel → ℕ → Answer ℕ
-of_started m b =
+-- what a started model answers
+unfoldable pub of_started : {X : Type 0} → VbvCbrModel → X → Answer X
+of_started m x =
     refuse 12 (not (model_fits m))
     (refuse 13 (not m.started)
-    (value b))
+    (value x))
 
 unfoldable pub max_end_bits : VbvCbrModel → Answer ℕ
 max_end_bits m = of_started m (greatest_end m.params (delivered m))

@@ -1,21 +1,13 @@
--- The promises of private functions: what fitting means, as bounds; and each answer enum by the numbers and values that it tells.
+-- The promises of private functions: what fitting means, as bounds; and each answer by the numbers and values that it tells.
 -- Assumes nothing.
-use Rattle.std.specs.Prelude.{ℕ, ◌*◌, ◌≤◌, ◌<◌, eqb}
+use Rattle.std.specs.Prelude.{ℕ, ◌*◌, ◌≤◌, ◌<◌, ◌≡◌, true, eqb, Result, Ok, Err}
 use Rattle.bits.specs.Bits.{pick}
 use Rattle.bits.specs.Refusals.{Answer, value, refused}
 use Rattle.vbv.specs.declared.VbvError.{VbvError}
 use Rattle.vbv.specs.declared.VbvError.TheVariants.{FrameRateCode, Early, DelayTooLong, Params, Order, Range}
 use Rattle.vbv.specs.declared.VbvViolation.TheVariants.{Overflow, Underflow, DelayMismatch}
-use Rattle.vbv.specs.declared.FrameRate.{FrameRate}
-use Rattle.vbv.specs.declared.FrameRate.TheVariants as fr
-use Rattle.vbv.specs.declared.VbvModel.{VbvModel}
-use Rattle.vbv.specs.declared.VbvModel.TheVariants as md
-use Rattle.vbv.specs.declared.VbvRemoval.{VbvRemoval}
-use Rattle.vbv.specs.declared.VbvRemoval.TheVariants as rm
-use Rattle.vbv.specs.declared.VbvDelay.{VbvDelay}
-use Rattle.vbv.specs.declared.VbvDelay.TheVariants as dl
-use Rattle.vbv.specs.declared.VbvBits.{VbvBits}
-use Rattle.vbv.specs.declared.VbvBits.TheVariants as bt
+use Rattle.vbv.specs.declared.VbvRemovalError.{VbvRemovalError}
+use Rattle.vbv.specs.declared.VbvRemovalError.TheVariants.{Model, Violation}
 use Rattle.vbv.specs.declared.VbvParams.{VbvParams}
 use Rattle.vbv.specs.declared.VbvCbrModel.{VbvCbrModel}
 use Rattle.vbv.specs.Model.{farthest, most_delivered}
@@ -37,6 +29,11 @@ pub record ModelFits (m : VbvCbrModel) : Type 0 where
   pub rest_low : m.rest < 180000 * m.params.frn
   pub end_high : m.prev_end_bits ≤ farthest
   pub removed_high : m.removed ≤ farthest
+
+-- a model that fits and was started
+pub record Ready (m : VbvCbrModel) : Type 0 where
+  pub fits : ModelFits m
+  pub is_started : m.started ≡ true
 
 -- what the sums of an advance need: the ranges, whatever the ratio
 pub record ModelInRange (m : VbvCbrModel) : Type 0 where
@@ -62,26 +59,14 @@ model_error_of n =
     (pick (eqb n 13) Order
     Range))))
 
-unfoldable pub model_of : Answer VbvCbrModel → VbvModel
-model_of (value m) = md.Model m
-model_of (refused n k c e) = md.Refused (model_error_of n)
+unfoldable pub model_of : {X : Type 0} → Answer X → Result X VbvError
+model_of (value x) = Ok x
+model_of (refused n k c e) = Err (model_error_of n)
 
-unfoldable pub delay_of : Answer ℕ → VbvDelay
-delay_of (value t) = dl.Delay t
-delay_of (refused n k c e) = dl.Refused (model_error_of n)
-
-unfoldable pub bits_of : Answer ℕ → VbvBits
-bits_of (value b) = bt.Bits b
-bits_of (refused n k c e) = bt.Refused (model_error_of n)
-
-unfoldable pub removal_of : Answer VbvCbrModel → VbvRemoval
-removal_of (value m) = rm.Model m
+unfoldable pub removal_of : {X : Type 0} → Answer X → Result X VbvRemovalError
+removal_of (value x) = Ok x
 removal_of (refused n k c e) =
-    pick (eqb n 9) (rm.Violation (Overflow k c e))
-    (pick (eqb n 10) (rm.Violation (Underflow k c e))
-    (pick (eqb n 11) (rm.Violation (DelayMismatch k c e))
-    (rm.Refused (model_error_of n))))
-
-unfoldable pub frame_rate_of : Answer (ℕ × ℕ) → FrameRate
-frame_rate_of (value f) = fr.Rate f.0 f.1
-frame_rate_of (refused n k c e) = fr.Refused (model_error_of n)
+    pick (eqb n 9) (Err (Violation (Overflow k c e)))
+    (pick (eqb n 10) (Err (Violation (Underflow k c e)))
+    (pick (eqb n 11) (Err (Violation (DelayMismatch k c e)))
+    (Err (Model (model_error_of n)))))

@@ -2,12 +2,13 @@
 // crates/vbr.)
 #![tactic(auto)]
 
-ghost use Rattle.std.specs.Prelude.{◌≡◌, true, ◌+◌, ◌-◌, ◌/◌, ◌^◌, ◌≤◌, ◌<◌, max};
-ghost use Rattle.vbv.specs.Annex.{unit, first_delivered};
-ghost use Rattle.vbv.specs.Answers.{model_number, model_answer, removal_answer, delay_answer, model_bits_answer, patch_answer, rate_answer, code_rate, frame_rate, violation_refusal};
-ghost use Rattle.vbv.specs.Steps.{ModelFits, ModelInRange, EndFits};
+ghost use Rattle.std.specs.Prelude.{◌≡◌, OnOk, true, ◌+◌, ◌-◌, ◌/◌, ◌^◌, ◌≤◌, ◌<◌, max};
+ghost use Rattle.vbv.specs.declared.VbvRemovalError.TheVariants.{Model};
+ghost use Rattle.vbv.specs.Annex.{unit};
+ghost use Rattle.vbv.specs.Answers.{model_number, model_answer, removal_answer, patch_answer, code_rate, frame_rate, violation_refusal};
+ghost use Rattle.vbv.specs.Steps.{Ready, ModelInRange};
 ghost use Rattle.vbv.specs.Params.{params_of, same_params};
-ghost use Rattle.vbv.specs.Model.{farthest, params_in_range, params_fit, delivered, counts_fit, model_fits, at_delivered, periods as periods_of, next_delivered, model_in_range, gained, new_model, start_model, delay_for_picture, remove_picture, max_end_bits, min_end_bits, occupancy_before_removal};
+ghost use Rattle.vbv.specs.Model.{params_in_range, params_fit, delivered, counts_fit, model_fits, of_started, at_delivered, periods as periods_of, next_delivered, model_in_range, gained, new_model, start_model, delay_for_picture, end_fits, remove_picture, max_end_bits, min_end_bits, occupancy_before_removal};
 ghost use Rattle.vbv.specs.Patch.{starts_picture, patch_picture, patched};
 
 pub mod lent; // the model by reference
@@ -16,7 +17,7 @@ use bits::VbvRefusal;
 use bits::start_codes::PICTURE_START;
 
 // Why a call is refused.
-#[derive(Clone, Copy)]
+#[derive(Clone, Copy, PartialEq, Eq)]
 pub enum VbvError {
     // A frame rate code other than 1 to 8.
     FrameRateCode,
@@ -33,8 +34,8 @@ pub enum VbvError {
 }
 
 // A removal that Annex C forbids, or a coded delay unlike the expected one: the picture, counted from 0, and the delays,
-// 0 where they are not known.
-#[derive(Clone, Copy)]
+// 0 where they are not known. (Three cases with the same fields: `violation_refusal` tells their numbers apart by them.)
+#[derive(Clone, Copy, PartialEq, Eq)]
 pub enum VbvViolation {
     Overflow {
         picture: u64,
@@ -53,15 +54,28 @@ pub enum VbvViolation {
     },
 }
 
-#[derive(Drop)]
-pub enum FrameRate {
-    Rate(u64, u64),
-    Refused(VbvError),
+// Why a picture is not removed.
+#[derive(Clone, Copy, PartialEq, Eq)]
+pub enum VbvRemovalError {
+    Model(VbvError),
+    Violation(VbvViolation),
 }
+
+impl From<VbvError> for VbvRemovalError {
+    ghost from_gives = { λ error e. e ≡ Model error };
+
+    fn from(error: VbvError) -> VbvRemovalError {
+        VbvRemovalError::Model(error)
+    }
+}
+
+// No picture header of 8 bytes.
+#[derive(Clone, Copy, PartialEq, Eq)]
+pub struct NotAPicture;
 
 // How long up to the next removal, whatever the picture's structure: a field period is half a frame period. Three fields and more
 // are for film alone.
-#[derive(Clone, Copy)]
+#[derive(Clone, Copy, PartialEq, Eq)]
 pub enum RemovalInterval {
     Frame,
     Field,
@@ -71,7 +85,7 @@ pub enum RemovalInterval {
 }
 
 // R in bits a second, B in bits, and frn / frd frames a second.
-#[derive(Clone, Copy)]
+#[derive(Clone, Copy, PartialEq, Eq)]
 pub struct VbvParams {
     pub bit_rate: u64,
     pub buffer_size_bits: u64,
@@ -79,8 +93,9 @@ pub struct VbvParams {
     pub frd: u64,
 }
 
-// Delivered at the pending removal: whole + rest / (180,000 * frn) bits.
-#[derive(Clone, Copy)]
+// Delivered at the pending removal: whole + rest / (180,000 * frn) bits. (`started` stays a flag beside them: `counts_fit` asks
+// the others' ranges of a model that is not started, too.)
+#[derive(Clone, Copy, PartialEq, Eq)]
 pub struct VbvCbrModel {
     pub params: VbvParams,
     pub whole: u64,
@@ -90,40 +105,8 @@ pub struct VbvCbrModel {
     pub started: bool,
 }
 
-#[derive(Drop)]
-pub enum VbvModel {
-    Model(VbvCbrModel),
-    Refused(VbvError),
-}
-
-#[derive(Drop)]
-pub enum VbvRemoval {
-    Model(VbvCbrModel),
-    Refused(VbvError),
-    Violation(VbvViolation),
-}
-
-#[derive(Drop)]
-pub enum VbvDelay {
-    Delay(u16),
-    Refused(VbvError),
-}
-
-#[derive(Drop)]
-pub enum VbvBits {
-    Bits(u64),
-    Refused(VbvError),
-}
-
-#[derive(Drop)]
-pub enum VbvPatch {
-    Done,
-    // No picture header of 8 bytes.
-    NotAPicture,
-}
-
 impl VbvError {
-    // The refusal's number (docs/REFUSALS.md).
+    // The refusal's number (docs/REFUSALS.md), which C is given; `u8::from` would not say what the number is.
     pub fn number(self) -> u8
         ensures { result ≡ model_number self }
     {
@@ -139,7 +122,7 @@ impl VbvError {
 }
 
 impl VbvViolation {
-    // The refusal as paper 01 writes it.
+    // The refusal by its number (docs/REFUSALS.md), as C is given it.
     pub fn refusal(self) -> VbvRefusal
         ensures { result ≡ violation_refusal self }
     {
@@ -180,35 +163,31 @@ impl VbvViolation {
 
 // Table 6-4.
 #[tactic(auto, unfolding(bits::specs::Bits::pick, crate::specs::Answers::code_rate))]
-fn code_rate(frame_rate_code: u8) -> FrameRate
-    ensures { rate_answer result ≡ code_rate frame_rate_code }
+fn code_rate(frame_rate_code: u8) -> Result<(u64, u64), VbvError>
+    ensures { model_answer result ≡ code_rate frame_rate_code }
 {
     match frame_rate_code {
-        1 => FrameRate::Rate(24000, 1001),
-        2 => FrameRate::Rate(24, 1),
-        3 => FrameRate::Rate(25, 1),
-        4 => FrameRate::Rate(30000, 1001),
-        5 => FrameRate::Rate(30, 1),
-        6 => FrameRate::Rate(50, 1),
-        7 => FrameRate::Rate(60000, 1001),
-        8 => FrameRate::Rate(60, 1),
-        _ => FrameRate::Refused(VbvError::FrameRateCode),
+        1 => Ok((24000, 1001)),
+        2 => Ok((24, 1)),
+        3 => Ok((25, 1)),
+        4 => Ok((30000, 1001)),
+        5 => Ok((30, 1)),
+        6 => Ok((50, 1)),
+        7 => Ok((60000, 1001)),
+        8 => Ok((60, 1)),
+        _ => Err(VbvError::FrameRateCode),
     }
 }
 
 // The code's rate times (n + 1) / (d + 1), not reduced (6.3.5).
-pub fn frame_rate_value(frame_rate_code: u8, n: u8, d: u8) -> FrameRate
-    ensures { rate_answer result ≡ frame_rate frame_rate_code n d }
+pub fn frame_rate_value(frame_rate_code: u8, n: u8, d: u8) -> Result<(u64, u64), VbvError>
+    ensures { model_answer result ≡ frame_rate frame_rate_code n d }
 {
     if (n <= 3) & (d <= 31) {
-        match code_rate(frame_rate_code) {
-            FrameRate::Rate(frn, frd) => {
-                FrameRate::Rate(frn * (n as u64 + 1), frd * (d as u64 + 1))
-            }
-            FrameRate::Refused(error) => FrameRate::Refused(error),
-        }
+        let (frn, frd) = code_rate(frame_rate_code)?;
+        Ok((frn * (u64::from(n) + 1), frd * (u64::from(d) + 1)))
     } else {
-        FrameRate::Refused(VbvError::Params)
+        Err(VbvError::Params)
     }
 }
 
@@ -224,14 +203,13 @@ pub const RATE_UNIT: u64 = 400;
 pub const BUFFER_UNIT: u64 = 16384;
 
 // R, B and the frame rate by a sequence header's rate and buffer fields and frn / frd.
+#[tactic(auto, unfolding(crate::specs::Params::params_of))]
 pub fn params_of(rate: u32, buffer: u32, frn: u64, frd: u64) -> VbvParams
     ensures { result ≡ params_of rate buffer (frn, frd) }
 {
-    let rate_units = rate as u64;
-    let buffer_units = buffer as u64;
     VbvParams {
-        bit_rate: RATE_UNIT * rate_units,
-        buffer_size_bits: BUFFER_UNIT * buffer_units,
+        bit_rate: RATE_UNIT * u64::from(rate),
+        buffer_size_bits: BUFFER_UNIT * u64::from(buffer),
         frn,
         frd,
     }
@@ -257,24 +235,18 @@ impl VbvParams {
     pub fn same(self, other: VbvParams) -> bool
         ensures { result ≡ same_params self other }
     {
-        if self.in_range() & other.in_range() {
-            (other.bit_rate == self.bit_rate)
+        (self.in_range() & other.in_range())
+            && (other.bit_rate == self.bit_rate)
                 & (other.buffer_size_bits == self.buffer_size_bits)
                 & (other.frn * self.frd == self.frn * other.frd)
-        } else {
-            false
-        }
     }
 
     // And a full buffer's delay below 0xFFFF.
+    #[tactic(auto, unfolding(crate::specs::Model::ratio_fits, crate::specs::Model::params_fit))]
     fn fit(self) -> bool
         ensures { result ≡ params_fit self }
     {
-        if self.in_range() {
-            90000 * self.buffer_size_bits <= 65534 * self.bit_rate
-        } else {
-            false
-        }
+        self.in_range() && 90000 * self.buffer_size_bits <= 65534 * self.bit_rate
     }
 }
 
@@ -284,41 +256,33 @@ impl VbvCbrModel {
         requires { self.params.frn ≤ 240000 }
         ensures { result ≡ counts_fit self }
     {
-        let params = self.params;
+        // Both counts have one bound: a test less.
         (self.whole <= MOST_DELIVERED)
-            & (self.rest < 180000 * params.frn)
-            & (greater(self.prev_end_bits, self.removed) <= FARTHEST)
+            & (self.rest < 180000 * self.params.frn)
+            & (self.prev_end_bits.max(self.removed) <= FARTHEST)
     }
 
     // Every field in its range.
+    #[tactic(auto, unfolding(crate::specs::Model::model_fits))]
     pub fn fits(self) -> bool
         ensures { result ≡ model_fits self }
     {
-        let params = self.params;
-        if params.fit() {
-            self.counts_fit()
-        } else {
-            false
-        }
+        self.params.fit() && self.counts_fit()
     }
 
     // Every field in its range; the ratio is not asked.
+    #[tactic(auto, unfolding(crate::specs::Model::model_in_range))]
     pub fn in_range(self) -> bool
         ensures { result ≡ model_in_range self }
     {
-        let params = self.params;
-        if params.in_range() {
-            self.counts_fit()
-        } else {
-            false
-        }
+        self.params.in_range() && self.counts_fit()
     }
 
-    pub fn new(params: VbvParams) -> VbvModel
+    pub fn new(params: VbvParams) -> Result<VbvCbrModel, VbvError>
         ensures { model_answer result ≡ new_model params }
     {
         if params.fit() {
-            VbvModel::Model(VbvCbrModel {
+            Ok(VbvCbrModel {
                 params,
                 whole: 0,
                 rest: 0,
@@ -327,144 +291,116 @@ impl VbvCbrModel {
                 started: false,
             })
         } else {
-            VbvModel::Refused(VbvError::Params)
+            Err(VbvError::Params)
+        }
+    }
+
+    // Every field in its range, and started.
+    fn ready(self) -> Result<(), VbvError>
+        ensures told { model_answer result ≡ of_started self tt }
+        ensures is_ready { OnOk result (Ready self) }
+    {
+        if !self.fits() {
+            return Err(VbvError::Params);
+        }
+        if self.started {
+            Ok(())
+        } else {
+            Err(VbvError::Order)
         }
     }
 
     // With the first picture's coded delay and the end of its start code.
-    pub fn start(self, initial_vbv_delay: u16, pos0_bits: u64) -> VbvModel
+    pub fn start(self, initial_vbv_delay: u16, pos0_bits: u64) -> Result<VbvCbrModel, VbvError>
         ensures { model_answer result ≡ start_model self initial_vbv_delay pos0_bits }
     {
-        if self.fits() {
-            if self.started {
-                VbvModel::Refused(VbvError::Order)
-            } else {
-                if pos0_bits <= FARTHEST {
-                    VbvModel::Model(self.begun(initial_vbv_delay, pos0_bits))
-                } else {
-                    VbvModel::Refused(VbvError::Range)
-                }
-            }
-        } else {
-            VbvModel::Refused(VbvError::Params)
+        if !self.fits() {
+            return Err(VbvError::Params);
         }
-    }
-
-    // position + delay * R / 90,000 bits delivered.
-    fn begun(self, delay: u16, position: u64) -> VbvCbrModel
-        requires model_fits { ModelFits self }
-        requires position_le_farthest { position ≤ farthest }
-        ensures { result ≡ at_delivered self (first_delivered self.params position delay) }
-    {
+        if self.started {
+            return Err(VbvError::Order);
+        }
+        if FARTHEST < pos0_bits {
+            return Err(VbvError::Range);
+        }
+        // pos0 + delay * R / 90,000 bits delivered.
         let params = self.params;
-        let ticks = (delay as u64) * params.bit_rate;
-        VbvCbrModel {
-            params,
-            whole: position + ticks / 90000,
+        let ticks = u64::from(initial_vbv_delay) * params.bit_rate;
+        Ok(VbvCbrModel {
+            whole: pos0_bits + ticks / 90000,
             rest: (ticks % 90000) * 2 * params.frn,
-            prev_end_bits: self.prev_end_bits,
-            removed: self.removed,
             started: true,
-        }
+            ..self
+        })
     }
 
     // The delay to code for the pending picture, whose start code ends at pos.
-    pub fn delay_for_picture(self, pos_bits: u64) -> VbvDelay
-        ensures { delay_answer result ≡ delay_for_picture self pos_bits }
+    pub fn delay_for_picture(self, pos_bits: u64) -> Result<u16, VbvError>
+        ensures { model_answer result ≡ delay_for_picture self pos_bits }
     {
-        if self.fits() {
-            if self.started {
-                if pos_bits <= FARTHEST {
-                    self.delay_from(pos_bits)
-                } else {
-                    VbvDelay::Refused(VbvError::Range)
-                }
-            } else {
-                VbvDelay::Refused(VbvError::Order)
-            }
-        } else {
-            VbvDelay::Refused(VbvError::Params)
+        self.ready()?;
+        if FARTHEST < pos_bits {
+            return Err(VbvError::Range);
         }
-    }
-
-    // Ticks, halves up.
-    fn delay_from(self, position: u64) -> VbvDelay
-        requires model_fits { ModelFits self }
-        requires started_value { self.started ≡ true }
-        requires position_le_farthest { position ≤ farthest }
-        ensures { delay_answer result ≡ delay_for_picture self position }
-    {
-        if self.whole < position {
-            return VbvDelay::Refused(VbvError::Early);
+        if self.whole < pos_bits {
+            return Err(VbvError::Early);
         }
+        // Ticks, halves up: a second's bits are 90,000.
         let params = self.params;
-        let bits = self.whole - position;
-        // A second's bits are 90,000 ticks.
+        let bits = self.whole - pos_bits;
         if params.bit_rate <= bits {
-            return VbvDelay::Refused(VbvError::DelayTooLong);
+            return Err(VbvError::DelayTooLong);
         }
         let delay = (180000 * bits + self.rest / params.frn + params.bit_rate)
             / (2 * params.bit_rate);
         if delay <= 65534 {
-            VbvDelay::Delay(delay as u16)
+            Ok(delay as u16)
         } else {
-            VbvDelay::Refused(VbvError::DelayTooLong)
+            Err(VbvError::DelayTooLong)
         }
     }
 
-    // Removes the pending picture, whose data ends at end.
-    pub fn remove_picture(self, end_bits: u64, interval: RemovalInterval) -> VbvRemoval
+    // The end, and a removal more, in their ranges, and the end not below the previous one.
+    #[tactic(auto, unfolding(crate::specs::Model::end_fits))]
+    pub fn end_fits(self, end_bits: u64) -> bool
+        ensures { result ≡ end_fits self end_bits }
+    {
+        (end_bits <= FARTHEST) & (self.prev_end_bits <= end_bits) & (self.removed < FARTHEST)
+    }
+
+    // Removes the pending picture, whose data ends at end. Overflow before underflow.
+    pub fn remove_picture(
+        self,
+        end_bits: u64,
+        interval: RemovalInterval,
+    ) -> Result<VbvCbrModel, VbvRemovalError>
         ensures { removal_answer result ≡ remove_picture self end_bits interval }
     {
-        if self.fits() {
-            if self.started {
-                if (end_bits <= FARTHEST)
-                    & (self.prev_end_bits <= end_bits)
-                    & (self.removed < FARTHEST)
-                {
-                    self.remove(end_bits, interval)
-                } else {
-                    VbvRemoval::Refused(VbvError::Range)
-                }
-            } else {
-                VbvRemoval::Refused(VbvError::Order)
-            }
-        } else {
-            VbvRemoval::Refused(VbvError::Params)
+        self.ready()?;
+        if !self.end_fits(end_bits) {
+            return Err(VbvRemovalError::Model(VbvError::Range));
         }
-    }
-
-    // Overflow before underflow.
-    fn remove(self, end: u64, interval: RemovalInterval) -> VbvRemoval
-        requires model_fits { ModelFits self }
-        requires started_value { self.started ≡ true }
-        requires end_fits { EndFits self end }
-        ensures { removal_answer result ≡ remove_picture self end interval }
-    {
         let picture = self.removed;
         let params = self.params;
         if self.prev_end_bits + params.buffer_size_bits < self.rounded_up() {
-            return VbvRemoval::Violation(VbvViolation::Overflow {
+            return Err(VbvRemovalError::Violation(VbvViolation::Overflow {
                 picture,
                 coded: 0,
                 expected: 0,
-            });
+            }));
         }
-        if self.whole < end {
-            return VbvRemoval::Violation(VbvViolation::Underflow {
+        if self.whole < end_bits {
+            return Err(VbvRemovalError::Violation(VbvViolation::Underflow {
                 picture,
                 coded: 0,
                 expected: 0,
-            });
+            }));
         }
         let next = self.advanced(interval);
-        VbvRemoval::Model(VbvCbrModel {
-            params,
-            whole: next.whole,
-            rest: next.rest,
-            prev_end_bits: end,
+        Ok(VbvCbrModel {
+            prev_end_bits: end_bits,
             removed: picture + 1,
-            started: true,
+            ..next
         })
     }
 
@@ -489,79 +425,55 @@ impl VbvCbrModel {
         let params = self.params;
         let unit = 180000 * params.frn;
         let fields = 2 * params.frn;
-        let count = periods(interval) as u64;
+        let count = u64::from(periods(interval));
         let gain = params.bit_rate * params.frd * count;
         let sum = self.rest + gain % fields * 90000;
         VbvCbrModel {
-            params,
             whole: self.whole + gain / fields + sum / unit,
             rest: sum % unit,
-            prev_end_bits: self.prev_end_bits,
-            removed: self.removed,
             started: true,
+            ..self
         }
     }
 
     // What the interval brings is delivered too, whatever the ratio; nothing is removed. (For crates/vbr, which caps it.)
-    pub fn gained(self, interval: RemovalInterval) -> VbvModel
+    pub fn gained(self, interval: RemovalInterval) -> Result<VbvCbrModel, VbvError>
         ensures { model_answer result ≡ gained self interval }
     {
-        if self.in_range() {
-            if self.started {
-                VbvModel::Model(self.advanced(interval))
-            } else {
-                VbvModel::Refused(VbvError::Order)
-            }
+        if !self.in_range() {
+            return Err(VbvError::Params);
+        }
+        if self.started {
+            Ok(self.advanced(interval))
         } else {
-            VbvModel::Refused(VbvError::Params)
+            Err(VbvError::Order)
         }
     }
 
     // The greatest end that does not underflow at the pending removal.
-    pub fn max_end_bits(self) -> VbvBits
-        ensures { model_bits_answer result ≡ max_end_bits self }
+    pub fn max_end_bits(self) -> Result<u64, VbvError>
+        ensures { model_answer result ≡ max_end_bits self }
     {
-        if self.fits() {
-            if self.started {
-                VbvBits::Bits(self.whole)
-            } else {
-                VbvBits::Refused(VbvError::Order)
-            }
-        } else {
-            VbvBits::Refused(VbvError::Params)
-        }
+        self.ready()?;
+        Ok(self.whole)
     }
 
     // The least end that does not overflow at the removal after the pending one.
-    pub fn min_end_bits(self, interval: RemovalInterval) -> VbvBits
-        ensures { model_bits_answer result ≡ min_end_bits self interval }
+    pub fn min_end_bits(self, interval: RemovalInterval) -> Result<u64, VbvError>
+        ensures { model_answer result ≡ min_end_bits self interval }
     {
-        if self.fits() {
-            if self.started {
-                let params = self.params;
-                let next = self.advanced(interval);
-                VbvBits::Bits(less(next.rounded_up(), params.buffer_size_bits))
-            } else {
-                VbvBits::Refused(VbvError::Order)
-            }
-        } else {
-            VbvBits::Refused(VbvError::Params)
-        }
+        self.ready()?;
+        let params = self.params;
+        let next = self.advanced(interval);
+        Ok(next.rounded_up().saturating_sub(params.buffer_size_bits))
     }
 
     // Whole bits in the buffer just before the pending removal.
-    pub fn occupancy_before_removal_bits(self) -> VbvBits
-        ensures { model_bits_answer result ≡ occupancy_before_removal self }
+    pub fn occupancy_before_removal_bits(self) -> Result<u64, VbvError>
+        ensures { model_answer result ≡ occupancy_before_removal self }
     {
-        if self.fits() {
-            if self.started {
-                VbvBits::Bits(less(self.whole, self.prev_end_bits))
-            } else {
-                VbvBits::Refused(VbvError::Order)
-            }
-        } else {
-            VbvBits::Refused(VbvError::Params)
-        }
+        self.ready()?;
+        Ok(self.whole.saturating_sub(self.prev_end_bits))
     }
 }
 
@@ -578,40 +490,23 @@ pub fn periods(interval: RemovalInterval) -> u8
     }
 }
 
-// The greater of both: where both have one bound, a test less.
-fn greater(a: u64, b: u64) -> u64
-    ensures { result ≡ max a b }
-{
-    if a < b { b } else { a }
-}
-
-// The difference, or 0.
-fn less(a: u64, b: u64) -> u64
-    ensures { result ≡ a - b }
-{
-    if b < a { a - b } else { 0 }
-}
-
 // Eight bytes at least, from 00 00 01 00 on.
 fn starts_picture(s: &[u8]) -> bool
     ensures { result ≡ starts_picture s.now }
 {
-    if s.len() < 8 {
-        return false;
-    }
-    bits::starts_with(s, &PICTURE_START)
+    8 <= s.len() && bits::starts_with(s, &PICTURE_START)
 }
 
 // Bits 45 to 60 become the delay: the low 3 bits of byte 5, byte 6 and the high 5 bits of byte 7.
-pub fn patch_vbv_delay(picture: &mut [u8], vbv_delay: u16) -> VbvPatch
+pub fn patch_vbv_delay(picture: &mut [u8], vbv_delay: u16) -> Result<(), NotAPicture>
     ensures result_value { patch_answer result ≡ patch_picture picture.old }
     ensures picture_after { picture.new ≡ patched picture.old vbv_delay }
 {
-    if starts_picture(picture) {
-        picture[5] = picture[5] / 8 * 8 + (vbv_delay / 8192) as u8;
-        picture[6] = (vbv_delay / 32 % 256) as u8;
-        picture[7] = (vbv_delay % 32 * 8) as u8 + picture[7] % 8;
-        return VbvPatch::Done;
+    if !starts_picture(picture) {
+        return Err(NotAPicture);
     }
-    VbvPatch::NotAPicture
+    picture[5] = picture[5] / 8 * 8 + (vbv_delay / 8192) as u8;
+    picture[6] = (vbv_delay / 32 % 256) as u8;
+    picture[7] = (vbv_delay % 32 * 8) as u8 + picture[7] % 8;
+    Ok(())
 }

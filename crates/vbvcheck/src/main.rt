@@ -9,7 +9,8 @@ ghost use Rattle.std.specs.Prelude.{◌≤◌, IfOk, length};
 use std::io;
 use std::io::Read;
 
-// Reads until buf is full or the input ends, and answers how many bytes that put at the start of buf.
+// Reads until buf is full or the input ends, and answers how many bytes that put at the start of buf: `read_exact` does not say
+// how many came. (`cases` has one too: it serves the programs that compare, and is not below this one.)
 fn read_full(from: &mut impl Read, buf: &mut [u8]) -> io::Result<usize>
     ensures { IfOk result (λ n. n ≤ length buf.new) }
 {

@@ -6,7 +6,7 @@ ghost use Rattle.vbvcheck.specs.Steps.{IsPrefixLen, line_of, lines_of};
 
 use bits::VbvRefusal;
 use itoa::Buffer;
-use verify::{RECORD_BYTES, VbvStandard, VbvStreamReport, VbvVerified, verify_cbr_stream};
+use verify::{RECORD_BYTES, VbvStandard, VbvStreamReport, verify_cbr_stream};
 use words::word_at;
 
 // The longest stream, in bytes.
@@ -17,12 +17,9 @@ fn put(out: &mut [u8], at: usize, text: &[u8]) -> usize
     ensures value { result ≡ at + length text.now }
     ensures out_after { take result out.new ≡ take at out.old ++ text.now }
 {
-    let mut k: usize = 0;
-    while k < text.len() {
-        out[at + k] = text[k];
-        k += 1;
-    }
-    at + k
+    let end = at + text.len();
+    out[at..end].copy_from_slice(text);
+    end
 }
 
 // A number and what ends it.
@@ -44,11 +41,9 @@ fn put_line(out: &mut [u8], at: usize, numbers: &[u64]) -> usize
     ensures out_after { take result out.new ≡ take at out.old ++ line numbers.now }
 {
     let mut next = at;
-    let mut k: usize = 0;
-    while k < numbers.len() {
+    for (k, &number) in numbers.iter().enumerate() {
         let end = if k + 1 < numbers.len() { b' ' } else { b'\n' };
-        next = put_number(out, next, numbers[k], end);
-        k += 1;
+        next = put_number(out, next, number, end);
     }
     next
 }
@@ -80,14 +75,23 @@ fn put_records(out: &mut [u8], at: usize, records: &[u8], n: usize) -> usize
     ensures out_after { take result out.new ≡ take at out.old ++ lines_of n records.now }
 {
     let mut next = at;
-    let mut k: usize = 0;
-    while k < n {
+    for k in 0..n {
         next = put_record(out, next, records, k);
-        k += 1;
     }
     next
 }
 
+// Numbers as a line below their heading.
+fn put_headed(out: &mut [u8], heading: &[u8], numbers: &[u64]) -> usize
+    requires { length heading.now + 21 * length numbers.now ≤ length out.old }
+    ensures upper_bound { result ≤ length heading.now + 21 * length numbers.now }
+    ensures out_after { take result out.new ≡ heading.now ++ line numbers.now }
+{
+    let next = put(out, 0, heading);
+    put_line(out, next, numbers)
+}
+
+#[tactic(auto, unfolding(crate::specs::Text::report_text))]
 fn put_report(out: &mut [u8], r: VbvStreamReport) -> usize
     requires { 200 ≤ length out.old }
     ensures upper_bound { result ≤ 200 }
@@ -100,27 +104,26 @@ fn put_report(out: &mut [u8], r: VbvStreamReport) -> usize
         r.min_occupancy_after_bits,
         r.max_occupancy_before_bits,
     ];
-    let next = put(
+    put_headed(
         out,
-        0,
         b"bit_rate buffer_bits pictures min_after max_before\n",
-    );
-    put_line(out, next, &numbers)
+        &numbers,
+    )
 }
 
+#[tactic(auto, unfolding(crate::specs::Text::refusal_text))]
 fn put_refusal(out: &mut [u8], r: VbvRefusal) -> usize
     requires { 200 ≤ length out.old }
     ensures upper_bound { result ≤ 200 }
     ensures out_after { take result out.new ≡ refusal_text r }
 {
     let numbers = [
-        r.number as u64,
+        u64::from(r.number),
         r.picture,
-        r.coded as u64,
-        r.expected as u64,
+        u64::from(r.coded),
+        u64::from(r.expected),
     ];
-    let next = put(out, 0, b"refused picture coded expected\n");
-    put_line(out, next, &numbers)
+    put_headed(out, b"refused picture coded expected\n", &numbers)
 }
 
 // A report and the lines of its records: 200 bytes, a heading of 50, and 105 a record.
@@ -149,7 +152,7 @@ pub(crate) fn put_printed(stream: &[u8], records: &mut [u8; 40960], out: &mut [u
         return put(out, 0, b"too long\n");
     }
     match verify_cbr_stream(stream, VbvStandard::Mpeg2, records) {
-        VbvVerified::Refused(error) => put_refusal(out, error.refusal()),
-        VbvVerified::Report(r) => put_accepted(out, r, records),
+        Ok(r) => put_accepted(out, r, records),
+        Err(error) => put_refusal(out, error.refusal()),
     }
 }

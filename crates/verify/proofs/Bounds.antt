@@ -11,16 +11,13 @@ use Rattle.vbv.specs.Annex.{expected}
 use Rattle.vbv.specs.Model.{params_in_range}
 use Rattle.vbv.specs.declared.VbvParams.{VbvParams}
 use Rattle.vbv.proofs.Fitting.{in_range, fit_in_at, periods-least, periods-most}
-use Rattle.bits.proofs.Following.{refused-value}
+use Rattle.bits.proofs.Following.{refused-value, same_value}
 use Rattle.vbv.proofs.Laws.{occupancy-most_in, units_over}
 use Rattle.verify.specs.declared.CodedPicture.{CodedPicture}
 use Rattle.verify.specs.declared.VbvPictureRecord.{VbvPictureRecord}
 use Rattle.verify.specs.declared.VbvStreamReport.{VbvStreamReport}
-use Rattle.verify.specs.declared.VbvVerified.{VbvVerified}
-use Rattle.verify.specs.declared.VbvVerified.TheVariants.{Report}
 use Rattle.verify.specs.Run.{record_of}
-use Rattle.verify.specs.Check.{Accepted, verdict, report_of, reported, records}
-use Rattle.verify.specs.Answers.{verified_answer}
+use Rattle.verify.specs.Check.{Accepted, verdict, reported, records}
 use Rattle.pictures.specs.Order.{Placed}
 use Rattle.verify.specs.Sizes.{Small, AllSmall, none, some, RecordsSmall}
 use Rattle.verify.specs.Accepted as ac
@@ -30,9 +27,9 @@ use Rattle.verify.proofs.Accepted.{passed, are_rising}
 
 -- ---- the number of records
 
-pub picture-count : (r : VbvVerified) (v : Answer Accepted) (x : VbvStreamReport) → verified_answer r ≡ reported v → r ≡ Report x → x.pictures ≡ length (records v)
-picture-count r (value v) x h e = let y : ◌≡◌ {A = Answer VbvStreamReport} (value x) (value (report_of v)) = rw e at h in let z : x ≡ report_of v = cc in rw z
-picture-count r (refused n k c d) x h e = let y : ◌≡◌ {A = Answer VbvStreamReport} (value x) (refused n k c d) = rw e at h in absurd (refused-value (sym y))
+pub picture-count : (v : Answer Accepted) {x : VbvStreamReport} → value x ≡ reported v → x.pictures ≡ length (records v)
+picture-count (value v) h = rw (same_value h)
+picture-count (refused n k c d) h = absurd (refused-value (sym h))
 
 -- ---- their size
 

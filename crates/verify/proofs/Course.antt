@@ -6,6 +6,7 @@ use mathlib.Core.List.{List, [], ◌∷◌}
 use Prim.Native.Nat.{ℕ, suc, ◌≤◌}
 use native.Mathlib.Omega.{arith}
 use native.Mathlib.Numerals.{add-one}
+use Rattle.std.specs.Prelude.{Ok}
 use Rattle.bits.specs.Refusals.{Answer, value, refused, and_then}
 use Rattle.vbv.specs.Annex.{arrived}
 use Rattle.vbv.specs.Model.{params_in_range, delivered, periods}
@@ -20,13 +21,13 @@ use Rattle.vbr.proofs.Laws.{no_overflow}
 use Rattle.vbr.proofs.Either.{fits-params-at, after-fits_at}
 use Rattle.verify.specs.declared.CodedPicture.{CodedPicture}
 use Rattle.verify.specs.declared.VbvPictureRecord.{VbvPictureRecord}
-use Rattle.verify.specs.declared.Removed.TheVariants.{Recorded}
+use Rattle.verify.specs.Answers.{verified_answer}
 use Rattle.verify.specs.Accepted.{Conforms}
 use Rattle.verify.specs.Run.{record_of, removal, run}
 use Rattle.pictures.specs.Order.{Placed}
 use Rattle.verify.proofs.Rising.{Rising, last, next}
 use Rattle.verify.proofs.Conforming.{Bounded, conforms}
-use Rattle.verify.proofs.Removal.{removed_answer, removed_at, model_after, with_model, removal_is, RefusedBy, refused_by, recorded_by_lem}
+use Rattle.verify.proofs.Removal.{removing, model_after, with_model, removal_is, RefusedBy, refused_by, recorded_by_lem}
 
 -- a started model of such a rate
 pub record Ready (v : Bool) (p : VbvParams) (m : VbvCbrModel) : Type 0 where
@@ -45,7 +46,7 @@ module _ {v : Bool} {p : VbvParams} {m : VbvCbrModel} (y : Ready v p m) (c : Cod
   end_fits =
       record { end_far = q.end_near; end_low = omega (arith, q.begins, q.ends); count = omega (arith, q.begins, q.ends, q.end_near, y.few) }
 
-  by_annex : removed_answer (removed_at v m c) ≡ with_model v m c (removal v p m.removed m.prev_end_bits (delivered m) c)
+  by_annex : verified_answer (removing v m c) ≡ with_model v m c (removal v p m.removed m.prev_end_bits (delivered m) c)
   by_annex = rw (← y.kept) (removal_is v m c y.fits y.on (omega (arith, q.ends, q.end_near)) end_fits)
 
   module _ {r : VbvPictureRecord} (h : removal v p m.removed m.prev_end_bits (delivered m) c ≡ value r) where
@@ -74,14 +75,14 @@ module _ {v : Bool} {p : VbvParams} {m : VbvCbrModel} (y : Ready v p m) (c : Cod
 -- the course: each removal's record and the model after it, up to the end or a refusal
 pub data Course (v : Bool) (p : VbvParams) : VbvCbrModel → List CodedPicture → Answer (List VbvPictureRecord) → Type 0 where
   ended : {m : VbvCbrModel} → Course v p m [] (value [])
-  ceased : {m : VbvCbrModel} {c : CodedPicture} {cs : List CodedPicture} {n k x y : ℕ} → RefusedBy (removed_at v m c) n k x y → Course v p m (c ∷ cs) (refused n k x y)
+  ceased : {m : VbvCbrModel} {c : CodedPicture} {cs : List CodedPicture} {n k x y : ℕ} → RefusedBy (removing v m c) n k x y → Course v p m (c ∷ cs) (refused n k x y)
   went : {m k : VbvCbrModel} {c : CodedPicture} {cs : List CodedPicture} {r : VbvPictureRecord} {rs : List VbvPictureRecord}
-      → removed_at v m c ≡ Recorded r k → r.occupancy_before_bits ≤ p.buffer_size_bits → Course v p k cs (value rs) → Course v p m (c ∷ cs) (value (r ∷ rs))
+      → removing v m c ≡ Ok (r, k) → r.occupancy_before_bits ≤ p.buffer_size_bits → Course v p k cs (value rs) → Course v p m (c ∷ cs) (value (r ∷ rs))
   halted : {m k : VbvCbrModel} {c : CodedPicture} {cs : List CodedPicture} {r : VbvPictureRecord} {n i x y : ℕ}
-      → removed_at v m c ≡ Recorded r k → Course v p k cs (refused n i x y) → Course v p m (c ∷ cs) (refused n i x y)
+      → removing v m c ≡ Ok (r, k) → Course v p k cs (refused n i x y) → Course v p m (c ∷ cs) (refused n i x y)
 
 goes : {v : Bool} {p : VbvParams} {m k : VbvCbrModel} {c : CodedPicture} {cs : List CodedPicture} {r : VbvPictureRecord} (o : Answer (List VbvPictureRecord))
-    → removed_at v m c ≡ Recorded r k → r.occupancy_before_bits ≤ p.buffer_size_bits → Course v p k cs o
+    → removing v m c ≡ Ok (r, k) → r.occupancy_before_bits ≤ p.buffer_size_bits → Course v p k cs o
     → Course v p m (c ∷ cs) (and_then o (λ rs. value (r ∷ rs)))
 goes (refused n i x y) h b t = halted h t
 goes (value rs) h b t = went h b t
@@ -102,12 +103,12 @@ course {v} {p} {m} y x (next {previous} {c} {cs} q t) =
     go : ((k : VbvCbrModel) → Ready v p k → k.prev_end_bits ≡ c.end_bits → Course v p k cs (run v p k.removed k.prev_end_bits (delivered k) cs))
         → Placed m.prev_end_bits c.pos_bits c.end_bits c.vbv_delay → (o : Answer VbvPictureRecord) → removal v p m.removed m.prev_end_bits (delivered m) c ≡ o
         → Course v p m (c ∷ cs) (and_then o (λ r. and_then (run v p (suc m.removed) c.end_bits d cs) (λ rs. value (r ∷ rs))))
-    go ih q (refused n i u z) h = ceased {n = n} {k = i} {x = u} {y = z} (refused_by (removed_at v m c) (by_annex y c q ∙ rw h))
+    go ih q (refused n i u z) h = ceased {n = n} {k = i} {x = u} {y = z} (refused_by (removing v m c) (by_annex y c q ∙ rw h))
     go ih q (value r) h =
         let w = model-after m c.end_bits (arrived v m.params c.end_bits (delivered m) (periods c.interval)) in
         let a : delivered k ≡ d = w.delivered_is ∙ rw y.kept in
         let e : run v p k.removed k.prev_end_bits (delivered k) cs ≡ run v p (suc m.removed) c.end_bits d cs = rw (a, w.count_is, w.end_is, add-one m.removed) in
         goes (run v p (suc m.removed) c.end_bits d cs)
-        (recorded_by_lem (removed_at v m c) (by_annex y c q ∙ rw h))
+        (recorded_by_lem (removing v m c) (by_annex y c q ∙ rw h))
         (within y c q h)
         (subst (λ (o : Answer (List VbvPictureRecord)). Course v p k cs o) e (ih k (step y c q h) w.end_is))

@@ -9,11 +9,11 @@ pub mod Verdict
 pub mod Accepted
 pub mod Recording
 pub mod Storing
-pub mod Lending
 pub mod Accepting
 pub mod Bounds
 pub mod Periods
 pub mod Cases
+pub mod Exits
 pub mod Places
 pub mod Numbering
 pub mod Rates

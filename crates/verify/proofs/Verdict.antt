@@ -1,106 +1,99 @@
 -- The walk's judgement is the verdict, and the last records on the way are the verdict's.
 -- Assumes nothing.
 use mathlib.Core.Path.{◌≡◌, refl, ap, subst, ◌∙◌}
-use mathlib.Core.Bool.{Bool, true, false, ◌&&◌, true≢false}
-use Prim.Native.Nat.{ℕ, suc, ◌+◌, ◌≤◌, min, max}
+use mathlib.Core.Bool.{Bool, true, false, not, ◌&&◌, true≢false}
+use Prim.Native.Nat.{ℕ, suc, ◌+◌, ◌*◌, ◌≤◌, min, max}
 use mathlib.Core.List.{List, [], ◌∷◌}
 use native.Mathlib.Omega.{arith}
-use lib.Dec.{eqb, leb, ltb}
+use lib.Dec.{eqb, ltb}
 use lib.ListN.{length}
-use borrow.Author.Tests.{lt-leb, le-leb, ltb-true, ltb-false, ne_eqb, not-true, not-false}
+use borrow.Author.Tests.{lt-leb, le-leb, ltb-true, ltb-false, not-true, not-false}
 use Rattle.bits.specs.Bits.{pick}
 use Rattle.bits.specs.Refusals.{Answer, value, refused, refuse, and_then}
+use Rattle.std.specs.Prelude.{Some, Result, Ok, Err}
 use Rattle.bits.proofs.Flags.{and_left, and_right}
 use Rattle.vbv.specs.Annex.{first_delivered, full, first_arrived}
-use Rattle.vbv.specs.Model.{params_fit_at, delivered, at_delivered}
+use Rattle.vbv.specs.Model.{params_fit_at, delivered, at_delivered, farthest}
 use Rattle.vbv.specs.declared.VbvParams.{VbvParams}
 use Rattle.vbv.specs.declared.VbvCbrModel.{VbvCbrModel}
 use Rattle.vbv.specs.declared.VbvError.TheVariants.{Params as ParamsError}
 use Rattle.vbv.proofs.Laws.{model-made, started, model-starts}
-use Rattle.vbv.proofs.Told.{makes}
-use Rattle.vbv.proofs.Named.{makes_named, unmade_named, starts_named}
-use Rattle.vbr.proofs.Laws.{variable_makes, variable-made, variable-starts, variable_started}
-use Rattle.vbr.proofs.Named.{variable_makes_named, variable_unmade_named, variable-starts_named}
+use Rattle.vbv.proofs.Told.{makes, unmade}
+use Rattle.vbr.proofs.Laws.{variable_makes, variable_unmade, variable-made, variable-starts, variable_started}
 use Rattle.verify.specs.declared.VbvPictureRecord.{VbvPictureRecord}
 use Rattle.verify.specs.declared.VbvVerifyError.{VbvVerifyError}
 use Rattle.verify.specs.declared.VbvVerifyError.TheVariants.{Model, VariableRate, ConstantRate, RecordPlaces}
 use Rattle.verify.specs.declared.VbvStreamReport.{VbvStreamReport}
-use Rattle.verify.specs.declared.VbvVerified.{VbvVerified}
-use Rattle.verify.specs.declared.VbvVerified.TheVariants as vf
 use Rattle.verify.specs.declared.CodedPicture.{CodedPicture}
 use Rattle.verify.specs.declared.Walked.{Walked}
-use Rattle.verify.specs.declared.Walked.TheVariants as wk
+use Rattle.verify.specs.declared.VbvMode.{VbvMode}
 use Rattle.verify.specs.Coded.{coded_of, timed}
+use Rattle.vbv.specs.Steps.{model_error_of}
 use Rattle.vbv.specs.declared.RemovalInterval.{RemovalInterval}
 use Rattle.cadence.specs.Cadence.{interval, after}
-use Rattle.cadence.specs.declared.VbvCadence.{VbvCadence}
-use Rattle.pictures.specs.Front.{Front, front}
-use Rattle.pictures.specs.Answers.{unread}
-use Rattle.pictures.specs.Due as fr
-use Rattle.pictures.specs.Due.{FrontDue}
-use Rattle.pictures.specs.declared.Unread.{Unread}
+use Rattle.pictures.specs.Front.{opening, front, with_first}
+use Rattle.pictures.specs.Seen.{seen_pictures}
+use Rattle.pictures.specs.Cadence.{cadence_of}
 use Rattle.pictures.specs.declared.SeenPicture.{SeenPicture}
-use Rattle.pictures.specs.declared.Unread.TheVariants as un
-use Rattle.pictures.specs.declared.VbvStandard.{VbvStandard}
-use Rattle.pictures.proofs.Due.{front_due}
+use Rattle.pictures.proofs.Due.{opening-opened}
 use Rattle.verify.specs.declared.Progress.{Progress}
 use Rattle.verify.specs.declared.Progress.TheVariants.{Fresh, Unmodelled, Running, Stopped}
 use Rattle.verify.specs.Run.{run, occupancy_after, least_after, greatest_before}
-use Rattle.verify.specs.Check.{Accepted, accepted, all_variable, modelled, with_pictures, verdict_by, report_of, reported, records}
+use Rattle.verify.specs.Check.{Accepted, accepted, all_variable, modelled, with_pictures, verdict_by, report_of, reported}
 use Rattle.verify.specs.Answers.{refusal, refusal_of, verified_answer}
-use Rattle.verify.specs.Steps.{progressed, first_started, first_made, first_removed, gone_on_from, first_full, first_filled, first_taken, flowed_from, advanced, advanced_all, walked_answer, walked_over, walked_count, unread_error, if_placed, judged_as, judgement, record_count, no_record, last_of}
+use Rattle.verify.specs.Steps.{error_of, result_of, first_model, progressed, begun, gone_on_from, advanced, advanced_all, recorder_of, walked_over, walked, if_placed, judgement, last_of}
 use Rattle.pictures.specs.Order.{Placed}
 use Rattle.pictures.proofs.Order.{seen_rising}
 use Rattle.verify.proofs.Rising.{Rising, next, timed_rising, timed-first, timed-length}
 use Rattle.verify.proofs.Delays.{other_rate, pictures_are}
-use Rattle.verify.proofs.Removal.{removed_at}
+use Rattle.verify.proofs.Removal.{removing}
 use Rattle.verify.proofs.Course.{Ready, Course, ended, ceased, went, halted, course}
 
--- the last record after each picture
-unfoldable pub lasts_all : Bool → VbvParams → Progress → List CodedPicture → List VbvPictureRecord
-lasts_all v p st [] = []
-lasts_all v p st (c ∷ cs) = last_of (advanced v p st c) ∷ lasts_all v p (advanced v p st c) cs
+-- each picture is recorded
+pub data Recorded (v : Bool) (p : VbvParams) : Progress → List CodedPicture → List VbvPictureRecord → Type 0 where
+  none : {st : Progress} → Recorded v p st [] []
+  more : {st : Progress} {c : CodedPicture} {cs : List CodedPicture} {r : VbvPictureRecord} {rs : List VbvPictureRecord} → last_of (advanced v p st c) ≡ Some r
+      → Recorded v p (advanced v p st c) cs rs → Recorded v p st (c ∷ cs) (r ∷ rs)
 
-pub lasts-length : (v : Bool) (p : VbvParams) (st : Progress) (cs : List CodedPicture) → length (lasts_all v p st cs) ≡ length cs
-unfolding lasts_all
-lasts-length v p st [] = refl
-lasts-length v p st (c ∷ cs) = ap suc (lasts-length v p (advanced v p st c) cs)
+pub recorded-length : {v : Bool} {p : VbvParams} {st : Progress} {cs : List CodedPicture} {rs : List VbvPictureRecord} → Recorded v p st cs rs → length rs ≡ length cs
+recorded-length none = refl
+recorded-length (more e t) = ap suc (recorded-length t)
 
 -- ---- a step
 
 -- at a variable rate every delay is 0xFFFF
 data Flows : Bool → List CodedPicture → Type 0 where
   constant : {cs : List CodedPicture} → Flows false cs
-  none : Flows true []
-  more : {c : CodedPicture} {cs : List CodedPicture} → eqb c.vbv_delay 0xFFFF ≡ true → Flows true cs → Flows true (c ∷ cs)
+  no_more : Flows true []
+  one_more : {c : CodedPicture} {cs : List CodedPicture} → eqb c.vbv_delay 0xFFFF ≡ true → Flows true cs → Flows true (c ∷ cs)
 
 flows_others : {v : Bool} {c : CodedPicture} {cs : List CodedPicture} → Flows v (c ∷ cs) → Flows v cs
 flows_others constant = constant
-flows_others (more e f) = f
+flows_others (one_more e f) = f
 
 flows_first : {c : CodedPicture} {cs : List CodedPicture} → Flows true (c ∷ cs) → eqb c.vbv_delay 0xFFFF ≡ true
-flows_first (more e f) = e
+flows_first (one_more e f) = e
 
 all_flow : (cs : List CodedPicture) → all_variable cs ≡ true → Flows true cs
 unfolding all_variable
-all_flow [] h = none
-all_flow (c ∷ cs) h = more (and_left (eqb c.vbv_delay 0xFFFF) (all_variable cs) h) (all_flow cs (and_right (eqb c.vbv_delay 0xFFFF) (all_variable cs) h))
+all_flow [] h = no_more
+all_flow (c ∷ cs) h = one_more (and_left (eqb c.vbv_delay 0xFFFF) (all_variable cs) h) (all_flow cs (and_right (eqb c.vbv_delay 0xFFFF) (all_variable cs) h))
 
 module _ (p : VbvParams) where
   on_stopped : {v : Bool} {c : CodedPicture} {cs : List CodedPicture} → Flows v (c ∷ cs) → (e : VbvVerifyError) → advanced v p (Stopped e) c ≡ Stopped e
-  unfolding advanced gone_on_from flowed_from pick
+  unfolding advanced gone_on_from pick
   on_stopped constant e = refl
-  on_stopped (more h f) e = rw h
+  on_stopped (one_more h f) e = rw h
 
   on_unmodelled : {v : Bool} {c : CodedPicture} {cs : List CodedPicture} → Flows v (c ∷ cs) → (e : VbvVerifyError) → advanced v p (Unmodelled e) c ≡ Unmodelled e
-  unfolding advanced gone_on_from flowed_from pick
+  unfolding advanced gone_on_from pick
   on_unmodelled constant e = refl
-  on_unmodelled (more h f) e = rw h
+  on_unmodelled (one_more h f) e = rw h
 
-  on_running : {v : Bool} {c : CodedPicture} {cs : List CodedPicture} → Flows v (c ∷ cs) → (m : VbvCbrModel) (r : VbvPictureRecord) (l g : ℕ) → advanced v p (Running m r l g) c ≡ progressed l g (removed_at v m c)
-  unfolding advanced gone_on_from flowed_from pick
+  on_running : {v : Bool} {c : CodedPicture} {cs : List CodedPicture} → Flows v (c ∷ cs) → (m : VbvCbrModel) (r : VbvPictureRecord) (l g : ℕ) → advanced v p (Running m r l g) c ≡ progressed l g (removing v m c)
+  unfolding advanced gone_on_from pick
   on_running constant m r l g = refl
-  on_running (more h f) m r l g = rw h
+  on_running (one_more h f) m r l g = rw h
 
 -- ---- states that no picture changes
 
@@ -121,9 +114,9 @@ both-same true a = refl
 both-same false a = refl
 
 stays_25 : (p : VbvParams) (cs : List CodedPicture) → advanced_all true p (Unmodelled ConstantRate) cs ≡ Unmodelled ConstantRate
-unfolding advanced_all advanced flowed_from
+unfolding advanced_all advanced gone_on_from
 stays_25 p [] = refl
-stays_25 p (c ∷ cs) = rw (both-same (eqb c.vbv_delay 0xFFFF) (Unmodelled ConstantRate)) (stays_25 p cs)
+stays_25 p (c ∷ cs) = rw (both-same (not (eqb c.vbv_delay 0xFFFF)) (Unmodelled ConstantRate)) (stays_25 p cs)
 
 comes_25 : (p : VbvParams) (st : Progress) (cs : List CodedPicture) → all_variable cs ≡ false → advanced_all true p st cs ≡ Unmodelled ConstantRate
 unfolding advanced_all advanced all_variable pick
@@ -131,8 +124,8 @@ comes_25 p st [] h = absurd (true≢false h)
 comes_25 p st (c ∷ cs) h = go (λ st h. comes_25 p st cs h) (eqb c.vbv_delay 0xFFFF) h
   where
     go : ((st : Progress) → all_variable cs ≡ false → advanced_all true p st cs ≡ Unmodelled ConstantRate) → (b : Bool) → b && all_variable cs ≡ false
-        → advanced_all true p (pick b (flowed_from p st c) (Unmodelled ConstantRate)) cs ≡ Unmodelled ConstantRate
-    go ih true h = ih (flowed_from p st c) h
+        → advanced_all true p (pick (not b) (Unmodelled ConstantRate) (gone_on_from true p st c)) cs ≡ Unmodelled ConstantRate
+    go ih true h = ih (gone_on_from true p st c) h
     go ih false h = stays_25 p cs
 
 -- ---- least and greatest so far, and of the records still to come
@@ -145,10 +138,10 @@ unfoldable greatest_of : ℕ → List VbvPictureRecord → ℕ
 greatest_of g [] = g
 greatest_of g (r ∷ rs) = greatest_of (max g r.occupancy_before_bits) rs
 
-unfoldable report : VbvParams → ℕ → ℕ → ℕ → ℕ → VbvVerified
+unfoldable report : VbvParams → ℕ → ℕ → ℕ → ℕ → Result VbvStreamReport VbvVerifyError
 report p places n least greatest =
     if_placed n places
-    (vf.Report record {
+    (Ok record {
       bit_rate = p.bit_rate;
       buffer_size_bits = p.buffer_size_bits;
       pictures = n;
@@ -187,16 +180,18 @@ module _ {v : Bool} {p : VbvParams} where
   stopped_course (halted {m} h t) f r l g = rw (on_running p f m r l g, h) (stopped_course t (flows_others f) _ _ _)
 
   ran_course : {m : VbvCbrModel} {cs : List CodedPicture} {rs : List VbvPictureRecord} → Course v p m cs (value rs) → Flows v cs → (places n : ℕ)
-      → (r : VbvPictureRecord) (l g : ℕ) → judged_as p places n (advanced_all v p (Running m r l g) cs) ≡ report p places n (least_of l rs) (greatest_of g rs)
-  unfolding advanced_all progressed judged_as report least_of greatest_of
+      → (r : VbvPictureRecord) (l g : ℕ) → judgement p places n (advanced_all v p (Running m r l g) cs) ≡ report p places n (least_of l rs) (greatest_of g rs)
+  unfolding advanced_all progressed judgement report least_of greatest_of
   ran_course ended f places n r l g = refl
   ran_course (went {m} h b t) f places n r l g = rw (on_running p f m r l g, h) (ran_course t (flows_others f) places n _ _ _)
 
-  ran_lasts : {m : VbvCbrModel} {cs : List CodedPicture} {rs : List VbvPictureRecord} → Course v p m cs (value rs) → Flows v cs → (r : VbvPictureRecord) (l g : ℕ)
-      → lasts_all v p (Running m r l g) cs ≡ rs
-  unfolding lasts_all progressed last_of
-  ran_lasts ended f r l g = refl
-  ran_lasts (went {m} {r = q} h b t) f r l g = rw (on_running p f m r l g, h) (ap (λ (qs : List VbvPictureRecord). q ∷ qs) (ran_lasts t (flows_others f) q _ _))
+  ran_recorded : {m : VbvCbrModel} {cs : List CodedPicture} {rs : List VbvPictureRecord} → Course v p m cs (value rs) → Flows v cs → (r : VbvPictureRecord) (l g : ℕ)
+      → Recorded v p (Running m r l g) cs rs
+  unfolding progressed last_of
+  ran_recorded ended f r l g = none
+  ran_recorded (went {m} {k} {c = c} {r = q} h b t) f r l g =
+      let e : advanced v p (Running m r l g) c ≡ Running k q (min l (occupancy_after q)) (max g q.occupancy_before_bits) = rw (on_running p f m r l g, h) in
+      more (rw e) (rw e (ran_recorded t (flows_others f) q _ _))
 
   ran_length : {m : VbvCbrModel} {cs : List CodedPicture} {rs : List VbvPictureRecord} → Course v p m cs (value rs) → length rs ≡ length cs
   ran_length ended = refl
@@ -214,7 +209,7 @@ record Begun (v : Bool) (p : VbvParams) (c : CodedPicture) : Type 0 where
   at_zero : model.prev_end_bits ≡ 0
   none_removed : model.removed ≡ 0
   delivers : delivered model ≡ first_arrived v p c.pos_bits c.vbv_delay
-  goes : advanced v p Fresh c ≡ progressed p.buffer_size_bits 0 (removed_at v model c)
+  goes : advanced v p Fresh c ≡ progressed p.buffer_size_bits 0 (removing v model c)
 
 -- 5, or 25
 abbrev rate_error : Bool → VbvVerifyError
@@ -234,7 +229,7 @@ module _ (p : VbvParams) (j : RemovalInterval) (pic : SeenPicture) (cs : List Co
   first_flows o = flows_first (flows true o)
 
   begins : (v : Bool) → other_rate v pic (c ∷ cs) ≡ false → params_fit_at v p ≡ true → Placed 0 pic.pos_bits pic.end_bits pic.vbv_delay → Begun v p c
-  unfolding advanced gone_on_from first_removed first_made first_started flowed_from first_taken first_filled first_full pick
+  unfolding advanced gone_on_from begun first_model result_of pick
   begins true o f q =
       let m : VbvCbrModel = record { params = p; whole = 0; rest = 0; prev_end_bits = 0; removed = 0; started = false } in
       let a = variable-made p m (variable_makes p f) in
@@ -245,7 +240,7 @@ module _ (p : VbvParams) (j : RemovalInterval) (pic : SeenPicture) (cs : List Co
         at_zero = b.end_kept;
         none_removed = b.count_kept;
         delivers = b.delivered_is;
-        goes = rw (first_flows o, variable_makes_named p f, variable-starts_named m a.fits a.unstarted);
+        goes = rw (first_flows o, variable_makes p f, variable-starts m a.fits a.unstarted);
       }
   begins false o f q =
       let m : VbvCbrModel = record { params = p; whole = 0; rest = 0; prev_end_bits = 0; removed = 0; started = false } in
@@ -258,65 +253,67 @@ module _ (p : VbvParams) (j : RemovalInterval) (pic : SeenPicture) (cs : List Co
         at_zero = b.end_kept;
         none_removed = b.count_kept;
         delivers = b.delivered_is;
-        goes = rw (o, makes_named p f, starts_named m pic.vbv_delay pic.pos_bits a.fits a.unstarted (omega (arith, q.ends, q.end_near)));
+        goes = rw (o, makes p f, e);
       }
 
   -- or there is no model
   other_rate_lem : (v : Bool) → other_rate v pic (c ∷ cs) ≡ true → advanced_all v p Fresh (c ∷ cs) ≡ Unmodelled (rate_error v)
-  unfolding advanced_all advanced gone_on_from first_removed pick
+  unfolding advanced_all advanced gone_on_from begun first_model result_of error_of pick
   other_rate_lem true o = comes_25 p Fresh (c ∷ cs) (not-true (all_variable (c ∷ cs)) o)
   other_rate_lem false o = rw o (stays_unmodelled p VariableRate cs constant)
 
   unfit : (v : Bool) → other_rate v pic (c ∷ cs) ≡ false → params_fit_at v p ≡ false → advanced_all v p Fresh (c ∷ cs) ≡ Unmodelled (Model ParamsError)
-  unfolding advanced_all advanced gone_on_from first_removed first_made flowed_from first_taken first_filled pick
-  unfit true o f = rw (first_flows o, variable_unmade_named p f) (stays_unmodelled p (Model ParamsError) cs (flows_others (flows true o)))
-  unfit false o f = rw (o, unmade_named p f) (stays_unmodelled p (Model ParamsError) cs constant)
+  unfolding advanced_all advanced gone_on_from begun first_model result_of error_of model_error_of pick
+  unfit true o f = rw (first_flows o, variable_unmade p f) (stays_unmodelled p (Model ParamsError) cs (flows_others (flows true o)))
+  unfit false o f = rw (o, unmade p f) (stays_unmodelled p (Model ParamsError) cs constant)
 
 -- ---- a list of coded pictures
 
 pub record Judged (v : Bool) (p : VbvParams) (places : ℕ) (j : RemovalInterval) (pic : SeenPicture) (cs : List CodedPicture) : Type 0 where
-  pub answer : verified_answer (judged_as p places (length (coded_of j pic ∷ cs)) (advanced_all v p Fresh (coded_of j pic ∷ cs))) ≡ reported (with_pictures v places p pic (coded_of j pic ∷ cs))
-  pub few : length (records (with_pictures v places p pic (coded_of j pic ∷ cs))) ≤ places
-  pub lasts : (r : VbvPictureRecord) (rs : List VbvPictureRecord) → with_pictures v places p pic (coded_of j pic ∷ cs) ≡ value (record { params = p; first = r; others = rs })
-      → lasts_all v p Fresh (coded_of j pic ∷ cs) ≡ r ∷ rs
+  pub answer : verified_answer (judgement p places (length (coded_of j pic ∷ cs)) (advanced_all v p Fresh (coded_of j pic ∷ cs))) ≡ reported (with_pictures v places p pic (coded_of j pic ∷ cs))
+  pub recorded : (r : VbvPictureRecord) (rs : List VbvPictureRecord) → with_pictures v places p pic (coded_of j pic ∷ cs) ≡ value (record { params = p; first = r; others = rs })
+      → Recorded v p Fresh (coded_of j pic ∷ cs) (r ∷ rs)
 
 refusing : {v : Bool} {p : VbvParams} {places : ℕ} {j : RemovalInterval} {pic : SeenPicture} {cs : List CodedPicture} (e : VbvVerifyError)
-    → judged_as p places (length (coded_of j pic ∷ cs)) (advanced_all v p Fresh (coded_of j pic ∷ cs)) ≡ vf.Refused e → with_pictures v places p pic (coded_of j pic ∷ cs) ≡ refusal e → Judged v p places j pic cs
+    → judgement p places (length (coded_of j pic ∷ cs)) (advanced_all v p Fresh (coded_of j pic ∷ cs)) ≡ Err e → with_pictures v places p pic (coded_of j pic ∷ cs) ≡ refusal e → Judged v p places j pic cs
 refusing {v} {p} {places} {j} {pic} {cs} e a b =
     record {
       answer = rw (a, b);
-      few = rw b (omega arith);
-      lasts = λ r rs h. let y : ◌≡◌ {A = Answer Accepted} (refusal e) (value (record { params = p; first = r; others = rs })) = rw b at h in let z : ◌≡◌ {A = ℕ} 0 1 = cc in absurd (omega arith);
+      recorded = λ r rs h. let y : ◌≡◌ {A = Answer Accepted} (refusal e) (value (record { params = p; first = r; others = rs })) = rw b at h in let z : ◌≡◌ {A = ℕ} 0 1 = cc in absurd (omega arith);
     }
 
 same-records : {a b : Accepted} → ◌≡◌ {A = Answer Accepted} (value a) (value b) → a.first ∷ a.others ≡ b.first ∷ b.others
 same-records {a} {b} h = let e : a ≡ b = cc in rw e
 
 reporting : {v : Bool} {p : VbvParams} {places : ℕ} {j : RemovalInterval} {pic : SeenPicture} {cs : List CodedPicture} (r : VbvPictureRecord) (rs : List VbvPictureRecord)
-    → judged_as p places (length (coded_of j pic ∷ cs)) (advanced_all v p Fresh (coded_of j pic ∷ cs)) ≡ vf.Report (report_of (record { params = p; first = r; others = rs }))
+    → judgement p places (length (coded_of j pic ∷ cs)) (advanced_all v p Fresh (coded_of j pic ∷ cs)) ≡ Ok (report_of (record { params = p; first = r; others = rs }))
     → with_pictures v places p pic (coded_of j pic ∷ cs) ≡ value (record { params = p; first = r; others = rs })
-    → length (r ∷ rs) ≤ places → lasts_all v p Fresh (coded_of j pic ∷ cs) ≡ r ∷ rs → Judged v p places j pic cs
-reporting {v} {p} r rs a b l k =
+    → Recorded v p Fresh (coded_of j pic ∷ cs) (r ∷ rs) → Judged v p places j pic cs
+reporting {v} {p} r rs a b k =
     record {
       answer = rw (a, b);
-      few = rw b l;
-      lasts = λ q qs h. let y : ◌≡◌ {A = Answer Accepted} (value (record { params = p; first = r; others = rs })) (value (record { params = p; first = q; others = qs })) = rw b at h in k ∙ same-records y;
+      recorded = λ q qs h. let y : ◌≡◌ {A = Answer Accepted} (value (record { params = p; first = r; others = rs })) (value (record { params = p; first = q; others = qs })) = rw b at h in rw (← same-records y) k;
     }
 
 -- no model
-unmodelled : (p : VbvParams) (places n : ℕ) {st : Progress} {e : VbvVerifyError} → st ≡ Unmodelled e → judged_as p places n st ≡ vf.Refused e
-unfolding judged_as
+unmodelled : (p : VbvParams) (places n : ℕ) {st : Progress} {e : VbvVerifyError} → st ≡ Unmodelled e → judgement p places n st ≡ Err e
+unfolding judgement
 unmodelled p places n h = rw h
 
--- a model: the walk goes on as if it ran already
-module _ {v : Bool} {p : VbvParams} {c : CodedPicture} (b : Begun v p c) (cs : List CodedPicture) (f : Flows v (c ∷ cs)) where
-  as_running : advanced_all v p Fresh (c ∷ cs) ≡ advanced_all v p (Running b.model no_record p.buffer_size_bits 0) (c ∷ cs)
-  unfolding advanced_all
-  as_running = rw (b.goes, on_running p f b.model no_record p.buffer_size_bits 0)
+-- a model: the walk goes on as if it ran already, whatever was recorded
+abbrev any_record : VbvPictureRecord
+any_record = record { vbv_delay = 0; expected_delay = 0; data_bits = 0; occupancy_before_bits = 0; periods = 0 }
 
-  as_lasts : lasts_all v p Fresh (c ∷ cs) ≡ lasts_all v p (Running b.model no_record p.buffer_size_bits 0) (c ∷ cs)
-  unfolding lasts_all
-  as_lasts = rw (b.goes, on_running p f b.model no_record p.buffer_size_bits 0)
+module _ {v : Bool} {p : VbvParams} {c : CodedPicture} (b : Begun v p c) (cs : List CodedPicture) (f : Flows v (c ∷ cs)) where
+  as_first : advanced v p Fresh c ≡ advanced v p (Running b.model any_record p.buffer_size_bits 0) c
+  as_first = rw (b.goes, on_running p f b.model any_record p.buffer_size_bits 0)
+
+  as_running : advanced_all v p Fresh (c ∷ cs) ≡ advanced_all v p (Running b.model any_record p.buffer_size_bits 0) (c ∷ cs)
+  unfolding advanced_all
+  as_running = rw as_first
+
+  as_recorded : {rs : List VbvPictureRecord} → Recorded v p (Running b.model any_record p.buffer_size_bits 0) (c ∷ cs) rs → Recorded v p Fresh (c ∷ cs) rs
+  as_recorded (more e t) = more (rw as_first e) (rw as_first t)
 
 first_course : {v : Bool} {p : VbvParams} {c : CodedPicture} {cs : List CodedPicture} (b : Begun v p c) → Rising 0 (c ∷ cs)
     → Course v p b.model (c ∷ cs) (run v p 0 0 (first_arrived v p c.pos_bits c.vbv_delay) (c ∷ cs))
@@ -333,26 +330,25 @@ as_told e h = rw h
 runs : {v : Bool} (p : VbvParams) (places : ℕ) (j : RemovalInterval) (pic : SeenPicture) (cs : List CodedPicture) (b : Begun v p (coded_of j pic)) → Flows v (coded_of j pic ∷ cs) → (o : Answer (List VbvPictureRecord))
     → with_pictures v places p pic (coded_of j pic ∷ cs) ≡ refuse 15 (ltb places (length (coded_of j pic ∷ cs))) (and_then o (accepted p))
     → Course v p b.model (coded_of j pic ∷ cs) o → (t : Bool) → ltb places (length (coded_of j pic ∷ cs)) ≡ t → Judged v p places j pic cs
-unfolding judged_as if_placed report pick
+unfolding judgement if_placed report pick
 runs p places j pic cs b f (refused n i x y) w k false l =
-    let u = stopped_course k f no_record p.buffer_size_bits 0 in
+    let u = stopped_course k f any_record p.buffer_size_bits 0 in
     refusing u.error (rw (as_running b cs f, u.is_stopped, le-leb (length (coded_of j pic ∷ cs)) places (ltb-false places (length (coded_of j pic ∷ cs)) l))) (w ∙ rw l (as_told u.error u.told))
 runs p places j pic cs b f (refused n i x y) w k true l =
-    let u = stopped_course k f no_record p.buffer_size_bits 0 in
+    let u = stopped_course k f any_record p.buffer_size_bits 0 in
     refusing RecordPlaces (rw (as_running b cs f, u.is_stopped, lt-leb (length (coded_of j pic ∷ cs)) places (ltb-true places (length (coded_of j pic ∷ cs)) l))) (w ∙ rw l)
 runs p places j pic cs b f (value rs) w k true l =
     refusing RecordPlaces
-    (rw (as_running b cs f, ran_course k f places (length (coded_of j pic ∷ cs)) no_record p.buffer_size_bits 0, lt-leb (length (coded_of j pic ∷ cs)) places (ltb-true places (length (coded_of j pic ∷ cs)) l)))
+    (rw (as_running b cs f, ran_course k f places (length (coded_of j pic ∷ cs)) any_record p.buffer_size_bits 0, lt-leb (length (coded_of j pic ∷ cs)) places (ltb-true places (length (coded_of j pic ∷ cs)) l)))
     (w ∙ rw l)
 runs p places j pic cs b f (value []) w k false l = absurd (omega (arith, ran_length k))
 runs p places j pic cs b f (value (r ∷ rs)) w k false l =
     let g : greatest_of 0 (r ∷ rs) ≡ greatest_before (r ∷ rs) = greatest_is 0 (r ∷ rs) ∙ omega arith in
     let m = ltb-false places (length (coded_of j pic ∷ cs)) l in
     reporting r rs
-    (rw (as_running b cs f, ran_course k f places (length (coded_of j pic ∷ cs)) no_record p.buffer_size_bits 0, le-leb (length (coded_of j pic ∷ cs)) places m, ran_least k, g, ← ran_length k))
+    (rw (as_running b cs f, ran_course k f places (length (coded_of j pic ∷ cs)) any_record p.buffer_size_bits 0, le-leb (length (coded_of j pic ∷ cs)) places m, ran_least k, g, ← ran_length k))
     (w ∙ rw l)
-    (omega (arith, m, ran_length k))
-    (as_lasts b cs f ∙ ran_lasts k f no_record p.buffer_size_bits 0)
+    (as_recorded b cs f (ran_recorded k f any_record p.buffer_size_bits 0))
 
 -- the verdict in each case
 module _ (p : VbvParams) (places : ℕ) (j : RemovalInterval) (pic : SeenPicture) (cs : List CodedPicture) where
@@ -394,49 +390,30 @@ judges v p places j pic cs (next q t) = by_rate_lem (other_rate v pic (coded_of 
 
 -- ---- a stream
 
--- the front's refusals tell the same among those of the check
-same-refusal : (e : Unread) → ◌≡◌ {A = Answer VbvStreamReport} (refusal (unread_error e)) (unread e)
-unfolding unread_error
-same-refusal (un.Parse e) = refl
-same-refusal (un.Model e) = refl
-same-refusal un.NoSequenceHeader = refl
-same-refusal un.NoPictures = refl
-
-module _ (standard : VbvStandard) (v : Bool) (k : VbvCadence) (s : List ℕ) (places : ℕ) where
+module _ (m : VbvMode) (s : List ℕ) (places : ℕ) where
   -- by what a walk answers
-  abbrev judged_by : Answer (VbvParams × (ℕ × Progress)) → Answer VbvStreamReport
-  judged_by a = and_then a (λ z. verified_answer (judged_as z.0 places z.1.0 z.1.1))
+  abbrev judged_by : Answer Walked → Answer VbvStreamReport
+  judged_by a = and_then a (λ w. verified_answer (judgement w.params places w.pictures w.progress))
 
-  judged_by_lem : (w : Walked) → verified_answer (judgement places w) ≡ judged_by (walked_answer w)
-  unfolding judgement
-  judged_by_lem (wk.Refused e) = same-refusal e
-  judged_by_lem (wk.Read p n st) = refl
+  by_pictures : (p : VbvParams) (a : Answer (List SeenPicture)) → 8 * length s ≤ farthest → seen_pictures m.standard s ≡ a
+      → judged_by (and_then a (λ xs. value (walked_over (recorder_of m s p) 0 xs)))
+      ≡ reported (and_then (and_then a (λ xs. with_first p xs)) (λ f. with_pictures m.variable places f.params f.first (timed (cadence_of m.film s) (f.first ∷ f.others))))
+  unfolding walked_over with_first judgement advanced_all timed
+  by_pictures p (refused n i x y) h e = refl
+  by_pictures p (value []) h e = refl
+  by_pictures p (value (x ∷ xs)) h e =
+      let k = cadence_of m.film s in
+      let l : 0 + length (x ∷ xs) ≡ length (coded_of (interval k x.facts) x ∷ timed (after k x.facts) xs) = omega (arith, timed-length (after k x.facts) xs) in
+      let t = timed_rising k (seen_rising m.standard s (x ∷ xs) h e) in
+      rw l (judges m.variable p places (interval k x.facts) x (timed (after k x.facts) xs) (rw (timed-first k x xs) at t)).answer
 
-  by_front : (a : Answer Front) → FrontDue standard s a → judged_by (and_then a (λ f. walked_over v f.params k 0 Fresh (f.first ∷ f.others)))
-      ≡ reported (and_then a (λ f. with_pictures v places f.params f.first (timed k (f.first ∷ f.others))))
-  unfolding walked_over pick
-  by_front (refused n i x y) d = refl
-  by_front (value f) (fr.all_read {p} {x} {xs} r) =
-      let e : 0 + suc (length xs) ≡ suc (length (timed (after k x.facts) xs)) = omega (arith, timed-length (after k x.facts) xs) in
-      let z : eqb (suc (length (timed (after k x.facts) xs))) 0 ≡ false = ne_eqb (suc (length (timed (after k x.facts) xs))) 0 (λ (h : suc (length (timed (after k x.facts) xs)) ≡ 0). omega arith) in
-      let t = timed_rising k (seen_rising standard s (x ∷ xs) r.short r.pictures_are) in
-      rw (e, z, timed-first k x xs) (judges v p places (interval k x.facts) x (timed (after k x.facts) xs) (rw (timed-first k x xs) at t)).answer
-
-  pub judgement_is : (w : Walked) → walked_answer w ≡ and_then (front standard s) (λ f. walked_over v f.params k 0 Fresh (f.first ∷ f.others))
-      → verified_answer (judgement places w) ≡ reported (verdict_by standard v k s places)
-  unfolding verdict_by
-  judgement_is w t = judged_by_lem w ∙ ap judged_by t ∙ by_front (front standard s) (front_due standard s)
-
--- no more records than pictures were walked over
-placed-few : {n : ℕ} (b : Bool) (r : VbvVerified) → record_count r ≤ n → record_count (pick b r (vf.Refused RecordPlaces)) ≤ n
-unfolding record_count pick
-placed-few true r h = h
-placed-few false r h = omega arith
-
-pub few_judged : (places : ℕ) (w : Walked) → record_count (judgement places w) ≤ walked_count (walked_answer w)
-unfolding record_count judgement judged_as if_placed walked_count
-few_judged places (wk.Refused e) = omega arith
-few_judged places (wk.Read p n Fresh) = omega arith
-few_judged places (wk.Read p n (Unmodelled e)) = omega arith
-few_judged places (wk.Read p n (Running m r l g)) = placed-few (leb n places) _ (omega arith)
-few_judged places (wk.Read p n (Stopped e)) = placed-few (leb n places) _ (omega arith)
+  pub judgement_is : judged_by (walked m s) ≡ reported (verdict_by m.standard m.variable (cadence_of m.film s) s places)
+  unfolding walked verdict_by front
+  judgement_is = go (opening m.standard s) refl
+    where
+      go : (o : Answer VbvParams) → opening m.standard s ≡ o
+          → judged_by (and_then o (λ p. and_then (seen_pictures m.standard s) (λ xs. value (walked_over (recorder_of m s p) 0 xs))))
+          ≡ reported (and_then (and_then o (λ p. and_then (seen_pictures m.standard s) (λ xs. with_first p xs)))
+          (λ f. with_pictures m.variable places f.params f.first (timed (cadence_of m.film s) (f.first ∷ f.others))))
+      go (refused n i x y) h = refl
+      go (value p) h = by_pictures p (seen_pictures m.standard s) (opening-opened m.standard s h) refl

@@ -1,117 +1,162 @@
--- The walk from picture to picture: what is still to come makes of the state what the whole stream makes of the first one.
+-- The walk from picture to picture: what is still to come makes of the walk what the whole stream makes of it at the first byte.
 -- Assumes nothing.
 use mathlib.Core.Path.{◌≡◌, refl, sym, ap, ◌∙◌}
-use mathlib.Core.Bool.{Bool}
-use Prim.Native.Nat.{ℕ, suc, ◌+◌, ◌*◌, ◌≤◌}
+use Prim.Native.Nat.{ℕ, suc, ◌+◌, ◌*◌, ◌≤◌, ◌<◌}
 use mathlib.Core.List.{List, [], ◌∷◌}
 use native.Mathlib.Omega.{arith}
-use borrow.Author.Tests.{ne_eqb}
 use lib.ListN.{length}
 use Rattle.vbv.specs.Model.{farthest}
-use Rattle.bits.specs.Bits.{pick}
-use Rattle.bits.specs.Refusals.{Answer, value, refused, and_then}
+use Rattle.std.specs.Prelude.{Bool, true, false, None}
+use Rattle.bits.specs.Refusals.{Answer, value, refused, and_then, or_else}
 use Rattle.vbv.specs.declared.VbvParams.{VbvParams}
-use Rattle.cadence.specs.Cadence.{interval, after}
-use Rattle.cadence.specs.declared.VbvCadence.{VbvCadence}
-use Rattle.pictures.specs.Seen.{seen_pictures, next_seen, nothing, one}
-use Rattle.pictures.specs.Front.{Front, opening, front, with_first}
-use Rattle.pictures.specs.Answers.{unread, declared_answer}
-use Rattle.pictures.specs.declared.Declared.{Declared}
-use Rattle.pictures.specs.declared.Declared.TheVariants.{Params, Refused as NotDeclared}
+use Rattle.pictures.specs.Seen.{Sight, seen_pictures, next_seen, nothing, one}
+use Rattle.pictures.specs.Front.{opening}
+use Rattle.pictures.specs.Answers.{unread}
 use Rattle.pictures.specs.declared.Unread.{Unread}
-use Rattle.pictures.specs.declared.VbvStandard.{VbvStandard}
+use Rattle.pictures.specs.declared.Unread.TheVariants as un
 use Rattle.pictures.specs.declared.SeenPicture.{SeenPicture}
 use Rattle.pictures.proofs.Seeing.{seen_from, before, seen_from_first, seen_end, seen_refused, seen_one}
-use Rattle.pictures.proofs.Due.{front_unopened, front-opened, first-none, first_some}
-use Rattle.verify.specs.declared.Progress.{Progress}
-use Rattle.verify.specs.declared.Progress.TheVariants.{Fresh}
-use Rattle.verify.specs.Coded.{coded_of, timed}
-use Rattle.verify.specs.Steps.{advanced, advanced_all, walked_over, walked_count}
+use Rattle.pictures.proofs.Due.{opening-opened}
+use Rattle.verify.specs.Answers.{unread_error, refusal}
+use Rattle.verify.specs.Coded.{timed}
+use Rattle.verify.specs.Steps.{advanced_all, recorder_of, went_on, took, is_one, stepped, steps, walked_over, walked, last_of, recorded_by, next_record}
+use Rattle.verify.specs.declared.VbvMode.{VbvMode}
+use Rattle.verify.specs.declared.Walked.{Walked}
+use Rattle.verify.specs.declared.recorder.VbvRecorder.{VbvRecorder}
+
+-- the front's refusals tell the same among those of the check
+pub same_refusal : {X : Type 0} (e : Unread) → ◌≡◌ {A = Answer X} (refusal (unread_error e)) (unread e)
+unfolding unread_error
+same_refusal (un.Parse e) = refl
+same_refusal (un.Model e) = refl
+same_refusal un.NoSequenceHeader = refl
+same_refusal un.NoPictures = refl
 
 -- ---- what is still to come
 
-over_none : (v : Bool) (p : VbvParams) (k : VbvCadence) (st : Progress) → walked_over v p k 0 st [] ≡ refused 4 0 0 0
-unfolding walked_over pick
-over_none v p k st = refl
+abbrev pub over : VbvRecorder → ℕ → Answer (List SeenPicture) → Answer Walked
+over w n a = and_then a (λ xs. value (walked_over w n xs))
 
-over_done : (v : Bool) (p : VbvParams) (k : VbvCadence) (n : ℕ) (st : Progress) → (n ≡ 0 → ⊥) → walked_over v p k n st [] ≡ value (p, (n, st))
-unfolding walked_over advanced_all timed pick
-over_done v p k n st h = let e : n + 0 ≡ n = omega arith in rw (e, ne_eqb n 0 h)
-
-over-more : (v : Bool) (p : VbvParams) (k : VbvCadence) (n : ℕ) (st : Progress) (x : SeenPicture) (xs : List SeenPicture)
-    → walked_over v p k n st (x ∷ xs) ≡ walked_over v p (after k x.facts) (n + 1) (advanced v p st (coded_of (interval k x.facts) x)) xs
+over-none : (w : VbvRecorder) (n : ℕ) → over w n (value []) ≡ value (record { params = w.params; pictures = n; progress = w.progress })
 unfolding walked_over advanced_all timed
-over-more v p k n st x xs = let e : n + suc (length xs) ≡ n + 1 + length xs = omega arith in rw e
+over-none w n = let e : n + 0 ≡ n = omega arith in rw e
 
-over-before : (v : Bool) (p : VbvParams) (k : VbvCadence) (n : ℕ) (st : Progress) (x : SeenPicture) (a : Answer (List SeenPicture))
-    → and_then (before x a) (walked_over v p k n st) ≡ and_then a (walked_over v p (after k x.facts) (n + 1) (advanced v p st (coded_of (interval k x.facts) x)))
-over-before v p k n st x (value xs) = over-more v p k n st x xs
-over-before v p k n st x (refused m i c e) = refl
+over-more : (w : VbvRecorder) (n next : ℕ) (x : SeenPicture) (xs : List SeenPicture) → walked_over w n (x ∷ xs) ≡ walked_over (went_on w x next) (n + 1) xs
+unfolding walked_over went_on advanced_all timed
+over-more w n next x xs = let e : n + suc (length xs) ≡ n + 1 + length xs = omega arith in rw e
+
+over-before : (w : VbvRecorder) (n next : ℕ) (x : SeenPicture) (a : Answer (List SeenPicture)) → over w n (before x a) ≡ over (went_on w x next) (n + 1) a
+over-before w n next x (value xs) = rw (over-more w n next x xs)
+over-before w n next x (refused m i c e) = refl
+
+-- ---- a step
+
+-- what it answers, and the walk after it
+pub data Took (s : List ℕ) (w : VbvRecorder) : Answer Bool → VbvRecorder → Type 0 where
+  one_more : {x : SeenPicture} {next : ℕ} → next_seen w.mode.standard s w.at ≡ value (one x next) → Took s w (value true) (went_on w x next)
+  no_more : next_seen w.mode.standard s w.at ≡ value nothing → Took s w (value false) w
+  not_read : {n k c e : ℕ} → next_seen w.mode.standard s w.at ≡ refused n k c e → Took s w (refused n k c e) w
+
+pub step-took : (s : List ℕ) (w : VbvRecorder) → Took s w (steps s w) (stepped s w)
+unfolding steps stepped took is_one
+step-took s w = go (next_seen w.mode.standard s w.at) refl
+  where
+    go : (a : Answer Sight) → next_seen w.mode.standard s w.at ≡ a → Took s w (and_then a (λ g. value (is_one g))) (or_else w (and_then a (λ g. value (took w g))))
+    go (value (one x next)) e = one_more e
+    go (value nothing) e = no_more e
+    go (refused n k c d) e = not_read e
+
+module _ (s : List ℕ) (w : VbvRecorder) {new : VbvRecorder} (g : new ≡ stepped s w) where
+  took-so : {a : Answer Bool} → a ≡ steps s w → Took s w a new
+  took-so e = rw (e, g) (step-took s w)
+
+  pub record-taken : value true ≡ steps s w → (new, last_of new.progress) ≡ next_record s w
+  unfolding next_record recorded_by
+  record-taken e = go (took-so e)
+    where
+      go : {v : VbvRecorder} → Took s w (value true) v → (v, last_of v.progress) ≡ next_record s w
+      go (one_more h) = rw h refl
+
+  pub none-taken : value false ≡ steps s w → (new, None) ≡ next_record s w
+  unfolding next_record recorded_by
+  none-taken e = go (took-so e)
+    where
+      go : {v : VbvRecorder} → Took s w (value false) v → (v, None) ≡ next_record s w
+      go (no_more h) = rw h refl
+
+  pub none-read : {n k c d : ℕ} → refused n k c d ≡ steps s w → (new, None) ≡ next_record s w
+  unfolding next_record
+  none-read {n} {k} {c} {d} e = go (took-so e)
+    where
+      go : {v : VbvRecorder} → Took s w (refused n k c d) v → (v, None) ≡ next_record s w
+      go (not_read h) = rw h refl
 
 -- ---- the loop
 
--- with k before the first picture and j before the next
-pub record Walking (standard : VbvStandard) (v : Bool) (s : List ℕ) (p : VbvParams) (k : VbvCadence) (i n : ℕ) (j : VbvCadence) (st : Progress) : Type 0 where
-  pub few : n ≤ i
-  pub inside : i ≤ length s
-  pub answer : and_then (seen_from standard s i) (walked_over v p j n st) ≡ and_then (seen_pictures standard s) (walked_over v p k 0 Fresh)
+-- at w after n pictures, and at w₀ before the first
+pub record Walking (m : VbvMode) (s : List ℕ) (w₀ w : VbvRecorder) (n : ℕ) : Type 0 where
+  pub in_mode : w.mode ≡ m
+  pub few : n ≤ w.at
+  pub inside : w.at ≤ length s
+  pub answer : over w n (seen_from m.standard s w.at) ≡ over w₀ 0 (seen_pictures m.standard s)
 
-pub walking_none : (standard : VbvStandard) (v : Bool) (s : List ℕ) (p : VbvParams) (k : VbvCadence) → Walking standard v s p k 0 0 k Fresh
-walking_none standard v s p k = record { few = omega arith; inside = omega arith; answer = rw (seen_from_first standard s) }
+walking-none : (m : VbvMode) (s : List ℕ) {w : VbvRecorder} → w.mode ≡ m → w.at ≡ 0 → Walking m s w w 0
+walking-none m s {w} i e = record { in_mode = i; few = omega arith; inside = omega (arith, e); answer = rw (e, seen_from_first m.standard s) }
 
-module _ {standard : VbvStandard} {v : Bool} {s : List ℕ} (short : 8 * length s ≤ farthest) {p : VbvParams} {k : VbvCadence} {i n : ℕ} {j : VbvCadence} {st : Progress} (w : Walking standard v s p k i n j st) where
-  pub walking_empty : next_seen standard s i ≡ value nothing → n ≡ 0 → refused 4 0 0 0 ≡ and_then (seen_pictures standard s) (walked_over v p k 0 Fresh)
-  walking_empty e z = sym (over_none v p j st) ∙ rw (seen_end standard s short i e, z) at w.answer
+module _ {m : VbvMode} {s : List ℕ} (short : 8 * length s ≤ farthest) {w₀ w : VbvRecorder} {n : ℕ} (h : Walking m s w₀ w n) {new : VbvRecorder} (g : new ≡ stepped s w) where
+  pub walking-done : value false ≡ steps s w → value (record { params = new.params; pictures = n; progress = new.progress }) ≡ over w₀ 0 (seen_pictures m.standard s)
+  walking-done e = go (took-so s w g e)
+    where
+      go : {v : VbvRecorder} → Took s w (value false) v → value (record { params = v.params; pictures = n; progress = v.progress }) ≡ over w₀ 0 (seen_pictures m.standard s)
+      go (no_more q) = sym (over-none w n) ∙ rw (seen_end m.standard s short w.at (rw h.in_mode at q)) at h.answer
 
-  pub walking_done : next_seen standard s i ≡ value nothing → (n ≡ 0 → ⊥) → value (p, (n, st)) ≡ and_then (seen_pictures standard s) (walked_over v p k 0 Fresh)
-  walking_done e z = sym (over_done v p j n st z) ∙ rw (seen_end standard s short i e) at w.answer
+  pub walking-refused : {k p c d : ℕ} → refused k p c d ≡ steps s w → refused k p c d ≡ over w₀ 0 (seen_pictures m.standard s)
+  walking-refused {k} {p} {c} {d} e = go (took-so s w g e)
+    where
+      go : {v : VbvRecorder} → Took s w (refused k p c d) v → refused k p c d ≡ over w₀ 0 (seen_pictures m.standard s)
+      go (not_read q) = rw (seen_refused m.standard s short w.at (rw h.in_mode at q)) at h.answer
 
-  pub walking_refused : {m : ℕ} → next_seen standard s i ≡ refused m 0 0 0 → refused m 0 0 0 ≡ and_then (seen_pictures standard s) (walked_over v p k 0 Fresh)
-  walking_refused e = rw (seen_refused standard s short i e) at w.answer
+  pub walking-more : value true ≡ steps s w → Walking m s w₀ new (n + 1) × (w.at < new.at)
+  unfolding went_on
+  walking-more e = go (took-so s w g e)
+    where
+      go : {v : VbvRecorder} → Took s w (value true) v → Walking m s w₀ v (n + 1) × (w.at < v.at)
+      go (one_more {x} {next} q) =
+          let o = seen_one m.standard s short w.at (rw h.in_mode at q) in (
+            record {
+              in_mode = h.in_mode;
+              few = omega (arith, o.0, h.few);
+              inside = o.1;
+              answer = sym (over-before w n next x (seen_from m.standard s next)) ∙ rw o.2 at h.answer;
+            },
+            o.0,
+          )
 
-  pub walking_more : {x : SeenPicture} {next : ℕ} → next_seen standard s i ≡ value (one x next)
-      → {new : Progress} → new ≡ advanced v p st (coded_of (interval j x.facts) x) → {moved : VbvCadence} → moved ≡ after j x.facts
-      → Walking standard v s p k next (n + 1) moved new
-  walking_more {x} {next} e h m =
-      let q = seen_one standard s short i e in
-      rw (h, m)
-      (record {
-        few = omega (arith, q.0, w.few);
-        inside = q.1;
-        answer = sym (over-before v p j n st x (seen_from standard s next)) ∙ rw q.2 at w.answer;
-      })
+-- ---- the walk at the first byte
 
--- how many pictures there are to record, by what the walk comes to
-pub count_read : {a : Answer (VbvParams × (ℕ × Progress))} {count n : ℕ} {p : VbvParams} {st : Progress} → count ≤ walked_count a → value (p, (n, st)) ≡ a → count ≤ n
-unfolding walked_count
-count_read h e = rw (← e) at h
+pub opened : (m : VbvMode) (s : List ℕ) {w : VbvRecorder} → value w ≡ and_then (opening m.standard s) (λ p. value (recorder_of m s p)) → (opening m.standard s ≡ value w.params) × (w ≡ recorder_of m s w.params)
+opened m s {w} h = go (opening m.standard s) h
+  where
+    go : (a : Answer VbvParams) → value w ≡ and_then a (λ p. value (recorder_of m s p)) → (a ≡ value w.params) × (w ≡ recorder_of m s w.params)
+    go (value p) h = let e : w ≡ recorder_of m s p = cc in rw e (refl, refl)
+    go (refused n k c e) h = let z : ◌≡◌ {A = ℕ} 0 1 = cc in absurd (omega arith)
 
-pub count-refused : {a : Answer (VbvParams × (ℕ × Progress))} {count m k c d : ℕ} → count ≤ walked_count a → refused m k c d ≡ a → count ≤ 0
-unfolding walked_count
-count-refused h e = rw (← e) at h
+module _ (m : VbvMode) (s : List ℕ) {w : VbvRecorder} (h : value w ≡ and_then (opening m.standard s) (λ p. value (recorder_of m s p))) where
+  pub opened_short : 8 * length s ≤ farthest
+  opened_short = opening-opened m.standard s (opened m s h).0
 
--- ---- the front
+  pub opened-walking : Walking m s w w 0
+  opened-walking = let o = (opened m s h).1 in walking-none m s (ap (λ (x : VbvRecorder). x.mode) o) (ap (λ (x : VbvRecorder). x.at) o)
 
--- its pictures walked over
-abbrev walked_front : Bool → VbvCadence → Front → Answer (VbvParams × (ℕ × Progress))
-walked_front v k f = walked_over v f.params k 0 Fresh (f.first ∷ f.others)
+pub walked_opened : (m : VbvMode) (s : List ℕ) {w : VbvRecorder} → value w ≡ and_then (opening m.standard s) (λ p. value (recorder_of m s p)) → over w 0 (seen_pictures m.standard s) ≡ walked m s
+unfolding walked
+walked_opened m s {w} h = let o = opened m s h in rw (o.0, ← o.1)
 
-over_first : (v : Bool) (k : VbvCadence) (p : VbvParams) (a : Answer (List SeenPicture)) → and_then a (walked_over v p k 0 Fresh) ≡ and_then (and_then a (λ xs. with_first p xs)) (walked_front v k)
-over_first v k p (value []) = over_none v p k Fresh ∙ rw (first-none p)
-over_first v k p (value (x ∷ xs)) = rw (first_some p x xs)
-over_first v k p (refused n i c e) = refl
-
-module _ (standard : VbvStandard) (v : Bool) (k : VbvCadence) (s : List ℕ) where
-  pub walked_refused : {r : Declared} {e : Unread} → r ≡ NotDeclared e → declared_answer r ≡ opening standard s → unread e ≡ and_then (front standard s) (walked_front v k)
-  walked_refused {r} {e} q d = rw (front_unopened standard s (sym d ∙ ap declared_answer q))
-
-  pub walked_opened : {p : VbvParams} → opening standard s ≡ value p → {a : Answer (VbvParams × (ℕ × Progress))} → a ≡ and_then (seen_pictures standard s) (walked_over v p k 0 Fresh)
-      → a ≡ and_then (front standard s) (walked_front v k)
-  walked_opened {p} e w = w ∙ rw (front-opened standard s e) (over_first v k p (seen_pictures standard s))
-
-  pub count-opened : {p : VbvParams} → opening standard s ≡ value p → {count : ℕ} → count ≤ walked_count (and_then (front standard s) (walked_front v k))
-      → count ≤ walked_count (and_then (seen_pictures standard s) (walked_over v p k 0 Fresh))
-  count-opened e h = rw (walked_opened e refl) h
-
-pub opened : (standard : VbvStandard) (s : List ℕ) {r : Declared} {p : VbvParams} → r ≡ Params p → declared_answer r ≡ opening standard s → opening standard s ≡ value p
-opened standard s q d = sym d ∙ ap declared_answer q
+pub walked_unopened : (m : VbvMode) (s : List ℕ) {n k c e : ℕ} → refused n k c e ≡ and_then (opening m.standard s) (λ p. value (recorder_of m s p)) → refused n k c e ≡ walked m s
+unfolding walked
+walked_unopened m s {n} {k} {c} {e} h = go (opening m.standard s) h
+  where
+    go : (a : Answer VbvParams) → refused n k c e ≡ and_then a (λ p. value (recorder_of m s p))
+        → refused n k c e ≡ and_then a (λ p. and_then (seen_pictures m.standard s) (λ xs. value (walked_over (recorder_of m s p) 0 xs)))
+    go (value p) h = let z : ◌≡◌ {A = ℕ} 0 1 = cc in absurd (omega arith)
+    go (refused i j x y) h = ap (λ (z : Answer VbvRecorder). and_then {Y = Walked} z (λ _. refused n k c e)) h

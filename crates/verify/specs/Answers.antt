@@ -1,14 +1,21 @@
 -- The refusals of the check: paper 01's number, and the picture, coded and expected delay that each carries.
 -- Assumes nothing.
+use Rattle.std.specs.Prelude.{Result, Ok, Err}
 use Rattle.bits.specs.Refusals.{Answer, value, refused, plain}
 use Rattle.headers.specs.Answers.{error_number}
 use Rattle.vbv.specs.Answers.{model_number, violation_refusal}
+use Rattle.pictures.specs.declared.Unread.{Unread}
+use Rattle.pictures.specs.declared.Unread.TheVariants as un
 use Rattle.verify.specs.declared.VbvVerifyError.{VbvVerifyError}
 use Rattle.verify.specs.declared.VbvVerifyError.TheVariants.{Parse, Model, NoSequenceHeader, NoPictures, VariableRate, ConstantRate, RecordPlaces, Violation}
 use Rattle.bits.specs.declared.VbvRefusal.{VbvRefusal}
-use Rattle.verify.specs.declared.VbvStreamReport.{VbvStreamReport}
-use Rattle.verify.specs.declared.VbvVerified.{VbvVerified}
-use Rattle.verify.specs.declared.VbvVerified.TheVariants.{Report, Refused}
+
+-- a refusal of the front among those of the check
+unfoldable pub unread_error : Unread → VbvVerifyError
+unread_error (un.Parse e) = Parse e
+unread_error (un.Model e) = Model e
+unread_error un.NoSequenceHeader = NoSequenceHeader
+unread_error un.NoPictures = NoPictures
 
 -- 9 to 11 carry all three, every other refusal zeros
 abbrev pub refusal_of : VbvVerifyError → VbvRefusal
@@ -25,6 +32,6 @@ refusal_of (Violation v) = violation_refusal v
 abbrev pub refusal : {X : Type 0} → VbvVerifyError → Answer X
 refusal e = refused (refusal_of e).number (refusal_of e).picture (refusal_of e).coded (refusal_of e).expected
 
-abbrev pub verified_answer : VbvVerified → Answer VbvStreamReport
-verified_answer (Report r) = value r
-verified_answer (Refused e) = refusal e
+abbrev pub verified_answer : {X : Type 0} → Result X VbvVerifyError → Answer X
+verified_answer (Ok x) = value x
+verified_answer (Err e) = refusal e

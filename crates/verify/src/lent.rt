@@ -1,12 +1,13 @@
-// The check, outside film and at a constant rate, with records in a lent slice of structs, thin above the check by value.
+// The check, outside film and at a constant rate, with records in a lent slice of structs, as the Rust gives them; C and all else
+// take bytes.
 ghost use Rattle.std.specs.Prelude.{◌≡◌, length};
 ghost use Rattle.bits.specs.Answers.{over};
 ghost use Rattle.verify.specs.Answers.{verified_answer};
 ghost use Rattle.verify.specs.Check.{verdict, reported, records as records_of};
 ghost use Rattle.verify.specs.Mode.{plain as plain_of};
 
-use crate::recorder::{VbvRecorder, record_count};
-use crate::{VbvPictureRecord, VbvVerified, check_stream};
+use crate::recorder::VbvRecorder;
+use crate::{VbvMode, VbvPictureRecord, VbvStreamReport, VbvVerifyError, check_stream};
 use pictures::VbvStandard;
 
 // The buffer report of a stream with its records, or why it is refused. The records of an accepted stream are stored from
@@ -15,19 +16,17 @@ pub fn verify_cbr_stream(
     stream: &[u8],
     standard: VbvStandard,
     records: &mut [VbvPictureRecord],
-) -> VbvVerified
+) -> Result<VbvStreamReport, VbvVerifyError>
     ensures result_value { verified_answer result ≡ reported (verdict (plain_of standard) stream.now (length records.old)) }
     ensures records_after { records.new ≡ over (records_of (verdict (plain_of standard) stream.now (length records.old))) records.old }
 {
-    let answer = check_stream(stream, standard, records.len());
-    let count = record_count(answer);
-    let mut recorder = VbvRecorder::new(stream, standard);
-    let mut i = 0;
-    while i < count {
-        let recorded = recorder.next_record(stream);
-        records[i] = recorded.last;
-        recorder = recorded.recorder;
-        i += 1;
+    let report = check_stream(stream, standard, records.len())?;
+    let mut recorder = VbvRecorder::new(stream, VbvMode::plain(standard))?;
+    let count = report.pictures as usize;
+    for place in records[..count].iter_mut() {
+        if let Some(record) = recorder.next_record(stream) {
+            *place = record;
+        }
     }
-    answer
+    Ok(report)
 }

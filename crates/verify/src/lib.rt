@@ -2,15 +2,15 @@
 #![tactic(auto)]
 
 ghost use Rattle.std.specs.Prelude.{◌≡◌};
-ghost use Rattle.verify.specs.Answers.{refusal_of};
+ghost use Rattle.verify.specs.Answers.{unread_error, refusal_of};
+ghost use Rattle.verify.specs.declared.VbvVerifyError.TheVariants.{Model};
 ghost use Rattle.verify.specs.Mode.{plain as plain_of, has_modes, mode_fits};
 
 pub mod lent; // the check with records in a lent slice of structs
 mod records; // records as bytes
-mod recorder; // the records one by one
+mod recorder; // the walk over a stream's pictures
 mod report; // the check of a stream
 mod run; // one removal after another
-mod flow; // at a variable rate
 
 pub use crate::report::{check_in_mode, check_stream, verify_cbr_stream, verify_in_mode};
 pub use bits::{VbvRefusal, plain};
@@ -19,7 +19,8 @@ use pictures::Unread;
 pub use pictures::VbvStandard;
 use vbv::{RemovalInterval, VbvCbrModel, VbvError, VbvParams, VbvViolation};
 
-// What a stream is checked as, and a writer writes. Film and a variable rate are MPEG-2's alone.
+// What a stream is checked as, and a writer writes. Film and a variable rate are MPEG-2's alone: the flags can say what does not
+// exist, for `mode_fits` and refusal 12 speak of it.
 #[derive(Clone, Copy)]
 pub struct VbvMode {
     pub standard: VbvStandard,
@@ -31,7 +32,7 @@ pub struct VbvMode {
 pub const RECORD_BYTES: usize = 40;
 
 // One removal. Occupancy is in whole bits, just before it; the periods are the field periods up to the next removal.
-#[derive(Clone, Copy)]
+#[derive(Clone, Copy, PartialEq, Eq)]
 pub struct VbvPictureRecord {
     pub vbv_delay: u16,
     pub expected_delay: u16,
@@ -40,7 +41,7 @@ pub struct VbvPictureRecord {
     pub periods: u8,
 }
 
-#[derive(Clone, Copy)]
+#[derive(Clone, Copy, PartialEq, Eq)]
 pub struct VbvStreamReport {
     pub bit_rate: u64,
     pub buffer_size_bits: u64,
@@ -50,7 +51,7 @@ pub struct VbvStreamReport {
 }
 
 // Why a stream is refused.
-#[derive(Clone, Copy)]
+#[derive(Clone, Copy, PartialEq, Eq)]
 pub enum VbvVerifyError {
     // A header.
     Parse(Error),
@@ -68,12 +69,6 @@ pub enum VbvVerifyError {
     Violation(VbvViolation),
 }
 
-#[derive(Clone, Copy)]
-pub enum VbvVerified {
-    Report(VbvStreamReport),
-    Refused(VbvVerifyError),
-}
-
 // A picture as the model sees it: the end of its start code and the end of its data, in bits, its coded delay, and the
 // interval up to the next removal.
 #[derive(Clone, Copy)]
@@ -82,13 +77,6 @@ pub struct CodedPicture {
     pub end_bits: u64,
     pub vbv_delay: u16,
     pub interval: RemovalInterval,
-}
-
-// A removal: its record and the model after it, or why it is refused.
-#[derive(Drop)]
-enum Removed {
-    Recorded(VbvPictureRecord, VbvCbrModel),
-    Refused(VbvVerifyError),
 }
 
 // How far the model has come.
@@ -109,20 +97,12 @@ enum Progress {
     Stopped(VbvVerifyError),
 }
 
-// Before a removal: the least occupancy after one so far, the greatest before, and the model; or the progress that no removal
-// changes. The model comes last: an error lies over the first bytes, and numbers there would be taken apart for each picture.
+// What a walk over the pictures comes to: what the stream declares, the number of its pictures and how far the model came.
 #[derive(Drop)]
-enum BeforeRemoval {
-    Model(u64, u64, VbvCbrModel),
-    Stays(Progress),
-}
-
-// What a walk over the pictures comes to: why the stream's headers are refused, or what it declares, the number of
-// pictures and how far the model came.
-#[derive(Drop)]
-enum Walked {
-    Refused(Unread),
-    Read(VbvParams, usize, Progress),
+struct Walked {
+    params: VbvParams,
+    pictures: usize,
+    progress: Progress,
 }
 
 // Film and a variable rate.
@@ -130,10 +110,7 @@ enum Walked {
 fn has_modes(standard: VbvStandard) -> bool
     ensures { result ≡ has_modes standard }
 {
-    match standard {
-        VbvStandard::Mpeg1 => false,
-        VbvStandard::Mpeg2 => true,
-    }
+    matches!(standard, VbvStandard::Mpeg2)
 }
 
 impl VbvMode {
@@ -161,8 +138,30 @@ impl VbvMode {
     }
 }
 
+impl From<VbvError> for VbvVerifyError {
+    ghost from_gives = { λ error result. result ≡ Model error };
+
+    fn from(error: VbvError) -> VbvVerifyError {
+        VbvVerifyError::Model(error)
+    }
+}
+
+impl From<Unread> for VbvVerifyError {
+    ghost from_gives = { λ unread result. result ≡ unread_error unread };
+
+    #[tactic(auto, unfolding(crate::specs::Answers::unread_error))]
+    fn from(unread: Unread) -> VbvVerifyError {
+        match unread {
+            Unread::Parse(e) => VbvVerifyError::Parse(e),
+            Unread::Model(e) => VbvVerifyError::Model(e),
+            Unread::NoSequenceHeader => VbvVerifyError::NoSequenceHeader,
+            Unread::NoPictures => VbvVerifyError::NoPictures,
+        }
+    }
+}
+
 impl VbvVerifyError {
-    // Paper 01's number, and what the refusal carries (docs/REFUSALS.md).
+    // The number, and what the refusal carries (docs/REFUSALS.md), as C is given them: `From` would not say so.
     pub fn refusal(self) -> VbvRefusal
         ensures { result ≡ refusal_of self }
     {

@@ -1,52 +1,100 @@
-// One removal after another, and what the report needs of them.
-ghost use Rattle.std.specs.Prelude.{◌≡◌, ◌-◌, min, max};
-ghost use Rattle.vbv.specs.Model.{occupancy_before_removal};
-ghost use Rattle.vbv.specs.Steps.{bits_of};
+// One removal after another, at a constant or a variable rate, and what the report needs of them. The rate is a flag, as it is of
+// the definitions (specs/Check): a trait of both models would have each of the four functions that ask it twice.
+ghost use Rattle.std.specs.Prelude.{◌≡◌};
+ghost use Rattle.vbv.specs.Answers.{model_answer, removal_answer};
+ghost use Rattle.verify.specs.Answers.{verified_answer};
 ghost use Rattle.verify.specs.Run.{apart};
 ghost use Rattle.verify.specs.Coded.{coded_of};
-ghost use Rattle.verify.specs.Steps.{with_delays, recorded_if, removed_from, removed, progressed, first_removed, gone_on_from, advanced, gone_on};
+ghost use Rattle.verify.specs.Steps.{first_model, expected_at, occupancy_at, removed_at, delays_told, removal_error, removed, progressed, gone_on, gone_on_from, advanced};
 
-use crate::flow::flow_on;
-use crate::{BeforeRemoval, CodedPicture, Progress, Removed, VbvPictureRecord, VbvVerifyError};
+use crate::{CodedPicture, Progress, VbvPictureRecord, VbvVerifyError};
 use pictures::SeenPicture;
 use vbv::{
-    RemovalInterval, VbvBits, VbvCbrModel, VbvDelay, VbvModel, VbvParams, VbvRemoval, VbvViolation,
-    periods,
+    RemovalInterval, VbvCbrModel, VbvError, VbvParams, VbvRemovalError, VbvViolation, periods,
 };
-
-// The difference, or 0.
-fn less(a: u64, b: u64) -> u64
-    ensures { result ≡ a - b }
-{
-    if b < a { a - b } else { 0 }
-}
-
-fn least_of(a: u64, b: u64) -> u64
-    ensures { result ≡ min a b }
-{
-    if b < a { b } else { a }
-}
-
-fn greatest_of(a: u64, b: u64) -> u64
-    ensures { result ≡ max a b }
-{
-    if a < b { b } else { a }
-}
 
 // Whether two delays differ by more than one tick.
 #[tactic(auto, unfolding(crate::specs::Run::apart))]
 fn are_apart(coded: u16, expected: u16) -> bool
     ensures { result ≡ apart coded expected }
 {
-    let c = coded as u32;
-    let e = expected as u32;
-    (c + 1 < e) | (e + 1 < c)
+    1 < coded.abs_diff(expected)
+}
+
+// The model at the first removal. At a constant rate it starts with the coded delay, at a variable one with a full buffer.
+fn first_model(
+    params: VbvParams,
+    variable: bool,
+    coded: CodedPicture,
+) -> Result<VbvCbrModel, VbvVerifyError>
+    ensures { verified_answer result ≡ first_model variable params coded }
+{
+    if variable {
+        let model = vbr::new(params)?;
+        return Ok(vbr::start(model)?);
+    }
+    if coded.vbv_delay == 0xFFFF {
+        return Err(VbvVerifyError::VariableRate);
+    }
+    let model = VbvCbrModel::new(params)?;
+    Ok(model.start(coded.vbv_delay, coded.pos_bits)?)
+}
+
+// The expected delay, or 7, 8, 11, in this order. At a variable rate no time is expected.
+fn expected_delay(
+    model: VbvCbrModel,
+    variable: bool,
+    coded: CodedPicture,
+) -> Result<u16, VbvVerifyError>
+    ensures { verified_answer result ≡ expected_at variable model coded }
+{
+    if variable {
+        return Ok(0xFFFF);
+    }
+    let expected = model.delay_for_picture(coded.pos_bits)?;
+    if are_apart(coded.vbv_delay, expected) {
+        return Err(VbvVerifyError::Violation(VbvViolation::DelayMismatch {
+            picture: model.removed,
+            coded: coded.vbv_delay,
+            expected,
+        }));
+    }
+    Ok(expected)
+}
+
+// The occupancy just before the removal, by the model of such a rate.
+#[tactic(auto, unfolding(crate::specs::Steps::occupancy_at))]
+fn occupancy_before(model: VbvCbrModel, variable: bool) -> Result<u64, VbvError>
+    ensures { model_answer result ≡ occupancy_at variable model }
+{
+    if variable {
+        vbr::occupancy_before_removal_bits(model)
+    } else {
+        model.occupancy_before_removal_bits()
+    }
+}
+
+// The model after the removal.
+#[tactic(auto, unfolding(crate::specs::Steps::removed_at))]
+fn model_after(
+    model: VbvCbrModel,
+    variable: bool,
+    coded: CodedPicture,
+) -> Result<VbvCbrModel, VbvRemovalError>
+    ensures { removal_answer result ≡ removed_at variable model coded }
+{
+    let interval = coded.interval;
+    if variable {
+        vbr::remove_picture(model, coded.end_bits, interval)
+    } else {
+        model.remove_picture(coded.end_bits, interval)
+    }
 }
 
 // A violation with the delays that the model does not know.
-#[tactic(auto, unfolding(crate::specs::Steps::with_delays))]
-fn with_delays(violation: VbvViolation, coded: u16, expected: u16) -> VbvViolation
-    ensures { result ≡ with_delays coded expected violation }
+#[tactic(auto, unfolding(crate::specs::Steps::delays_told))]
+fn delays_told(violation: VbvViolation, coded: u16, expected: u16) -> VbvViolation
+    ensures { result ≡ delays_told coded expected violation }
 {
     match violation {
         VbvViolation::Overflow {
@@ -79,125 +127,67 @@ fn with_delays(violation: VbvViolation, coded: u16, expected: u16) -> VbvViolati
     }
 }
 
-// The record of a removal, and the model after it.
-#[tactic(auto, unfolding(crate::specs::Steps::recorded_if))]
-pub(crate) fn recorded(
+// Why a removal is refused, among the refusals of the check.
+#[tactic(auto, unfolding(crate::specs::Steps::removal_error))]
+fn removal_error(error: VbvRemovalError, coded: u16, expected: u16) -> VbvVerifyError
+    ensures { result ≡ removal_error coded expected error }
+{
+    match error {
+        VbvRemovalError::Model(error) => VbvVerifyError::Model(error),
+        VbvRemovalError::Violation(violation) => {
+            VbvVerifyError::Violation(delays_told(violation, coded, expected))
+        }
+    }
+}
+
+// The record of a removal, and the model after it; or the first refusal: 7, 8, 11, 9, 10 at a constant rate, 10 at a variable one.
+fn remove(
     model: VbvCbrModel,
+    variable: bool,
     coded: CodedPicture,
-    expected: u16,
-    before: u64,
-    removal: VbvRemoval,
-) -> Removed
-    ensures { result ≡ recorded_if model coded expected before removal }
+) -> Result<(VbvPictureRecord, VbvCbrModel), VbvVerifyError>
+    ensures { verified_answer result ≡ removed variable model coded }
 {
-    let interval = coded.interval;
-    match removal {
-        VbvRemoval::Refused(error) => Removed::Refused(VbvVerifyError::Model(error)),
-        VbvRemoval::Violation(violation) => Removed::Refused(VbvVerifyError::Violation(with_delays(
-            violation,
-            coded.vbv_delay,
-            expected,
-        ))),
-        VbvRemoval::Model(next) => Removed::Recorded(
-            VbvPictureRecord {
-                vbv_delay: coded.vbv_delay,
-                expected_delay: expected,
-                data_bits: less(coded.end_bits, model.prev_end_bits),
-                occupancy_before_bits: before,
-                periods: periods(interval),
-            },
-            next,
-        ),
-    }
-}
-
-// Removes a picture whose coded delay agrees with the expected one.
-fn remove_expected(model: VbvCbrModel, coded: CodedPicture, expected: u16) -> Removed
-    ensures { result ≡ removed_from model coded expected (bits_of (occupancy_before_removal model)) }
-{
-    match model.occupancy_before_removal_bits() {
-        VbvBits::Refused(error) => Removed::Refused(VbvVerifyError::Model(error)),
-        VbvBits::Bits(before) => {
+    let expected = expected_delay(model, variable, coded)?;
+    let before = occupancy_before(model, variable)?;
+    match model_after(model, variable, coded) {
+        Ok(next) => {
             let interval = coded.interval;
-            let removal = model.remove_picture(coded.end_bits, interval);
-            recorded(model, coded, expected, before, removal)
+            Ok((
+                VbvPictureRecord {
+                    vbv_delay: coded.vbv_delay,
+                    expected_delay: expected,
+                    data_bits: coded.end_bits.saturating_sub(model.prev_end_bits),
+                    occupancy_before_bits: before,
+                    periods: periods(interval),
+                },
+                next,
+            ))
         }
-    }
-}
-
-// Refused by 7, 8, 11, 9, 10, in this order, or recorded.
-fn remove(model: VbvCbrModel, coded: CodedPicture) -> Removed
-    ensures { result ≡ removed model coded }
-{
-    match model.delay_for_picture(coded.pos_bits) {
-        VbvDelay::Refused(error) => Removed::Refused(VbvVerifyError::Model(error)),
-        VbvDelay::Delay(expected) => {
-            if are_apart(coded.vbv_delay, expected) {
-                return Removed::Refused(VbvVerifyError::Violation(VbvViolation::DelayMismatch {
-                    picture: model.removed,
-                    coded: coded.vbv_delay,
-                    expected,
-                }));
-            }
-            remove_expected(model, coded, expected)
-        }
+        Err(error) => Err(removal_error(error, coded.vbv_delay, expected)),
     }
 }
 
 // The progress after a removal.
 #[tactic(auto, unfolding(crate::specs::Steps::progressed, crate::specs::Run::occupancy_after))]
-pub(crate) fn go_on(removed: Removed, least: u64, greatest: u64) -> Progress
-    ensures { result ≡ progressed least greatest «removed» }
+fn go_on(
+    removal: Result<(VbvPictureRecord, VbvCbrModel), VbvVerifyError>,
+    least: u64,
+    greatest: u64,
+) -> Progress
+    ensures { result ≡ progressed least greatest removal }
 {
-    match removed {
-        Removed::Recorded(last, model) => {
+    match removal {
+        Ok((last, model)) => {
             let before = last.occupancy_before_bits;
             Progress::Running {
                 model,
                 last,
-                least: least_of(least, less(before, last.data_bits)),
-                greatest: greatest_of(greatest, before),
+                least: least.min(before.saturating_sub(last.data_bits)),
+                greatest: greatest.max(before),
             }
         }
-        Removed::Refused(error) => Progress::Stopped(error),
-    }
-}
-
-// Before the first removal. No occupancy is above B.
-fn begin(params: VbvParams, coded: CodedPicture) -> BeforeRemoval
-    ensures { gone_on coded result ≡ first_removed params coded }
-{
-    if coded.vbv_delay == 0xFFFF {
-        return BeforeRemoval::Stays(Progress::Unmodelled(VbvVerifyError::VariableRate));
-    }
-    match VbvCbrModel::new(params) {
-        VbvModel::Refused(unfit) => BeforeRemoval::Stays(Progress::Unmodelled(VbvVerifyError::Model(
-            unfit,
-        ))),
-        VbvModel::Model(model) => match model.start(coded.vbv_delay, coded.pos_bits) {
-            VbvModel::Refused(error) => {
-                BeforeRemoval::Stays(Progress::Unmodelled(VbvVerifyError::Model(error)))
-            }
-            VbvModel::Model(started) => BeforeRemoval::Model(params.buffer_size_bits, 0, started),
-        },
-    }
-}
-
-// Before a picture's removal.
-#[tactic(auto, unfolding(crate::specs::Steps::gone_on_from, crate::specs::Steps::gone_on))]
-fn before_removal(progress: Progress, params: VbvParams, coded: CodedPicture) -> BeforeRemoval
-    ensures { gone_on coded result ≡ gone_on_from params progress coded }
-{
-    match progress {
-        Progress::Fresh => begin(params, coded),
-        Progress::Unmodelled(error) => BeforeRemoval::Stays(Progress::Unmodelled(error)),
-        Progress::Running {
-            model,
-            last: _,
-            least,
-            greatest,
-        } => BeforeRemoval::Model(least, greatest, model),
-        Progress::Stopped(error) => BeforeRemoval::Stays(Progress::Stopped(error)),
+        Err(error) => Progress::Stopped(error),
     }
 }
 
@@ -213,8 +203,34 @@ fn coded_picture(interval: RemovalInterval, seen: SeenPicture) -> CodedPicture
     }
 }
 
-// The progress after one more picture.
-#[tactic(auto, unfolding(crate::specs::Steps::advanced, crate::specs::Steps::gone_on))]
+// Before a removal: the least occupancy after one so far, the greatest before, and the model; or the progress that no removal
+// changes. No occupancy is above B.
+fn before_removal(
+    progress: Progress,
+    params: VbvParams,
+    variable: bool,
+    coded: CodedPicture,
+) -> Result<(u64, u64, VbvCbrModel), Progress>
+    ensures { gone_on variable coded result ≡ gone_on_from variable params progress coded }
+{
+    match progress {
+        Progress::Fresh => match first_model(params, variable, coded) {
+            Ok(model) => Ok((params.buffer_size_bits, 0, model)),
+            Err(error) => Err(Progress::Unmodelled(error)),
+        },
+        Progress::Running {
+            model,
+            last: _,
+            least,
+            greatest,
+        } => Ok((least, greatest, model)),
+        Progress::Unmodelled(error) => Err(Progress::Unmodelled(error)),
+        Progress::Stopped(error) => Err(Progress::Stopped(error)),
+    }
+}
+
+// The progress after one more picture. At a variable rate another delay than 0xFFFF comes before all that was found so far.
+#[tactic(auto, unfolding(crate::specs::Steps::advanced, bits::specs::Bits::pick))]
 pub(crate) fn advance(
     progress: Progress,
     params: VbvParams,
@@ -225,15 +241,11 @@ pub(crate) fn advance(
     ensures { result ≡ advanced variable params progress (coded_of interval seen) }
 {
     let coded = coded_picture(interval, seen);
-    if variable {
-        return flow_on(progress, params, coded);
+    if variable & (coded.vbv_delay != 0xFFFF) {
+        return Progress::Unmodelled(VbvVerifyError::ConstantRate);
     }
-    match before_removal(progress, params, coded) {
-        BeforeRemoval::Model(least, greatest, model) => go_on(
-            remove(model, coded),
-            least,
-            greatest,
-        ),
-        BeforeRemoval::Stays(stays) => stays,
+    match before_removal(progress, params, variable, coded) {
+        Ok((least, greatest, model)) => go_on(remove(model, variable, coded), least, greatest),
+        Err(stays) => stays,
     }
 }

@@ -1,7 +1,7 @@
 -- Words stored byte by byte and one after another; bytes laid over a place, and what they leave.
 -- Assumes nothing.
-use mathlib.Core.Path.{◌≡◌, refl, sym, ◌∙◌}
-use Prim.Native.Nat.{ℕ, zero, suc, ◌+◌, ◌-◌, ◌*◌, ◌/◌, ◌%◌, ◌≤◌, ◌<◌}
+use mathlib.Core.Path.{◌≡◌, refl, sym, ap, ◌∙◌}
+use Prim.Native.Nat.{ℕ, zero, suc, ◌+◌, ◌-◌, ◌*◌, ◌/◌, ◌%◌, ◌^◌, ◌≤◌, ◌<◌}
 use mathlib.Core.List.{List, ◌++◌, append_assoc, append-nil}
 use native.Mathlib.Omega.{arith}
 use native.Mathlib.Decide.{dec_le}
@@ -9,23 +9,35 @@ use native.Mathlib.Numerals.{add-one}
 use lib.ListN.{length, get_or, set, take, drop, length-drop, drop_of_length-le}
 use lib.Seq.{sets, sets-eq, drop-cons, drop-drop, take_all}
 use borrow.Author.Tests.{le-leb, lt-leb}
+use borrow.Rule.Slice.PartMut.{put_mid}
+use Rattle.std.specs.Int.{w64, byte_at, bytes_low_first, to_le_bytes}
+use native.Mathlib.Nat.{pow-suc, pow-zero, div-one, div-div-eq-div-mul}
 use Rattle.bits.specs.Bits.{pick}
 use Rattle.bits.specs.Answers.{over}
 use Rattle.bits.proofs.Over.{over_is, over-drop, over-length, over_sets, sets_append}
 use Rattle.words.specs.Words.{low_first, words_bytes, laid}
 use Rattle.words.proofs.Bytes.{length-low, length_words}
 
--- a byte of a word
-pub word_step : (out : List ℕ) (k rest left : ℕ) → 0 < left
-    → sets (set out k (rest % 256)) (k + 1) (low_first (left - 1) (rest / 256)) ≡ sets out k (low_first left rest)
-unfolding low_first
-word_step out k rest zero h = absurd (omega arith)
-word_step out k rest (suc left) h = let e : suc left - 1 ≡ left = omega arith in rw (e, add-one k)
+-- the library's bytes of a number are the same
+byte_is : (i v : ℕ) → byte_at i v ≡ v / 256 ^ i % 256
+byte_is zero v = omega (arith, pow-zero 256)
+byte_is (suc i) v = refl
 
-pub word_end : (out : List ℕ) (k rest left : ℕ) → left ≤ 0 → sets out k (low_first left rest) ≡ out
+low_from_byte : (n i v : ℕ) → bytes_low_first i n v ≡ low_first n (v / 256 ^ i)
 unfolding low_first
-word_end out k rest zero h = refl
-word_end out k rest (suc left) h = absurd (omega arith)
+low_from_byte zero i v = refl
+low_from_byte (suc n) i v = rw (byte_is i v, low_from_byte n (suc i) v, pow-suc 256 i, div-div-eq-div-mul v (256 ^ i) 256)
+
+pub le_low : (v : ℕ) → to_le_bytes w64 v ≡ low_first 8 v
+le_low v = low_from_byte 8 0 v ∙ ap (low_first 8) (div-one v)
+
+-- a word stored in a part of a place
+pub word_stored : {ys : List ℕ} (out : List ℕ) (at n v : ℕ) → n ≡ 8 → at + 8 ≤ length out → ys ≡ to_le_bytes w64 v
+    → put_mid at n out ys ≡ sets out at (low_first 8 v)
+word_stored out at n v m h e =
+    let l : at + length (low_first 8 v) ≤ length out = omega (arith, length-low 8 v) in
+    rw (e ∙ le_low v, m, drop-drop 8 at out)
+    (sym (rw (length-low 8 v) at (sets-eq (low_first 8 v) out at l) ∙ append_assoc (take at out) (low_first 8 v) (drop (at + 8) out)))
 
 -- a word, and those after it
 pub words_step : (out ws : List ℕ) (k : ℕ) → k < length ws

@@ -1,83 +1,73 @@
--- A word read: at once from its halves, and from its high byte down.
+-- A word read: whole, or cut by the place's end.
 -- Assumes nothing.
-use mathlib.Core.Path.{◌≡◌, refl}
+use mathlib.Core.Path.{◌≡◌, refl, sym, ap, ◌∙◌}
 use Prim.Native.Nat.{ℕ, zero, suc, ◌+◌, ◌-◌, ◌*◌, ◌/◌, ◌^◌, ◌≤◌, ◌<◌}
-use mathlib.Core.List.{List}
+use mathlib.Core.List.{List, [], ◌∷◌, ◌++◌}
 use native.Mathlib.Omega.{arith}
-use native.Mathlib.Nat.{add-zero, pow-zero, pow-le-pow_right}
-use native.Mathlib.Numerals.{add-one}
-use lib.ListN.{length, get_or, take, drop, drop_of_length-le}
-use lib.Seq.{drop-cons, take-nil}
+use native.Mathlib.Nat.{pow-suc, mul_assoc, mul_comm}
+use lib.ListN.{length, get_or, take, drop, replicate, drop_of_length-le, length-append, length-drop}
+use lib.Seq.{take-suc, take_all, drop-drop, length-take-le}
+use Rattle.std.specs.Int.{w64, byte_worth, sum_through, from_le_bytes}
+use Rattle.std.specs.Simd.{first_chunks}
 use Rattle.words.specs.Words.{from_low, word_at}
 
--- ---- from its low byte up
+-- one more byte at the end
+worth_more : (k b : ℕ) → 256 * byte_worth k b ≡ byte_worth (suc k) b
+worth_more zero b = omega arith
+worth_more (suc k) b = rw (pow-suc 256 (suc k), ← mul_assoc b (256 ^ suc k) 256) (omega arith)
 
-low_step : (s : List ℕ) (i n : ℕ) → i < length s → from_low (take (suc n) (drop i s)) ≡ get_or s i 0 + 256 * from_low (take n (drop (i + 1) s))
+low_snoc : (bs : List ℕ) (b : ℕ) → from_low (bs ++ (b ∷ [])) ≡ from_low bs + byte_worth (length bs) b
 unfolding from_low
-low_step s i n h = rw (drop-cons s i 0 h, add-one i)
+low_snoc [] b = omega arith
+low_snoc (a ∷ bs) b = rw (low_snoc bs b) (omega (arith, worth_more (length bs) b))
 
--- four bytes, and those after them
-pub four_more : (s : List ℕ) (i n : ℕ) → i + 4 ≤ length s
-    → from_low (take (4 + n) (drop i s))
-    ≡ get_or s i 0 + 256 * get_or s (i + 1) 0 + 65536 * get_or s (i + 2) 0 + 16777216 * get_or s (i + 3) 0 + 4294967296 * from_low (take n (drop (i + 4) s))
-four_more s i n h =
-    let e2 : i + 1 + 1 ≡ i + 2 = omega arith in
-    let e3 : i + 2 + 1 ≡ i + 3 = omega arith in
-    let e4 : i + 3 + 1 ≡ i + 4 = omega arith in
-    let e : 4 + n ≡ suc (suc (suc (suc n))) = omega arith in
-    rw (e, low_step s i (suc (suc (suc n))) (omega arith), low_step s (i + 1) (suc (suc n)) (omega arith), e2, low_step s (i + 2) (suc n) (omega arith), e3, low_step s (i + 3) n (omega arith), e4)
-    (omega arith)
-
--- four alone
-pub four_sum : (s : List ℕ) (i a b c d : ℕ) → i + 4 ≤ length s → a ≡ get_or s i 0 → b ≡ get_or s (i + 1) 0 → c ≡ get_or s (i + 2) 0 → d ≡ get_or s (i + 3) 0
-    → a + 256 * b + 65536 * c + 16777216 * d ≡ from_low (take 4 (drop i s))
+-- the library's number is the same
+through : (bs : List ℕ) (n : ℕ) → n < length bs → sum_through (λ i. byte_worth i (get_or bs i 0)) n ≡ from_low (take (suc n) bs)
 unfolding from_low
-four_sum s i a b c d h p q r t = omega (arith, four_more s i 0 h)
+through bs zero h = rw (take-suc bs 0 0 h) (omega arith)
+through bs (suc n) h =
+    rw (through bs n (omega arith), take-suc bs (suc n) 0 h, low_snoc (take (suc n) bs), length-take-le (suc n) bs (omega arith))
 
--- four and four
-pub word_halves : (s : List ℕ) (k l u : ℕ) → 8 * k + 8 ≤ length s → l ≡ from_low (take 4 (drop (8 * k) s)) → u ≡ from_low (take 4 (drop (8 * k + 4) s))
-    → l + 4294967296 * u ≡ word_at s k
+low_le : (bs : List ℕ) → length bs ≡ 8 → from_le_bytes w64 bs ≡ from_low bs
+low_le bs h = through bs 7 (omega arith) ∙ ap from_low (take_all 8 bs (omega arith))
+
+-- a word that is whole
+chunk_at : (s : List ℕ) (n k : ℕ) → k < n → get_or (first_chunks 8 n s) k [] ≡ take 8 (drop (8 * k) s)
+chunk_at s zero k h = absurd (omega arith)
+chunk_at s (suc n) zero h = refl
+chunk_at s (suc n) (suc k) h =
+    let e : 8 * suc k ≡ 8 + 8 * k = omega arith in
+    chunk_at (drop 8 s) n k (omega arith) ∙ rw (e, drop-drop (8 * k) 8 s)
+
+pub word_whole : (s : List ℕ) (k : ℕ) {ws : List (List ℕ)} {v : ℕ} → ws ≡ first_chunks 8 (length s / 8) s → k < length s / 8
+    → v ≡ from_le_bytes w64 (get_or ws k []) → v ≡ word_at s k
 unfolding word_at
-word_halves s k l u h e f = omega (arith, four_sum s (8 * k) _ _ _ _ (omega arith) refl refl refl refl, four_more s (8 * k) 4 (omega arith))
+word_whole s k e h f =
+    let l = length-take-le 8 (drop (8 * k) s) (omega (arith, length-drop (8 * k) s)) in
+    f ∙ rw (e, chunk_at s (length s / 8) k h) (low_le _ l)
 
--- ---- from its high byte down
-
--- the bytes from place `left` of a word on, as a number
-abbrev pub high_part : List ℕ → ℕ → ℕ → ℕ
-high_part s at left = from_low (take (8 - left) (drop (at + left) s))
-
-pub high_past : (s : List ℕ) (at left : ℕ) → at + left ≡ length s → 0 ≡ high_part s at left
+-- a word that the place ends in
+low_append : (bs cs : List ℕ) → from_low cs ≡ 0 → from_low (bs ++ cs) ≡ from_low bs
 unfolding from_low
-high_past s at left e = rw (drop_of_length-le s {i = at + left} (omega arith), take-nil {A = ℕ} (8 - left))
+low_append [] cs e = e
+low_append (b ∷ bs) cs e = rw (low_append bs cs e)
 
--- the next byte down
-pub high-step : (s : List ℕ) (at left v b : ℕ) → 0 < left → left ≤ 8 → at + left ≤ length s → v ≡ high_part s at left
-    → b ≡ get_or s (at + (left - 1)) 0 → v * 256 + b ≡ high_part s at (left - 1)
-high-step s at zero v b h l m e f = absurd (omega arith)
-high-step s at (suc n) v b h l m e f =
-    let a : suc n - 1 ≡ n = omega arith in
-    let g : 8 - n ≡ suc (8 - suc n) = omega arith in
-    let d : at + n + 1 ≡ at + suc n = omega arith in
-    rw (e, f, a, g, low_step s (at + n) (8 - suc n) (omega arith), d) (omega arith)
+low_zeros : (j n : ℕ) → from_low (drop j (replicate n 0)) ≡ 0
+unfolding from_low
+low_zeros zero zero = refl
+low_zeros zero (suc n) = rw (low_zeros zero n)
+low_zeros (suc j) zero = refl
+low_zeros (suc j) (suc n) = low_zeros j n
 
-pub high_all : (s : List ℕ) (k v left : ℕ) → left ≤ 0 → v ≡ high_part s (8 * k) left → v ≡ word_at s k
+pub word_cut : (s : List ℕ) (k : ℕ) {rest first : List ℕ} {v : ℕ} → k ≡ length s / 8 → rest ≡ drop (length s / 8 * 8) s
+    → first ≡ rest → v ≡ from_le_bytes w64 (first ++ drop (length rest) (replicate 8 0)) → v ≡ word_at s k
 unfolding word_at
-high_all s k v zero h e = rw (add-zero (8 * k)) at (e)
-high_all s k v (suc n) h e = absurd (omega arith)
-
--- its size
-pub size_none : (n : ℕ) → 0 < 256 ^ n
-size_none n = omega (arith, pow-zero 256, pow-le-pow_right {n = 256} (omega arith) {i = 0} {j = n} (omega arith))
-
-pub size_step : (v b left : ℕ) → 0 < left → left ≤ 8 → v < 256 ^ (8 - left) → b < 256 → v * 256 + b < 256 ^ (8 - (left - 1))
-size_step v b zero h l e f = absurd (omega arith)
-size_step v b (suc n) h l e f =
-    let a : suc n - 1 ≡ n = omega arith in
-    let d : 8 - n ≡ suc (8 - suc n) = omega arith in
-    rw (a, d) (omega arith)
-
-pub size_most : (v left : ℕ) → 0 < left → left ≤ 8 → v < 256 ^ (8 - left) → v < 256 ^ 7
-size_most v left h l e = omega (arith, pow-le-pow_right {n = 256} (omega arith) {i = 8 - left} {j = 7} (omega arith))
+word_cut s k {rest} {first} e d b f =
+    let a : 8 * k ≡ length s / 8 * 8 = omega arith in
+    let l : length rest < 8 = rw d (omega (arith, length-drop (length s / 8 * 8) s)) in
+    let n : length (rest ++ drop (length rest) (replicate 8 0)) ≡ 8 =
+    omega (arith, length-append rest (drop (length rest) (replicate 8 0)), length-drop {A = ℕ} (length rest) (replicate 8 0)) in
+    f ∙ rw (b, a, ← d, take_all 8 rest (omega arith)) (low_le _ n ∙ low_append rest _ (low_zeros (length rest) 8))
 
 -- no byte of it is there
 pub word_past : (s : List ℕ) (k : ℕ) → length s / 8 < k → 0 ≡ word_at s k

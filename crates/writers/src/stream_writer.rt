@@ -4,20 +4,18 @@ ghost use Rattle.bits.specs.Bits.{bit_list, append_bits};
 ghost use Rattle.bits.specs.Fields.{field_bits, write_header, fits_all, total};
 ghost use Rattle.bits.specs.Answers.{over, write_answer, write_result};
 ghost use Rattle.bits.specs.StartCodes.{start_code, sequence_header_code, extension_start_code};
-ghost use Rattle.headers.specs.Answers.{written_answer};
+ghost use Rattle.headers.specs.Answers.{header_answer};
 ghost use Rattle.headers.specs.QuantMatrix.{matrix_fields, matrix_values};
 ghost use Rattle.headers.specs.SequenceHeader.{sequence_header_fields};
 ghost use Rattle.headers.specs.SequenceExtension.{sequence_extension_fields, extension_values, chroma_code};
 ghost use Rattle.headers.specs.StreamWriter.{params_fields, base_values, params_values, profile_and_level, plain_extension};
 
-use crate::{answered, flag, matrix_bytes};
-use bits::Checked;
 use bits::start_codes::{EXTENSION_START, SEQUENCE_HEADER};
-use headers::quant_matrix_extension::QuantiserMatrix;
+use headers::Error;
+use headers::quant_matrix_extension::matrix_bytes;
 use headers::sequence_extension::{ChromaFormat, SEQUENCE_EXTENSION_TABLE};
 use headers::sequence_header::SEQUENCE_HEADER_TABLE;
 use headers::stream_writer::SequenceHeaderParams;
-use headers::{Error, Written};
 
 // Writes 64 bytes from bit `at` on.
 fn append_bytes(out: &mut [u8], at: usize, bytes: [u8; 64])
@@ -25,48 +23,43 @@ fn append_bytes(out: &mut [u8], at: usize, bytes: [u8; 64])
     requires at_bound_2 { at + 512 ≤ 8 * length out.old }
     ensures { out.new ≡ append_bits out.old at (bit_list bytes) }
 {
-    let mut k: usize = 0;
-    while k < 64 {
-        let b = bytes[k];
-        bits::append_bits(out, at + 8 * k, 8, b as u32);
-        k += 1;
+    for (k, byte) in bytes.iter().enumerate() {
+        bits::append_bits(out, at + 8 * k, 8, u32::from(*byte));
     }
 }
 
-// Writes a matrix's load flag at bit `at` and, where it is set, the matrix; the bit after it is the answer.
-fn append_matrix(out: &mut [u8], at: usize, matrix: QuantiserMatrix) -> usize
+// Writes a matrix's load flag at bit `at` and, where there is one, the matrix; the bit after it is the answer.
+fn append_matrix(out: &mut [u8], at: usize, matrix: Option<[u8; 64]>) -> usize
     requires at_bound { at ≤ 607 }
     requires matrix_bound { at + total (matrix_fields matrix) ≤ 8 * length out.old }
     ensures value { result ≡ at + total (matrix_fields matrix) }
     ensures out_after { out.new ≡ append_bits out.old at (field_bits (matrix_fields matrix) (matrix_values matrix)) }
 {
-    let load = matrix.load;
-    bits::append_bits(out, at, 1, flag(load));
-    if load {
-        let bytes = matrix.bytes;
-        append_bytes(out, at + 1, bytes);
-        return at + 513;
+    match matrix {
+        None => {
+            bits::append_bits(out, at, 1, 0);
+            at + 1
+        }
+        Some(bytes) => {
+            bits::append_bits(out, at, 1, 1);
+            append_bytes(out, at + 1, bytes);
+            at + 513
+        }
     }
-    at + 1
 }
 
 // The values of the fields before the matrices.
 fn base_values(p: SequenceHeaderParams) -> [u32; 8]
     ensures { result ≡ base_values p }
 {
-    let horizontal_size = p.horizontal_size as u32;
-    let vertical_size = p.vertical_size as u32;
-    let aspect_ratio_code = p.aspect_ratio_code as u32;
-    let frame_rate_code = p.frame_rate_code as u32;
-    let vbv_buffer_size_value = p.vbv_buffer_size_value as u32;
     [
-        horizontal_size,
-        vertical_size,
-        aspect_ratio_code,
-        frame_rate_code,
+        u32::from(p.horizontal_size),
+        u32::from(p.vertical_size),
+        u32::from(p.aspect_ratio_code),
+        u32::from(p.frame_rate_code),
         p.bit_rate_value,
         1,
-        vbv_buffer_size_value,
+        u32::from(p.vbv_buffer_size_value),
         0,
     ]
 }
@@ -78,31 +71,28 @@ fn put_header(out: &mut [u8], p: SequenceHeaderParams)
     ensures { out.new ≡ over (write_header (start_code sequence_header_code) (params_fields p) (params_values p)) out.old }
 {
     let values = base_values(p);
-    bits::write_header(out, SEQUENCE_HEADER, &SEQUENCE_HEADER_TABLE, &values);
-    let intra = p.intra_quantiser_matrix;
-    let non_intra = p.non_intra_quantiser_matrix;
-    let follows = append_matrix(out, 94, intra);
-    append_matrix(out, follows, non_intra);
+    let _ = bits::write_header(out, SEQUENCE_HEADER, &SEQUENCE_HEADER_TABLE, &values);
+    let follows = append_matrix(out, 94, p.intra_quantiser_matrix);
+    append_matrix(out, follows, p.non_intra_quantiser_matrix);
 }
 
-// Writes the header into the first bytes of out; a matrix stands in it where its flag is set.
-pub fn write_sequence_header(out: &mut [u8], p: SequenceHeaderParams) -> Written
-    ensures result_value { written_answer result ≡ write_answer (start_code sequence_header_code) (params_fields p) (params_values p) out.old }
+// Writes the header into the first bytes of out; a matrix stands in it where there is one.
+pub fn write_sequence_header(out: &mut [u8], p: SequenceHeaderParams) -> Result<usize, Error>
+    ensures result_value { header_answer result ≡ write_answer (start_code sequence_header_code) (params_fields p) (params_values p) out.old }
     ensures out_after { out.new ≡ write_result (start_code sequence_header_code) (params_fields p) (params_values p) out.old }
 {
     let values = base_values(p);
-    let checked = bits::check_fields(&SEQUENCE_HEADER_TABLE, &values);
-    let Checked::Width(_) = checked else {
-        return Written::Refused(Error::FieldToWrite);
+    let Some(_) = bits::check_fields(&SEQUENCE_HEADER_TABLE, &values) else {
+        return Err(Error::FieldToWrite);
     };
-    let intra = p.intra_quantiser_matrix;
-    let non_intra = p.non_intra_quantiser_matrix;
-    let bytes = 12 + matrix_bytes(intra.load) + matrix_bytes(non_intra.load);
+    let bytes = 12
+        + matrix_bytes(p.intra_quantiser_matrix)
+        + matrix_bytes(p.non_intra_quantiser_matrix);
     if out.len() < bytes {
-        return Written::Refused(Error::ShortOutput);
+        return Err(Error::ShortOutput);
     }
     put_header(out, p);
-    Written::Bytes(bytes)
+    Ok(bytes)
 }
 
 fn chroma_format_code(chroma: ChromaFormat) -> u32
@@ -130,11 +120,10 @@ pub fn profile_and_level_indication(chroma: ChromaFormat) -> u8
 fn extension_values(chroma: ChromaFormat, progressive: bool) -> [u32; 12]
     ensures { result ≡ extension_values (plain_extension chroma progressive) }
 {
-    let profile_and_level = profile_and_level_indication(chroma) as u32;
     [
         1,
-        profile_and_level,
-        flag(progressive),
+        u32::from(profile_and_level_indication(chroma)),
+        u32::from(progressive),
         chroma_format_code(chroma),
         0,
         0,
@@ -148,10 +137,14 @@ fn extension_values(chroma: ChromaFormat, progressive: bool) -> [u32; 12]
 }
 
 // Writes the extension, with all size, rate and buffer extensions 0, into the first bytes of out.
-pub fn write_sequence_extension(out: &mut [u8], chroma: ChromaFormat, progressive: bool) -> Written
-    ensures result_value { written_answer result ≡ write_answer (start_code extension_start_code) sequence_extension_fields (extension_values (plain_extension chroma progressive)) out.old }
+pub fn write_sequence_extension(
+    out: &mut [u8],
+    chroma: ChromaFormat,
+    progressive: bool,
+) -> Result<usize, Error>
+    ensures result_value { header_answer result ≡ write_answer (start_code extension_start_code) sequence_extension_fields (extension_values (plain_extension chroma progressive)) out.old }
     ensures out_after { out.new ≡ write_result (start_code extension_start_code) sequence_extension_fields (extension_values (plain_extension chroma progressive)) out.old }
 {
     let values = extension_values(chroma, progressive);
-    answered(bits::write_header(out, EXTENSION_START, &SEQUENCE_EXTENSION_TABLE, &values))
+    Ok(bits::write_header(out, EXTENSION_START, &SEQUENCE_EXTENSION_TABLE, &values)?)
 }

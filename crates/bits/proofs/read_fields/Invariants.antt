@@ -1,9 +1,5 @@
-use Prim.Native.Nat.{◌-◌}
 use Rattle.bits.proofs.ReadLoop.{FieldsReading}
 use Rattle.bits.proofs.read_fields.Given as goal
 
 abbrev pub invariant-loop-k : goal.invariant-loop-k
-invariant-loop-k l = FieldsReading l.table l.s l.start l.n l.values l.k l.at
-
-abbrev pub decreases-loop-k : goal.decreases-loop-k
-decreases-loop-k l = l.n - l.k
+invariant-loop-k l = FieldsReading l.table l.s l.start l.values l.k l.at

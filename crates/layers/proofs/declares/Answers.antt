@@ -1,10 +1,11 @@
+use mathlib.Core.Path.{sym, ap, ◌∙◌}
 use Rattle.layers.specs.Headers.{declares}
 use Rattle.layers.proofs.declares.Goals as goal
 
-pub returns-in-Params : goal.returns-in-Params
+pub returns-in-Ok : goal.returns-in-Ok
 unfolding declares
-returns-in-Params c = rw (← c.declared_by.ensures, c.in-Params.is) c.same.ensures
+returns-in-Ok c = rw (← c.declared_by.ensures, c.in-Ok.is) c.same.ensures
 
-pub returns-in-Refused : goal.returns-in-Refused
+pub returns-in-Err : goal.returns-in-Err
 unfolding declares
-returns-in-Refused c = rw (← c.declared_by.ensures, c.in-Refused.is)
+returns-in-Err c = rw (← c.declared_by.ensures, c.in-Err.is)

@@ -1,11 +1,8 @@
-use Rattle.scan.proofs.Prefix.{ends-few}
-use Rattle.layers.proofs.Ways.{ends_by}
 use mathlib.Core.Path.{◌∙◌}
-use native.Mathlib.Omega.{arith}
+use Rattle.bits.proofs.Starting.{same_pointwise}
+use Rattle.scan.specs.Codes.{ends_prefix}
 use Rattle.layers.proofs.ends_prefix.Goals as goal
 
-pub returns-then-s-lt3 : goal.returns-then-s-lt3
-returns-then-s-lt3 c = ends-few _ (omega arith)
-
 pub returns : goal.returns
-returns c = c.prefix_at.ensures ∙ ends_by _ (omega arith)
+unfolding ends_prefix
+returns c = c.ends_with.ensures.value ∙ same_pointwise _ _

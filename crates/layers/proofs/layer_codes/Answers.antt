@@ -1,14 +1,14 @@
-use Rattle.layers.proofs.Ways.{layer-none, layer-some}
-use Rattle.scan.proofs.Walk.{code_seen}
-use native.Mathlib.Omega.{arith}
 use mathlib.Core.Path.{sym, ◌∙◌}
+use native.Mathlib.Omega.{arith}
+use Rattle.scan.proofs.Walk.{code_seen}
+use Rattle.layers.proofs.Ways.{layer-none, layer-some}
 use Rattle.layers.proofs.layer_codes.Goals as goal
 
-pub overflow_add-offset : goal.overflow_add-offset
-overflow_add-offset c = omega (arith, (code_seen _ _ _ _ (sym c.next_code.ensures ∙ c.in-At.is)).room)
+pub overflow_add-first : goal.overflow_add-first
+overflow_add-first c = omega (arith, (code_seen _ _ _ (sym c.next_code.ensures ∙ c.in-Some.is)).room)
 
-pub returns-in-At : goal.returns-in-At
-returns-in-At c = rw c.slices_after.ensures (layer-some _ _ _ (sym c.next_code.ensures ∙ c.in-At.is))
+pub returns-in_default : goal.returns-in_default
+returns-in_default c = layer-none _ (sym c.next_code.ensures ∙ c.in_default.is)
 
-pub returns-in-Nothing : goal.returns-in-Nothing
-returns-in-Nothing c = layer-none _ (sym c.next_code.ensures ∙ c.in-Nothing.is)
+pub returns : goal.returns
+returns c = rw c.slices_after.ensures (layer-some _ _ (sym c.next_code.ensures ∙ c.in-Some.is))

@@ -1,16 +1,19 @@
-use Rattle.layers.proofs.Ways.{first-none, first_some}
-use Rattle.scan.proofs.Walk.{code_seen}
-use Rattle.layers.specs.Steps.{in_set}
-use native.Mathlib.Omega.{arith}
 use mathlib.Core.Path.{sym, ◌∙◌}
+use native.Mathlib.Omega.{arith}
+use Rattle.std.proofs.Common.{rules}
+use Rattle.scan.specs.Pictures.{not_sequence}
+use Rattle.scan.proofs.Walk.{code_seen}
+use Rattle.layers.proofs.Ways.{first-none, first_some}
 use Rattle.layers.proofs.sequence_first.Goals as goal
 
-pub overflow_add-offset : goal.overflow_add-offset
-overflow_add-offset c = omega (arith, (code_seen _ _ _ _ (sym c.next_code.ensures ∙ c.in-At.is)).room)
+pub overflow_add-first : goal.overflow_add-first
+overflow_add-first c = omega (arith, (code_seen _ _ _ (sym c.next_code.ensures ∙ c.in-Some.is)).room)
 
-pub returns-in-At : goal.returns-in-At
-unfolding in_set
-returns-in-At c = rw c.all_in_set.ensures (first_some _ _ _ (sym c.next_code.ensures ∙ c.in-At.is))
+pub returns-in_default : goal.returns-in_default
+returns-in_default c = first-none _ (sym c.next_code.ensures ∙ c.in_default.is)
 
-pub returns-in-Nothing : goal.returns-in-Nothing
-returns-in-Nothing c = first-none _ (sym c.next_code.ensures ∙ c.in-Nothing.is)
+pub returns : goal.returns
+unfolding not_sequence
+returns c =
+    rw (c.all_codes-others.ensures not_sequence (λ code answer q met. search rules))
+    (first_some _ _ (sym c.next_code.ensures ∙ c.in-Some.is))

@@ -1,4 +1,5 @@
-use Rattle.layers.proofs.Ways.{extra-room, bytes_by}
+use Rattle.layers.proofs.Ways.{extra-room, bytes_by, zeros_test}
+use mathlib.Core.Path.{◌∙◌}
 use native.Mathlib.Omega.{arith}
 use Rattle.layers.proofs.zeros_after.Goals as goal
 
@@ -12,4 +13,4 @@ pub overflow_add-n : goal.overflow_add-n
 overflow_add-n c = omega (arith, extra-room _ _ c.requires)
 
 pub returns : goal.returns
-returns c = rw (bytes_by _ _ c.requires) c.two_zeros.ensures
+returns c = rw (bytes_by _ _ c.requires) (c.bytes_at.ensures ∙ zeros_test _)

@@ -23,9 +23,9 @@ slice_bounds-scan_places-end c = sym (length-take-le _ _ (omega arith))
 pub scan_places-inside-requires : goal.scan_places-inside-requires
 scan_places-inside-requires c = omega (arith, length-take (c.next_block-at.result + 19) c.args.s.now)
 
-pub returns-in-At : goal.returns-in-At
-returns-in-At c =
-    found_inside _ _ 16 _ _ (sym (found_by _ _ c.scan_places-inside.ensures) ∙ c.in-At.is)
+pub returns-in-Some : goal.returns-in-Some
+returns-in-Some c =
+    found_inside _ _ 16 _ (sym (found_by _ _ c.scan_places-inside.ensures) ∙ c.in-Some.is)
     ∙ c.next_block-at.ensures.0
     ∙ c.loop-at.invariant
 

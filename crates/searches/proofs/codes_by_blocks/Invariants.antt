@@ -3,8 +3,9 @@ use lib.ListN.{length}
 use Rattle.searches.proofs.Counting.{Counting}
 use Rattle.searches.proofs.codes_by_blocks.Given as goal
 
-abbrev pub invariant-loop-offset : goal.invariant-loop-offset
-invariant-loop-offset l = Counting l.s l.i l.count
+-- so many codes were found, and the next search begins there
+abbrev pub invariant-loop-code : goal.invariant-loop-code
+invariant-loop-code l = Counting l.s l.from l.count
 
-abbrev pub decreases-loop-offset : goal.decreases-loop-offset
-decreases-loop-offset l = length l.s - l.i
+abbrev pub decreases-loop-code : goal.decreases-loop-code
+decreases-loop-code l = length l.s - l.from

@@ -1,20 +1,23 @@
-use mathlib.Core.Path.{refl, ◌∙◌}
-use Rattle.bits.proofs.Flags.{failed, told_by}
-use Rattle.vbv.proofs.Fitting.{end_tests, end_fits_lem}
-use Rattle.vbr.specs.Variable.{variable_fits, remove_variable}
-use Rattle.vbr.proofs.Ways.{remove_order, remove_range}
+use Rattle.bits.proofs.Flags.{told_by}
+use Rattle.vbv.proofs.Fitting.{end_fits_lem}
+use Rattle.vbr.proofs.Ways.{remove_unready, remove_range, remove_under, cappable, remove_is, no_refusal}
+use native.Mathlib.Omega.{arith}
 use Rattle.vbr.proofs.remove_picture.Goals as goal
 
-pub remove-requires : goal.remove-requires
-remove-requires c =
-    record { model_value = search told_by; started_value = search; end_fits = end_fits_lem (end_tests _ _ ∙ c.if-end_bits-model.true) }
+pub returns-in_err-ready : goal.returns-in_err-ready
+returns-in_err-ready c = remove_unready _ _ c.in_err-ready.ensures.told _ c.from_residual.ensures.1 _ _
 
-pub returns-else-end_bits-model : goal.returns-else-end_bits-model
-returns-else-end_bits-model c = remove_range _ (search told_by) _ _ (search) (end_tests _ _ ∙ c.if-end_bits-model.false)
+pub returns-then-not-end_fits : goal.returns-then-not-end_fits
+returns-then-not-end_fits c = remove_range c.in_ok-ready.ensures.is_ready _ _ (search told_by)
 
-pub returns-else-model : goal.returns-else-model
-returns-else-model c = remove_order _ (search told_by) _ _ (search)
+pub returns-then-model-end_bits : goal.returns-then-model-end_bits
+returns-then-model-end_bits c = remove_under c.in_ok-ready.ensures.is_ready _ (end_fits_lem (search told_by)) _ (omega arith)
 
-pub returns-else-fits : goal.returns-else-fits
-unfolding remove_variable
-returns-else-fits c = failed (variable_fits _) _ _ (search told_by) refl
+pub returns-in_err-next : goal.returns-in_err-next
+returns-in_err-next c = no_refusal c.in_ok-ready.ensures.is_ready _ (end_fits_lem (search told_by)) _ _ _ c.in_err-next.ensures
+
+pub capped-requires : goal.capped-requires
+capped-requires c = cappable c.in_ok-ready.ensures.is_ready _ (end_fits_lem (search told_by)) _ _ c.in_ok-next.ensures
+
+pub returns : goal.returns
+returns c = remove_is c.in_ok-ready.ensures.is_ready _ (end_fits_lem (search told_by)) _ _ c.in_ok-next.ensures (omega arith) _ c.capped.ensures

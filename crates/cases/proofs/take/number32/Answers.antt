@@ -6,4 +6,4 @@ pub returns-then-s-at : goal.returns-then-s-at
 returns-then-s-at c = sym (number_past 4 _ _ c.if-s-at.true)
 
 pub returns : goal.returns
-returns c = rw (four_bytes, ← c.number16-low.ensures, ← c.number16-high.ensures)
+returns c = rw (four_bytes, c.from.ensures, c.from-2.ensures, ← c.number16-low.ensures, ← c.number16-high.ensures)

@@ -1,22 +1,18 @@
-use Rattle.bits.proofs.Reading.{bits_case}
-use Rattle.headers.proofs.QuantMatrix.{told_missing, told_there, flag_missed, flag_unset, flag_set}
+use mathlib.Core.Path.{sym}
+use Rattle.std.proofs.lemmas.Result.{err_from_is_err_and}
+use Rattle.headers.proofs.QuantMatrix.{flag_missed, flag_unset, flag_set}
 use Rattle.headers.proofs.quant_matrix_extension.read_matrix.Goals as goal
 
 pub returns-in_default : goal.returns-in_default
-returns-in_default c =
-    let both = told_missing c.no_matrix.ensures (flag_missed _ _ (bits_case c.in_default.is c.read_bits-read.ensures)) in
-    record { result_value = both.0; matrix_value = both.1 }
+returns-in_default c = sym (flag_missed _ _ c.in_default.ensures)
 
 pub returns-then-load-eq0 : goal.returns-then-load-eq0
-returns-then-load-eq0 c =
-    let e = flag_unset _ _ _ (bits_case c.in-Value.is c.read_bits-read.ensures) c.if-load-eq0.true in
-    let both = told_there (rw (← c.no_matrix-then-load-eq0.ensures) at e) in
-    record { result_value = both.0; matrix_value = both.1 }
+returns-then-load-eq0 c = sym (flag_unset _ _ _ c.in-Some.ensures c.if-load-eq0.true)
 
-pub returns-clause-result_value : goal.returns-clause-result_value
-returns-clause-result_value c =
-    rw (flag_set c.args.buf.now c.args.at _ (bits_case c.in-Value.is c.read_bits-read.ensures) c.if-load-eq0.false) c.read_bytes.ensures.result_value
+pub returns-in_err-bytes : goal.returns-in_err-bytes
+returns-in_err-bytes c =
+    let p = err_from_is_err_and c.from_residual.result c.from_residual.ensures.1 in
+    rw (p.1, p.2, flag_set _ _ _ c.in-Some.ensures c.if-load-eq0.false, ← c.in_err-bytes.ensures)
 
-pub returns-clause-matrix_value : goal.returns-clause-matrix_value
-returns-clause-matrix_value c =
-    rw (flag_set c.args.buf.now c.args.at _ (bits_case c.in-Value.is c.read_bits-read.ensures) c.if-load-eq0.false) c.read_bytes.ensures.matrix_value
+pub returns : goal.returns
+returns c = rw (flag_set _ _ _ c.in-Some.ensures c.if-load-eq0.false, ← c.in_ok-bytes.ensures)

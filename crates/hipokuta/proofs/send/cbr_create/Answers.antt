@@ -14,6 +14,6 @@ pub returns : goal.returns
 returns c =
     let a = c.args in
     let t = created_in (config_of a.bit_rate_value a.vbv_buffer_size_value a.frame_rate_code a.quantiser a.b_between a.anchors_per_gop)
-    a.state.now (omega arith) c.create.result (rw c.plain.ensures at c.create.ensures.result_value)
-    _ _ (c.put_created.ensures.value, c.put_created.ensures.state_after) in
+    a.state.now (omega arith) c.create.result (rw c.plain.ensures at c.create.ensures)
+    _ _ (c.put_writer.ensures.value, c.put_writer.ensures.state_after) in
     record { value = t.0; state_after = t.1 }

@@ -11,8 +11,8 @@ returns-then-state-lt-STATE_BYTES c =
 pub returns-then-is_mode : goal.returns-then-is_mode
 returns-then-is_mode c =
     let t = created-with c.args.config.now c.args.state.now (omega arith) (omega arith) _ (c.is_mode.ensures ∙ ap is_mode c.word_at.ensures)
-    c.if-is_mode.true c.create_from.result c.create_from.ensures.result_value
-    _ _ (c.put_created.ensures.value, c.put_created.ensures.state_after) in
+    c.if-is_mode.true c.create_from.result c.create_from.ensures
+    _ _ (c.put_writer.ensures.value, c.put_writer.ensures.state_after) in
     record { value = t.0; state_after = t.1 }
 
 pub returns : goal.returns

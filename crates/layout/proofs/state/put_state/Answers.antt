@@ -7,16 +7,16 @@ returns c =
     state_told _ _ _ _ _ _
     (search rules)
     (search rules)
-    c.flag.ensures
+    c.from.ensures
     c.pending_code.ensures
     c.pending_quantiser.ensures
-    c.flag-2.ensures
+    c.from-5.ensures
     _ _ _ _ _ _
     c.mode_word.ensures
-    c.flag-3.ensures
-    c.flag-4.ensures
-    c.flag-5.ensures
-    c.flag-6.ensures
+    c.from-6.ensures
+    c.from-7.ensures
+    c.from-8.ensures
+    c.from-9.ensures
     c.open_code.ensures
     _
-    c.put_words.ensures
+    (rw (← c.from-2.ensures, ← c.from-3.ensures, ← c.from-4.ensures) c.put_words.ensures)

@@ -1,3 +1,4 @@
+use borrow.Author.Rules.{rules}
 use mathlib.Core.Path.{sym, ap, ◌∙◌}
 use native.Mathlib.Omega.{arith}
 use Rattle.bits.specs.Refusals.{value}
@@ -8,5 +9,5 @@ pub returns-then-usual_header : goal.returns-then-usual_header
 returns-then-usual_header c =
     ap value c.header_of.ensures
     ∙ rw (c.delay_in.ensures, c.type_in.ensures)
-    (header_straight c.args.buf.now (omega arith) c.word.ensures.2 _ _ c.word.ensures.0 c.long_word-w.ensures.0
+    (header_straight c.args.buf.now (omega arith) (λ k. search rules) _ _ c.word.ensures c.long_word-w.ensures
     (sym c.usual_header.ensures ∙ c.if-usual_header.true))

@@ -1,3 +1,4 @@
+use borrow.Author.Rules.{rules}
 use mathlib.Core.Path.{sym, ◌∙◌}
 use native.Mathlib.Omega.{arith}
 use Rattle.picture_header.proofs.Straight.{first_range, both_straight}
@@ -18,7 +19,7 @@ returns-then-usual_coding c =
       c.type_in-code.ensures,
       c.delay_in-vbv_delay.ensures,
     )
-    (both_straight c.args.buf.now c.word.ensures.2 _ _ c.word.ensures.0 c.long_word-w.ensures.0
+    (both_straight c.args.buf.now (λ k. search rules) _ _ c.word.ensures c.long_word-w.ensures
     (omega arith) (rw (← c.usual_header.ensures, ← c.type_in-code.ensures) c.if-usual_header-code.true)
-    _ (rw (c.extra_bit.ensures, c.type_in-code.ensures)) _ _ c.word-then-usual_header-code.ensures.0 c.long_word-x.ensures.0
+    _ (rw (c.from.ensures, c.extra_bit.ensures, c.type_in-code.ensures)) _ _ c.word-then-usual_header-code.ensures c.long_word-x.ensures
     (sym c.usual_coding.ensures ∙ c.if-usual_coding.true))

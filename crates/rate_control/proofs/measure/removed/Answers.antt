@@ -1,18 +1,15 @@
-use Rattle.rate_control.proofs.Ways.{most_no, most-early, size_no, size_violated, size_yes}
-use borrow.Author.Rules.{rules}
+use Rattle.std.proofs.lemmas.Result.{err_from_is_err_and}
+use Rattle.rate_control.proofs.Ways.{most_no, most-early, size_no, size_yes}
 use Rattle.rate_control.proofs.measure.removed.Goals as goal
 
+pub returns-in_err-most : goal.returns-in_err-most
+returns-in_err-most c = let p = err_from_is_err_and c.from_residual.result c.from_residual.ensures.1 in rw (p.1, p.2) (most_no _ _ _ _ _ _ c.max_end_bits.ensures _ c.in_err-most.was)
+
 pub returns-then-most-extent : goal.returns-then-most-extent
-returns-then-most-extent c = search (rules, most-early)
+returns-then-most-extent c = most-early _ _ _ _ _ _ c.max_end_bits.ensures _ c.in_ok-most.was _ c.if-most-extent.true c.from.ensures
 
-pub returns-in-Refused : goal.returns-in-Refused
-returns-in-Refused c = search (rules, most_no)
+pub returns-in_err-remove_picture : goal.returns-in_err-remove_picture
+returns-in_err-remove_picture c = let p = err_from_is_err_and c.from_residual-in_err-remove_picture.result c.from_residual-in_err-remove_picture.ensures.1 in rw (p.1, p.2) (size_no _ _ _ _ _ _ c.max_end_bits.ensures _ c.in_ok-most.was c.if-most-extent.false _ c.remove_picture.ensures _ c.in_err-remove_picture.was)
 
-pub returns-in-Refused-remove_picture : goal.returns-in-Refused-remove_picture
-returns-in-Refused-remove_picture c = search (rules, size_no)
-
-pub returns-in-Violation : goal.returns-in-Violation
-returns-in-Violation c = search (rules, size_violated)
-
-pub returns-in-Model : goal.returns-in-Model
-returns-in-Model c = search (rules, size_yes)
+pub returns : goal.returns
+returns c = size_yes _ _ _ _ _ _ c.max_end_bits.ensures _ c.in_ok-most.was c.if-most-extent.false _ c.remove_picture.ensures _ _ c.in_ok-remove_picture.was c.stuffed.ensures

@@ -2,4 +2,4 @@ use Rattle.vbv.proofs.Fitting.{counts_are}
 use Rattle.vbv.proofs.VbvCbrModel.counts_fit.Goals as goal
 
 pub returns : goal.returns
-returns c = rw c.greater.ensures (counts_are _)
+returns c = rw c.max.ensures (counts_are _)

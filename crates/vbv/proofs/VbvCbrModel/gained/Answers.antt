@@ -3,6 +3,9 @@ use Rattle.vbv.proofs.Fitting.{model_in_range_lem}
 use Rattle.vbv.proofs.Ways.{gain-params, gain_order, gain_is}
 use Rattle.vbv.proofs.VbvCbrModel.gained.Goals as goal
 
+pub returns-then-not-in_range : goal.returns-then-not-in_range
+returns-then-not-in_range c = gain-params _ _ (search told_by)
+
 pub advanced-requires : goal.advanced-requires
 advanced-requires c = model_in_range_lem (search told_by)
 
@@ -11,6 +14,3 @@ returns-then-self c = gain_is _ _ (search told_by) (search) _ c.advanced.ensures
 
 pub returns-else-self : goal.returns-else-self
 returns-else-self c = gain_order _ _ (search told_by) (search)
-
-pub returns-else-in_range : goal.returns-else-in_range
-returns-else-in_range c = gain-params _ _ (search told_by)

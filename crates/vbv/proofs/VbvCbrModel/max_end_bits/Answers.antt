@@ -1,16 +1,11 @@
 use Rattle.vbv.specs.Model.{max_end_bits}
-use Rattle.bits.proofs.Flags.{told_by}
-use Rattle.vbv.proofs.Ways.{bits_are, bits_order, bits_params, greatest_is}
+use Rattle.vbv.proofs.Ways.{greatest_is, answered, answer_unready}
 use Rattle.vbv.proofs.VbvCbrModel.max_end_bits.Goals as goal
 
-pub returns-then-self : goal.returns-then-self
+pub returns-in_err-ready : goal.returns-in_err-ready
 unfolding max_end_bits
-returns-then-self c = bits_are _ _ (search told_by) (search) _ (greatest_is _ (search told_by))
+returns-in_err-ready c = answer_unready _ _ c.in_err-ready.ensures.told _ c.from_residual.ensures.1 _
 
-pub returns-else-self : goal.returns-else-self
+pub returns : goal.returns
 unfolding max_end_bits
-returns-else-self c = bits_order _ _ (search told_by) (search)
-
-pub returns-else-fits : goal.returns-else-fits
-unfolding max_end_bits
-returns-else-fits c = bits_params _ _ (search told_by)
+returns c = rw (← greatest_is c.in_ok-ready.ensures.is_ready) (answered c.in_ok-ready.ensures.is_ready _)

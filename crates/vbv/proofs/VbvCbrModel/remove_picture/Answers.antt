@@ -1,21 +1,28 @@
-use Rattle.vbv.specs.Model.{model_fits, end_fits, remove_picture}
-use mathlib.Core.Path.{refl}
-use Rattle.vbv.proofs.Fitting.{model_fits_lem, end_fits_lem}
-use Rattle.bits.proofs.Flags.{failed, told_by}
-use Rattle.vbv.proofs.Ways.{remove_order, remove_range}
+use Rattle.bits.proofs.Flags.{told_by}
+use Rattle.vbv.specs.Annex.{unit}
+use Rattle.vbv.proofs.Fitting.{fits_in_range, end_fits_lem}
+use Rattle.vbv.proofs.Ways.{remove_unready, remove_range, remove-over, remove_under, remove_is}
+use native.Mathlib.Omega.{arith}
 use Rattle.vbv.proofs.VbvCbrModel.remove_picture.Goals as goal
 
-pub remove-requires : goal.remove-requires
-unfolding end_fits
-remove-requires c = record { model_fits = model_fits_lem (search told_by); started_value = search; end_fits = end_fits_lem (search) }
+pub returns-in_err-ready : goal.returns-in_err-ready
+returns-in_err-ready c = remove_unready _ _ c.in_err-ready.ensures.told _ c.from_residual.ensures.1 _ _
 
-pub returns-else-end_bits-self : goal.returns-else-end_bits-self
-unfolding end_fits
-returns-else-end_bits-self c = remove_range _ (search told_by) (search) _ _ (search)
+pub returns-then-not-end_fits : goal.returns-then-not-end_fits
+returns-then-not-end_fits c = remove_range c.in_ok-ready.ensures.is_ready _ _ (search told_by)
 
-pub returns-else-self : goal.returns-else-self
-returns-else-self c = remove_order _ (search told_by) _ _ (search)
+pub rounded_up-requires : goal.rounded_up-requires
+unfolding unit
+rounded_up-requires c = let f = c.in_ok-ready.ensures.is_ready.fits in record { whole_bound = omega arith; rest_bound = omega arith }
 
-pub returns-else-fits : goal.returns-else-fits
-unfolding remove_picture
-returns-else-fits c = failed (model_fits _) _ _ (search told_by) refl
+pub returns-then-self-params : goal.returns-then-self-params
+returns-then-self-params c = remove-over c.in_ok-ready.ensures.is_ready _ (end_fits_lem (search told_by)) _ _ c.rounded_up.ensures (omega arith)
+
+pub returns-then-self-end_bits : goal.returns-then-self-end_bits
+returns-then-self-end_bits c = remove_under c.in_ok-ready.ensures.is_ready _ (end_fits_lem (search told_by)) _ _ c.rounded_up.ensures (omega arith) (omega arith)
+
+pub advanced-next-requires : goal.advanced-next-requires
+advanced-next-requires c = fits_in_range c.in_ok-ready.ensures.is_ready.fits
+
+pub returns : goal.returns
+returns c = remove_is c.in_ok-ready.ensures.is_ready _ (end_fits_lem (search told_by)) _ _ c.rounded_up.ensures (omega arith) (omega arith) _ c.advanced-next.ensures

@@ -1,4 +1,3 @@
-use Rattle.vbv.specs.Model.{ratio_fits, params_fit}
 use Rattle.vbv.proofs.Fitting.{in_range}
 use mathlib.Core.Path.{sym, ◌∙◌}
 use native.Mathlib.Omega.{arith}
@@ -9,11 +8,3 @@ overflow_mul-result c = let r = in_range _ (sym c.in_range.ensures ∙ c.if-in_r
 
 pub overflow_mul-result-then-in_range : goal.overflow_mul-result-then-in_range
 overflow_mul-result-then-in_range c = let r = in_range _ (sym c.in_range.ensures ∙ c.if-in_range.true) in omega arith
-
-pub returns-then-in_range : goal.returns-then-in_range
-unfolding ratio_fits params_fit
-returns-then-in_range c = rw (sym c.in_range.ensures ∙ c.if-in_range.true)
-
-pub returns-else-in_range : goal.returns-else-in_range
-unfolding params_fit
-returns-else-in_range c = rw (sym c.in_range.ensures ∙ c.if-in_range.false)

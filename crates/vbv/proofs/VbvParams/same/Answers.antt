@@ -1,3 +1,4 @@
+use mathlib.Core.Path.{◌∙◌}
 use native.Mathlib.Omega.{arith}
 use native.Mathlib.Nat.{mul-le-mul}
 use Rattle.vbv.proofs.Params.{both_in, same_in, same_out}
@@ -18,4 +19,4 @@ pub returns-then-in_range : goal.returns-then-in_range
 returns-then-in_range c = same_in _ _ _ _ c.in_range.ensures c.in_range-2.ensures c.if-in_range.true
 
 pub returns-else-in_range : goal.returns-else-in_range
-returns-else-in_range c = same_out _ _ _ _ c.in_range.ensures c.in_range-2.ensures c.if-in_range.false
+returns-else-in_range c = c.if-in_range.false ∙ same_out _ _ _ _ c.in_range.ensures c.in_range-2.ensures c.if-in_range.false

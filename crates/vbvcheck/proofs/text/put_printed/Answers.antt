@@ -8,22 +8,16 @@ returns-then-stream-gt-LONGEST-clause-out_after c = c.put.ensures.out_after ∙ 
 
 pub put_accepted-requires-clause-pictures_in_bounds :
     goal.put_accepted-requires-clause-pictures_in_bounds
-put_accepted-requires-clause-pictures_in_bounds c =
-    let v = c.verify_cbr_stream.ensures in
-    pictures_fit _ _ _ _ _ _ c.in-Report.is v.result_value v.records_after
+put_accepted-requires-clause-pictures_in_bounds c = pictures_fit _ _ _ _ c.in-Ok.ensures.result_value c.in-Ok.ensures.records_after
 
 pub put_accepted-requires-clause-pictures_bound : goal.put_accepted-requires-clause-pictures_bound
-put_accepted-requires-clause-pictures_bound c =
-    let v = c.verify_cbr_stream.ensures in
-    omega (arith, pictures_fit _ _ _ _ _ _ c.in-Report.is v.result_value v.records_after)
+put_accepted-requires-clause-pictures_bound c = omega (arith, pictures_fit _ _ _ _ c.in-Ok.ensures.result_value c.in-Ok.ensures.records_after)
 
-pub returns-in-Refused-clause-out_after : goal.returns-in-Refused-clause-out_after
-returns-in-Refused-clause-out_after c =
-    let v = c.verify_cbr_stream in
-    let q = printed-refused c.args.stream.now _ (omega arith) (omega arith) _ _ c.in-Refused.is v.ensures.result_value in
+pub returns-in-Err-clause-out_after : goal.returns-in-Err-clause-out_after
+returns-in-Err-clause-out_after c =
+    let q = printed-refused c.args.stream.now _ (omega arith) (omega arith) _ c.in-Err.ensures.result_value in
     c.put_refusal.ensures.out_after ∙ rw c.refusal.ensures q
 
-pub returns-in-Report-clause-out_after : goal.returns-in-Report-clause-out_after
-returns-in-Report-clause-out_after c =
-    let v = c.verify_cbr_stream in
-    c.put_accepted.ensures.out_after ∙ printed_report c.args.stream.now _ (omega arith) (omega arith) _ _ _ _ c.in-Report.is v.ensures.result_value v.ensures.records_after
+pub returns-in-Ok-clause-out_after : goal.returns-in-Ok-clause-out_after
+returns-in-Ok-clause-out_after c =
+    c.put_accepted.ensures.out_after ∙ printed_report c.args.stream.now _ (omega arith) (omega arith) _ _ _ c.in-Ok.ensures.result_value c.in-Ok.ensures.records_after

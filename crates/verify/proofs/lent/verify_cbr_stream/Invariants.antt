@@ -1,14 +1,8 @@
-use Rattle.std.proofs.Common.{◌-◌, ◌≡◌, ◌≤◌}
-use Rattle.verify.proofs.Recording.{state_of}
-use Rattle.verify.proofs.Lending.{stored_of}
+use Rattle.std.proofs.Common.{length}
+use Rattle.verify.specs.Mode.{plain}
+use Rattle.verify.specs.Check.{verdict, records}
+use Rattle.verify.proofs.Storing.{Stored}
 use Rattle.verify.proofs.lent.verify_cbr_stream.Given as goal
 
-abbrev pub invariant-loop-i : goal.invariant-loop-i
-invariant-loop-i l = record {
-  within : l.i ≤ l.count;
-  stands : l.recorder ≡ state_of l.stream l.initial.recorder l.i;
-  stored : l.records ≡ stored_of l.stream l.initial.recorder l.i l.initial.records;
-}
-
-abbrev pub decreases-loop-i : goal.decreases-loop-i
-decreases-loop-i l = l.count - l.i
+abbrev pub invariant-loop-place : goal.invariant-loop-place
+invariant-loop-place l = Stored l.stream (λ rs. rs) 1 (records (verdict (plain l.fn.standard) l.stream (length l.fn.records))) l.initial.place-items l.place-items l.recorder l.place-index

@@ -1,40 +1,40 @@
 use mathlib.Core.Path.{sym}
 use native.Mathlib.Omega.{arith}
-use Rattle.headers.specs.declared.Error.TheVariants.{InvalidBitstream}
-use Rattle.headers.proofs.StartCode.{Found, next-found, next_case}
-use Rattle.headers.proofs.Sequence.{sequence_told_refused, header_case, sequence-refused, header_bounds, sequence_missing, sequence-at}
+use Rattle.std.proofs.lemmas.Result.{err_from_is_err_and}
+use Rattle.headers.proofs.StartCode.{next-found}
+use Rattle.headers.proofs.SequenceHeader.{sequence_header_bounds}
+use Rattle.headers.proofs.SequenceExtension.{extension_bounds}
+use Rattle.headers.proofs.Sequence.{sequence-refused, sequence_missing, extension_refused, sequence_parsed}
 use Rattle.headers.proofs.sequence_extension.Mpeg2Sequence.from_buf.Goals as goal
-use Rattle.headers.proofs.sequence_extension.Mpeg2Sequence.from_buf.Goals.{In-At}
 
-found : (c : In-At) → Found c.args.buf.now c.sequence_header_byte_length.result c.in-At.at
-found c = next-found _ _ _ (sym (next_case c.in-At.is c.next_start_code-next.ensures))
+pub returns-in_err-header : goal.returns-in_err-header
+returns-in_err-header c =
+    let p = err_from_is_err_and c.from_residual.result c.from_residual.ensures.1 in
+    rw (p.1, p.2) (sequence-refused _ c.in_err-header.ensures)
 
-pub slice_bounds-with_extension-start : goal.slice_bounds-with_extension-start
-slice_bounds-with_extension-start c = omega (arith, (found (goal.at.slice_bounds-with_extension-start c).In-At).prefix.room)
+pub returns-in_default : goal.returns-in_default
+returns-in_default c = sequence_missing _ _ c.in_ok-header.ensures _ c.sequence_header_byte_length.ensures c.in_default.ensures
 
-pub slice_bounds-with_extension-count : goal.slice_bounds-with_extension-count
-slice_bounds-with_extension-count c = omega (arith, (found (goal.at.slice_bounds-with_extension-count c).In-At).prefix.room)
+pub slice_bounds-parse-start : goal.slice_bounds-parse-start
+slice_bounds-parse-start c = omega (arith, (next-found _ _ _ (sym c.in-Some.ensures)).prefix.room)
 
-pub with_extension-requires : goal.with_extension-requires
-with_extension-requires c =
-    let b = header_bounds _ _ (header_case _ c.in-Parsed.is c.parse-read.ensures.result_value) in
-    (b.width_high, b.height_high, b.rate_high)
+pub slice_bounds-parse-count : goal.slice_bounds-parse-count
+slice_bounds-parse-count c = omega (arith, (next-found _ _ _ (sym c.in-Some.ensures)).prefix.room)
 
-pub returns-in-Refused : goal.returns-in-Refused
-returns-in-Refused c =
-    let both = sequence_told_refused c.refused.result c.in-Refused.error c.refused.ensures
-    (sequence-refused _ (header_case _ c.in-Refused.is c.parse-read.ensures.result_value)) in
-    record { result_value = both.0; sequence_value = both.1 }
+pub returns-in_err-extension : goal.returns-in_err-extension
+returns-in_err-extension c =
+    let p = err_from_is_err_and c.from_residual-in_err-extension.result c.from_residual-in_err-extension.ensures.1 in
+    rw (p.1, p.2) (extension_refused _ _ c.in_ok-header.ensures _ c.sequence_header_byte_length.ensures c.in-Some.at c.in-Some.ensures c.in_err-extension.ensures)
 
-pub returns-in-Missing : goal.returns-in-Missing
-returns-in-Missing c =
-    let both = sequence_told_refused c.refused-in-Missing.result InvalidBitstream c.refused-in-Missing.ensures
-    (sequence_missing _ _ (header_case _ c.in-Parsed.is c.parse-read.ensures.result_value)
-    _ c.sequence_header_byte_length.ensures (next_case c.in-Missing.is c.next_start_code-next.ensures)) in
-    record { result_value = both.0; sequence_value = both.1 }
+pub sequence_of-requires-clause-sizes : goal.sequence_of-requires-clause-sizes
+sequence_of-requires-clause-sizes c =
+    let b = sequence_header_bounds _ _ (sym c.in_ok-header.ensures) in
+    (b.width_high, b.height_high, b.rate_high, b.buffer_high)
 
-pub returns-in-At : goal.returns-in-At
-returns-in-At c =
-    let e = sequence-at _ _ (header_case _ c.in-Parsed.is c.parse-read.ensures.result_value)
-    _ c.sequence_header_byte_length.ensures _ (next_case c.in-At.is c.next_start_code-next.ensures) in
-    record { result_value = rw e c.with_extension.ensures.result_value; sequence_value = rw e c.with_extension.ensures.sequence_value }
+pub sequence_of-requires-clause-extensions : goal.sequence_of-requires-clause-extensions
+sequence_of-requires-clause-extensions c =
+    let b = extension_bounds _ _ (sym c.in_ok-extension.ensures) in
+    (b.horizontal, b.vertical, b.rate)
+
+pub returns : goal.returns
+returns c = rw c.sequence_of.ensures (sequence_parsed _ _ c.in_ok-header.ensures _ c.sequence_header_byte_length.ensures c.in-Some.at c.in-Some.ensures _ c.in_ok-extension.ensures)

@@ -1,13 +1,11 @@
-use mathlib.Core.Path.{sym, ◌∙◌}
-use Rattle.pictures.proofs.Seeing.{next_case}
-use Rattle.verify.proofs.Recording.{record_none, record_refused, record_one}
+use Rattle.verify.proofs.Walking.{record-taken, none-taken, none-read}
 use Rattle.verify.proofs.recorder.VbvRecorder.next_record.Goals as goal
 
-pub returns-in-Done : goal.returns-in-Done
-returns-in-Done c = c.stay.ensures ∙ record_none _ _ (sym (next_case c.in-Done.is c.next_seen.ensures))
+pub returns-in_default : goal.returns-in_default
+returns-in_default c = none-read _ _ c.step.ensures.recorder_after c.in_default.ensures.result_value
 
-pub returns-in-Refused : goal.returns-in-Refused
-returns-in-Refused c = c.stay-in-Refused.ensures ∙ record_refused _ _ (sym (next_case c.in-Refused.is c.next_seen.ensures))
+pub returns-then-more : goal.returns-then-more
+returns-then-more c = rw c.last_of.ensures (record-taken _ _ c.step.ensures.recorder_after (rw c.if-more.true at c.in-Ok.ensures.result_value))
 
-pub returns-in-Picture : goal.returns-in-Picture
-returns-in-Picture c = c.go_on.ensures ∙ rw (c.advance.ensures, c.interval-interval.ensures, c.opened.ensures) (record_one _ _ _ _ (sym (next_case c.in-Picture.is c.next_seen.ensures)))
+pub returns-else-more : goal.returns-else-more
+returns-else-more c = none-taken _ _ c.step.ensures.recorder_after (rw c.if-more.false at c.in-Ok.ensures.result_value)

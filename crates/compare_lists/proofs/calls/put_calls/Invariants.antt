@@ -1,4 +1,0 @@
-use Rattle.compare_lists.proofs.calls.put_calls.Given as goal
-
-abbrev pub decreases-loop-left : goal.decreases-loop-left
-decreases-loop-left l = l.left

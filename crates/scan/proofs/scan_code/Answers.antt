@@ -1,4 +1,0 @@
-use Rattle.scan.proofs.scan_code.Goals as goal
-
-pub returns : goal.returns
-returns c = c.scan_places.ensures
