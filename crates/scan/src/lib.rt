@@ -159,6 +159,8 @@ fn next_block(s: &[u8], from: usize, end: usize) -> usize
 
 // The first start code at or after `from`: blocks without 00 01 are passed over; a block with it is scanned, with the three
 // bytes after it, and so are the last bytes. Where a round goes on is found by the one before: no range counts the rounds.
+// Joined to its callers, for a call at each code costs a third more where codes are dense.
+#[inline(always)]
 pub fn next_code(s: &[u8], from: usize) -> Option<StartCode>
     ensures { result ≡ next_code s.now from }
 {
