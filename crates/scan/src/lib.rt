@@ -137,6 +137,7 @@ fn near_end(from: usize, end: usize) -> usize
 
 // Passes over quiet blocks up to one of 16 bytes that has 00 01, or to the last bytes. The next code is mostly near, and a
 // search by one width is foreseen best: only past NEAR quiet bytes are blocks of 64 passed over.
+#[inline(always)]
 #[tactic(auto, using(crate::proofs::Blocks::quiet))]
 fn next_block(s: &[u8], from: usize, end: usize) -> usize
     requires { end + 3 ≤ length s.now }

@@ -16,11 +16,7 @@ use pictures::VbvStandard;
 use vbv::VbvError;
 
 // Every picture header in stream order. The model runs along, so that the stream is walked over once.
-fn walk(
-    stream: &[u8],
-    mode: VbvMode,
-    beginning: VbvBeginning,
-) -> Result<Walked, VbvVerifyError>
+fn walk(stream: &[u8], mode: VbvMode, beginning: VbvBeginning) -> Result<Walked, VbvVerifyError>
     requires { 8 * length stream.now ≤ farthest }
     ensures { verified_answer result ≡ walked_from (recorder_of mode beginning) stream.now }
 {
