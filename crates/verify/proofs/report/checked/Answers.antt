@@ -1,4 +1,4 @@
-use mathlib.Core.Path.{◌≡◌, refl, sym, ap, ◌∙◌}
+use mathlib.Core.Path.{refl, sym, ap, ◌∙◌}
 use Rattle.verify.specs.Answers.{verified_answer}
 use Rattle.verify.specs.Check.{reported}
 use Rattle.verify.specs.Steps.{checked}
