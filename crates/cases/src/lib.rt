@@ -157,17 +157,19 @@ pub fn get(counts: &[u64], at: usize) -> u64
 fn sum(counts: &[u64]) -> u64 {
     counts
         .iter()
+        .take(KINDS)
         .fold(0, |total: u64, count| total.wrapping_add(*count))
 }
 
-// Prints how many cases of each kind there were and how many differ, and how many of all.
-pub fn report(rt: &impl Print, counts: &Counts) -> io::Result<()> {
+// Prints how many cases of each kind there were and how many differ, and how many of all, by lists of counts of any length: a
+// count that is not there is 0.
+pub fn report(rt: &impl Print, all: &[u64], differ: &[u64]) -> io::Result<()> {
     for kind in 1..KINDS {
-        report_kind(rt, kind, counts.all[kind], counts.differ[kind])?;
+        report_kind(rt, kind, get(all, kind), get(differ, kind))?;
     }
-    let cases = sum(&counts.all);
-    let differ = sum(&counts.differ);
-    let malformed = counts.all[0];
+    let cases = sum(all);
+    let differ = sum(differ);
+    let malformed = get(all, 0);
     println!(rt; "cases {cases}, differ {differ}, malformed {malformed}")
 }
 

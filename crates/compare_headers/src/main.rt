@@ -28,5 +28,5 @@ fn main(rt: HostRuntime) -> io::Result<()> {
         let n = answer(case.kind, &buf[..case.input], &mut out);
         cases::count(&rt, case, n, &buf, &out, &mut counts)?;
     }
-    cases::report(&rt, &counts)
+    cases::report(&rt, &counts.all, &counts.differ)
 }

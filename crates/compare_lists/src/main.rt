@@ -57,5 +57,5 @@ fn main(rt: HostRuntime) -> io::Result<()> {
         cases::count(&rt, case, n, &buf, &out, &mut counts)?;
     }
     report_numbers(&rt, &given)?;
-    cases::report(&rt, &counts)
+    cases::report(&rt, &counts.all, &counts.differ)
 }

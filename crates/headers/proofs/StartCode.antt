@@ -6,16 +6,16 @@ use mathlib.Core.Bool.{Bool, true, false, not}
 use Prim.Native.Nat.{ℕ, zero, suc, ◌+◌, ◌-◌, ◌≤◌, ◌<◌}
 use native.Mathlib.Numerals.{add-one}
 use native.Mathlib.Omega.{arith}
-use lib.Dec.{eqb}
+use lib.Dec.{eqb, leb}
 use lib.ListN.{length, get_or, take, drop, length-drop, drop_of_length-le}
 use lib.Seq.{drop-cons, drop-append-le, take-append-le}
-use borrow.Author.Tests.{eqb-true, eqb-false}
+use borrow.Author.Tests.{eqb-true, eqb-false, le-leb}
 use Rattle.bits.specs.Bits.{pick}
 use Rattle.bits.specs.Refusals.{value, refused}
 use Rattle.bits.specs.Fields.{same_bytes}
 use Rattle.bits.specs.StartCodes.{start_code_prefix}
 use Rattle.bits.proofs.Flags.{clash}
-use Rattle.bits.proofs.Reading.{same_bytes_lem, same_self}
+use Rattle.bits.proofs.Reading.{same_bytes_lem, same_self, same_not}
 use Rattle.headers.specs.StartCode.{leading_zeros, prefix_at, next_start_code}
 
 -- the first byte from byte k on that is not zero: k itself past the end or where it is not zero, else the first from k + 1 on
@@ -48,6 +48,16 @@ unfolding leading_zeros
 zeros_append [] t h = omega arith
 zeros_append (zero ∷ s) t h = ap suc (zeros_append s t (omega arith))
 zeros_append (suc b ∷ s) t h = refl
+
+-- there are two or more just where the first two bytes are zero
+pub zeros_test : (s : List ℕ) → same_bytes (take 2 s) (0 ∷ 0 ∷ []) ≡ leb 2 (leading_zeros s)
+unfolding leading_zeros
+zeros_test [] = same_not [] (0 ∷ 0 ∷ []) (λ e. clash cc)
+zeros_test (zero ∷ []) = same_not (0 ∷ []) (0 ∷ 0 ∷ []) (λ e. clash cc)
+zeros_test (suc a ∷ []) = same_not (suc a ∷ []) (0 ∷ 0 ∷ []) (λ e. clash cc)
+zeros_test (zero ∷ zero ∷ s) = same_self (0 ∷ 0 ∷ []) ∙ sym (le-leb 2 (suc (suc (leading_zeros s))) (omega arith))
+zeros_test (zero ∷ suc b ∷ s) = same_not (0 ∷ suc b ∷ []) (0 ∷ 0 ∷ []) (λ e. let z : suc b ≡ 0 = cc in omega arith)
+zeros_test (suc a ∷ b ∷ s) = same_not (suc a ∷ b ∷ []) (0 ∷ 0 ∷ []) (λ e. let z : suc a ≡ 0 = cc in omega arith)
 
 -- the prefix
 pub prefix_is : (s : List ℕ) (p : ℕ) → prefix_at s p ≡ same_bytes (take 3 (drop p s)) start_code_prefix

@@ -1,17 +1,16 @@
 -- What the code's tests say: bytes at an index, the codes that a search finds, and the bits and bytes after a picture header.
 -- Assumes nothing.
 use mathlib.Core.Path.{◌≡◌, refl, sym, ◌∙◌}
-use Prim.Native.Nat.{ℕ, zero, suc, ◌+◌, ◌-◌, ◌*◌, ◌/◌, ◌%◌, ◌≤◌, ◌<◌}
+use Prim.Native.Nat.{ℕ, ◌+◌, ◌-◌, ◌*◌, ◌/◌, ◌%◌, ◌<◌}
 use mathlib.Core.List.{List, [], ◌∷◌}
 use mathlib.Core.Bool.{Bool, true, false, not, ◌&&◌, ◌||◌, and_assoc}
 use native.Mathlib.Omega.{arith}
 use lib.Dec.{eqb, leb}
-use lib.ListN.{length, get_or, take, drop}
-use borrow.Author.Tests.{le-leb, ne_eqb}
+use lib.ListN.{length, take, drop}
+use borrow.Author.Tests.{ne_eqb}
 use Rattle.picture_header.specs.Facts.{is_field}
 use Rattle.bits.specs.StartCodes.{sequence_header_code}
 use Rattle.bits.specs.Bits.{there}
-use Rattle.bits.specs.Fields.{same_bytes}
 use Rattle.bits.specs.Answers.{read_bits, bits_answer}
 use Rattle.bits.specs.Refusals.{Answer, value, refused}
 use Rattle.bits.proofs.Laws.{bits_drop}
@@ -70,17 +69,6 @@ pub slices-some : (s : List ℕ) (i : ℕ) (c : StartCode) → found (skip is_ex
     → (is_slice c.code && every is_slice (codes_at s (c.offset + 4))) ≡ slices (skip is_extension (codes_at s i))
 unfolding slices
 slices-some s i c e = rw (sought is_extension s i c e).list
-
--- ---- zero bytes
-
-pub zeros_test : (s : List ℕ) → same_bytes (take 2 s) (0 ∷ 0 ∷ []) ≡ leb 2 (leading_zeros s)
-unfolding leading_zeros same_bytes
-zeros_test [] = refl
-zeros_test (zero ∷ []) = refl
-zeros_test (suc a ∷ []) = rw (ne_eqb (suc a) 0 (λ e. omega arith))
-zeros_test (zero ∷ zero ∷ s) = sym (le-leb 2 (suc (suc (leading_zeros s))) (omega arith))
-zeros_test (zero ∷ suc b ∷ s) = rw (ne_eqb (suc b) 0 (λ e. omega arith))
-zeros_test (suc a ∷ b ∷ s) = rw (ne_eqb (suc a) 0 (λ e. omega arith))
 
 -- ---- after a picture header
 

@@ -55,6 +55,11 @@ module _ (standard : VbvStandard) (s : List ℕ) where
   unfolding opening
   opening-opened h = ltb-false _ _ (was_no _ _ _ refused-value h).0
 
+  -- the front is the opening, the pictures, and the first of them
+  pub front_is : front standard s ≡ and_then (opening standard s) (λ p. and_then (seen_pictures standard s) (λ xs. with_first p xs))
+  unfolding front
+  front_is = refl
+
   -- ---- by what the opening has answered
 
   pub front-opened : {p : VbvParams} → opening standard s ≡ value p → front standard s ≡ and_then (seen_pictures standard s) (λ xs. with_first p xs)

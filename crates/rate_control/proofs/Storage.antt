@@ -3,10 +3,11 @@
 use mathlib.Core.Path.{◌≡◌, refl, sym, ap, ◌∙◌}
 use mathlib.Core.Bool.{Bool, true, false}
 use mathlib.Core.List.{List, [], ◌++◌, append_assoc}
-use Prim.Native.Nat.{ℕ, ◌+◌, ◌-◌, ◌≤◌}
+use Prim.Native.Nat.{ℕ, suc, ◌+◌, ◌-◌, ◌≤◌, ◌<◌}
 use native.Mathlib.Omega.{arith}
-use lib.ListN.{length, take, drop, replicate, length-append, length-drop, length-replicate}
-use lib.Seq.{sets, sets-eq, length-sets, take_at, drop_at, length-take-le}
+use native.Mathlib.Numerals.{add-one}
+use lib.ListN.{length, get_or, take, drop, set, replicate, drop_of_length-le, length-append, length-drop, length-replicate}
+use lib.Seq.{sets, sets-eq, length-sets, drop-cons, take_at, drop_at, length-take-le}
 use borrow.Rule.Slice.PartMut.{put_mid}
 use Rattle.std.proofs.lemmas.List.{take_all}
 use Rattle.std.proofs.lemmas.Slice.{put_mid-paste}
@@ -16,6 +17,16 @@ use Rattle.vbv.specs.Patch.{patched}
 use Rattle.vbv.proofs.After.{patched_size}
 use Rattle.scan.specs.Codes.{sequence_end}
 use Rattle.rate_control.specs.Offer.{end_code}
+
+-- one byte more
+pub put_step : (out bytes : List ℕ) (at k : ℕ) → k < length bytes
+    → sets (set out (at + k) (get_or bytes k 0)) (at + (k + 1)) (drop (k + 1) bytes) ≡ sets out (at + k) (drop k bytes)
+put_step out bytes at k h =
+    let e : at + (k + 1) ≡ suc (at + k) = omega arith in
+    rw (e, add-one k, drop-cons bytes k 0 h)
+
+pub put_done : (out bytes : List ℕ) (at k : ℕ) → length bytes ≤ k → sets out at (drop k bytes) ≡ out
+put_done out bytes at k h = ap (sets out at) (drop_of_length-le bytes h)
 
 -- a part of a run, written
 pub part_set : (s x y : List ℕ) (a k : ℕ) → a + length x ≤ length s → k ≡ length x → y ≡ x → put_mid a k s y ≡ sets s a x

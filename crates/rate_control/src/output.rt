@@ -12,7 +12,9 @@ fn put(out: &mut [u8], at: usize, bytes: &[u8])
     requires { at + length bytes.now ≤ length out.old }
     ensures { out.new ≡ sets out.old at bytes.now }
 {
-    out[at..at + bytes.len()].copy_from_slice(bytes);
+    for k in 0..bytes.len() {
+        out[at + k] = bytes[k];
+    }
 }
 
 // So many zeros from place `at` on.

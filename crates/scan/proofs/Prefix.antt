@@ -54,6 +54,11 @@ starts-before a b s = starts_third (a ∷ b ∷ 0 ∷ s) (λ e. omega arith)
 no_prefix : (s : List ℕ) → (length s ≡ 3 → ⊥) → same_bytes s start_code_prefix ≡ false
 no_prefix s n = same_not s start_code_prefix (λ e. n (ap length e))
 
+-- the last three bytes tell it; where there are fewer, all of them
+pub ends-last_three : (s : List ℕ) → same_bytes (drop (length s - 3) s) start_code_prefix ≡ ends_prefix s
+unfolding ends_prefix
+ends-last_three s = refl
+
 -- fewer than three do not
 pub ends-few : (s : List ℕ) → length s < 3 → false ≡ ends_prefix s
 unfolding ends_prefix

@@ -1,14 +1,20 @@
--- What a search that passes over some codes says of all of them.
+-- What a search that passes over some codes says of all of them; a test as code makes it.
 -- Assumes nothing.
 use mathlib.Core.Path.{◌≡◌, refl}
 use Prim.Native.Nat.{ℕ}
 use mathlib.Core.List.{List, [], ◌∷◌}
 use mathlib.Core.Bool.{Bool, true, false, not, ◌&&◌}
+use lib.Dec.{eqb}
 use Rattle.bits.specs.Bits.{pick}
+use Rattle.bits.specs.StartCodes.{sequence_header_code}
 use Rattle.std.specs.Prelude.{is_some}
 use Rattle.scan.specs.declared.StartCode.{StartCode}
 use Rattle.scan.specs.Codes.{codes, codes_at, every, found}
-use Rattle.scan.specs.Pictures.{skip}
+use Rattle.scan.specs.Pictures.{not_sequence, skip}
+
+pub sequence_test : (c : ℕ) → not (eqb c sequence_header_code) ≡ not_sequence c
+unfolding not_sequence
+sequence_test c = refl
 
 -- the scan of a part is the scan from its first byte
 pub codes_from-zero : (s : List ℕ) → codes s ≡ codes_at s 0

@@ -137,6 +137,7 @@ fn near_end(from: usize, end: usize) -> usize
 
 // Passes over quiet blocks up to one of 16 bytes that has 00 01, or to the last bytes. The next code is mostly near, and a
 // search by one width is foreseen best: only past NEAR quiet bytes are blocks of 64 passed over.
+#[inline(always)]
 #[tactic(auto, using(crate::proofs::Blocks::quiet))]
 fn next_block(s: &[u8], from: usize, end: usize) -> usize
     requires { end + 3 ≤ length s.now }
@@ -159,6 +160,8 @@ fn next_block(s: &[u8], from: usize, end: usize) -> usize
 
 // The first start code at or after `from`: blocks without 00 01 are passed over; a block with it is scanned, with the three
 // bytes after it, and so are the last bytes. Where a round goes on is found by the one before: no range counts the rounds.
+// Joined to its callers, for a call at each code costs a third more where codes are dense.
+#[inline(always)]
 pub fn next_code(s: &[u8], from: usize) -> Option<StartCode>
     ensures { result ≡ next_code s.now from }
 {

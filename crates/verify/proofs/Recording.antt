@@ -1,6 +1,6 @@
 -- The records of an accepted stream come one after another from a walk over its pictures.
 -- Assumes nothing.
-use mathlib.Core.Path.{◌≡◌, refl, sym, ◌∙◌}
+use mathlib.Core.Path.{◌≡◌, refl, sym, ap, ◌∙◌}
 use Prim.Native.Nat.{ℕ, ◌≤◌}
 use native.Mathlib.Omega.{arith}
 use mathlib.Core.List.{List, [], ◌∷◌}
@@ -8,7 +8,6 @@ use lib.ListN.{length}
 use Rattle.std.specs.Prelude.{Some}
 use Rattle.bits.specs.Refusals.{Answer, value, refused, and_then}
 use Rattle.vbv.specs.declared.VbvParams.{VbvParams}
-use Rattle.pictures.specs.Front.{opening}
 use Rattle.pictures.specs.Cadence.{cadence_of}
 use Rattle.pictures.specs.Seen.{next_seen, one}
 use Rattle.pictures.specs.Order as walk
@@ -22,11 +21,12 @@ use Rattle.verify.specs.Coded.{coded_of, timed}
 use Rattle.verify.specs.Check.{Accepted, verdict, reported, records}
 use Rattle.bits.proofs.Following.{refused-value, same_value}
 use Rattle.verify.specs.declared.VbvStreamReport.{VbvStreamReport}
-use Rattle.verify.specs.Steps.{advanced, last_of, recorder_of, went_on, recorded_by, next_record}
+use Rattle.verify.specs.Steps.{advanced, last_of, beginning, recorder_of, went_on, recorded_by, next_record, checked}
 use Rattle.verify.specs.declared.VbvMode.{VbvMode}
 use Rattle.verify.specs.declared.VbvPictureRecord.{VbvPictureRecord}
 use Rattle.verify.specs.declared.Progress.{Progress}
 use Rattle.verify.specs.declared.Progress.TheVariants.{Fresh}
+use Rattle.verify.specs.declared.recorder.VbvBeginning.{VbvBeginning}
 use Rattle.verify.specs.declared.recorder.VbvRecorder.{VbvRecorder}
 use Rattle.verify.proofs.Rising.{timed-first, timed-length}
 use Rattle.verify.proofs.Verdict.{Recorded, none, more, recorded-length, judges}
@@ -49,10 +49,17 @@ yields {m} {s} p k st {i = i} (walk.went_on {next = n} {x = x} {xs = xs} h t) (m
     next (step-one s (record { mode = m; params = p; at = i; cadence = k; progress = st }) x n h ∙ rw e)
     (yields {m = m} {s = s} p (after k x.facts) (advanced m.variable p st (coded_of (interval k x.facts) x)) t u)
 
+-- what `checked` answers
+abbrev Told : Type 0
+Told = Answer (VbvStreamReport × VbvBeginning)
+
 -- from the first byte on those of the verdict, for which there are places
 module _ (m : VbvMode) (s : List ℕ) (places : ℕ) where
   accepted_so : (v : Accepted) → verdict m s places ≡ value v
-      → (opening m.standard s ≡ value v.params) × Yields s (recorder_of m s v.params) (v.first ∷ v.others) × (length (v.first ∷ v.others) ≤ places)
+      → (beginning m s ≡ value (record { params = v.params; cadence = cadence_of m.film s }))
+      × Yields s (recorder_of m (record { params = v.params; cadence = cadence_of m.film s })) (v.first ∷ v.others)
+      × (length (v.first ∷ v.others) ≤ places)
+  unfolding beginning
   accepted_so v h =
       let a = in_mode (passed m s places h) in
       let k = cadence_of m.film s in
@@ -60,7 +67,7 @@ module _ (m : VbvMode) (s : List ℕ) (places : ℕ) where
       let os = timed (after k f.facts) a.others in
       let j = judges m.variable v.params places (interval k f.facts) f os (rw (timed-first k f a.others) at (rising_by a)) in
       let r : Recorded m.variable v.params Fresh (timed k (f ∷ a.others)) (v.first ∷ v.others) = rw (timed-first k f a.others) (j.recorded v.first v.others (rw (timed-first k f a.others) at (judged_is a))) in (
-        opening-short m.standard s a.is_read.short ∙ a.is_read.declares,
+        rw (opening-short m.standard s a.is_read.short, a.is_read.declares) refl,
         yields v.params k Fresh (rw a.is_read.pictures_are at (steps_give m.standard s a.is_read.short)) r,
         omega (arith, recorded-length r, timed-length k (f ∷ a.others), a.places_suffice),
       )
@@ -74,14 +81,32 @@ module _ (m : VbvMode) (s : List ℕ) (places : ℕ) where
         go (value v) e h = (v, e)
         go (refused n k c d) e h = absurd (refused-value (sym h))
 
-    pub opens_to : {w : VbvRecorder} → value w ≡ and_then (opening m.standard s) (λ p. value (recorder_of m s p)) → Yields s w (records (verdict m s places))
+    pub opens_to : {b : VbvBeginning} → value b ≡ beginning m s → Yields s (recorder_of m b) (records (verdict m s places))
     opens_to o = let (v, e) = as_accepted in let a = accepted_so v e in rw e (rw (same_value (rw a.0 at o)) a.1)
 
     pub places_suffice : length (records (verdict m s places)) ≤ places
     places_suffice = let (v, e) = as_accepted in rw e (accepted_so v e).2
 
-    pub opens : {n k c d : ℕ} → refused n k c d ≡ and_then (opening m.standard s) (λ p. value (recorder_of m s p)) → ⊥
-    opens o = let (v, e) = as_accepted in refused-value (rw (accepted_so v e).0 at o)
+    begins : {n k c d : ℕ} → ◌≡◌ {A = Told} (refused n k c d) (and_then (beginning m s) (λ b. value (x, b))) → ⊥
+    begins o = let (v, e) = as_accepted in refused-value (rw (accepted_so v e).0 at o)
+
+  -- by what `checked` answers
+  pub answered : {x : VbvStreamReport} {b : VbvBeginning} → ◌≡◌ {A = Told} (value (x, b)) (checked m s (reported (verdict m s places))) → (value x ≡ reported (verdict m s places)) × (value b ≡ beginning m s)
+  unfolding checked
+  answered {x} {b} h = go (reported (verdict m s places)) (beginning m s) h
+    where
+      go : (a : Answer VbvStreamReport) (g : Answer VbvBeginning) → ◌≡◌ {A = Told} (value (x, b)) (and_then a (λ r. and_then g (λ y. value (r, y)))) → (value x ≡ a) × (value b ≡ g)
+      go (value r) (value y) h = let e : (x, b) ≡ (r, y) = same_value h in (ap (λ p. value p.0) e, ap (λ p. value p.1) e)
+      go (value r) (refused n k c d) h = absurd (refused-value (sym h))
+      go (refused n k c d) g h = absurd (refused-value (sym h))
+
+  pub unanswered : {n k c d : ℕ} → ◌≡◌ {A = Told} (refused n k c d) (checked m s (reported (verdict m s places))) → refused n k c d ≡ reported (verdict m s places)
+  unfolding checked
+  unanswered {n} {k} {c} {d} h = go (reported (verdict m s places)) refl h
+    where
+      go : (a : Answer VbvStreamReport) → reported (verdict m s places) ≡ a → ◌≡◌ {A = Told} (refused n k c d) (and_then a (λ r. and_then (beginning m s) (λ b. value (r, b)))) → refused n k c d ≡ a
+      go (value x) e h = absurd (begins (sym e) h)
+      go (refused i j x y) e h = ap (λ (z : Told). and_then {Y = VbvStreamReport} z (λ _. refused n k c d)) h
 
 pub none_recorded : (v : Answer Accepted) {n k c d : ℕ} → refused n k c d ≡ reported v → records v ≡ []
 none_recorded (value v) h = absurd (refused-value h)

@@ -9,7 +9,7 @@ use Rattle.bits.specs.Bits.{pick}
 use Rattle.bits.specs.Refusals.{Answer, value, refused, refuse, violate, and_then}
 use Rattle.vbv.specs.Annex.{arrived, expected_delay, occupancy}
 use Rattle.vbv.specs.Model.{delivered, model_fits, after_removal, periods, farthest}
-use Rattle.vbv.specs.Steps.{EndFits, model_error_of}
+use Rattle.vbv.specs.Steps.{EndFits}
 use Rattle.vbv.specs.Answers.{model_refusal, violation, removal_answer}
 use Rattle.vbv.specs.declared.VbvCbrModel.{VbvCbrModel}
 use Rattle.vbv.specs.declared.VbvError.{VbvError}
@@ -19,6 +19,7 @@ use Rattle.vbv.specs.declared.VbvRemovalError.TheVariants as rm
 use Rattle.vbv.specs.declared.VbvViolation.{VbvViolation}
 use Rattle.vbv.specs.declared.VbvViolation.TheVariants.{Overflow, Underflow, DelayMismatch}
 use Rattle.vbv.proofs.Laws.{occupancy_told}
+use Rattle.vbv.proofs.Numbers.{model_error_back}
 use Rattle.vbv.proofs.Told.{next_delivered_is, delay_told, removal_told}
 use Rattle.vbr.specs.Variable.{variable_fits, model_fits_at}
 use Rattle.vbr.proofs.Laws.{variable-removal_told, variable-occupancy_told}
@@ -114,9 +115,9 @@ module _ (m : VbvCbrModel) (c : CodedPicture) where
   told_all : (n e : ℕ) (r : VbvPictureRecord) (f g a o u : Bool)
       → verified_answer (result_of (with_model false m c (refuse 7 f (refuse 8 g (violate 11 n c.vbv_delay e a (violate 9 n c.vbv_delay e o (violate 10 n c.vbv_delay e u (value r))))))))
       ≡ with_model false m c (refuse 7 f (refuse 8 g (violate 11 n c.vbv_delay e a (violate 9 n c.vbv_delay e o (violate 10 n c.vbv_delay e u (value r))))))
-  unfolding result_of error_of model_error_of pick
-  told_all n e r true g a o u = refl
-  told_all n e r false true a o u = refl
+  unfolding result_of error_of pick
+  told_all n x r true g a o u = rw (model_error_back e.Early)
+  told_all n x r false true a o u = rw (model_error_back e.DelayTooLong)
   told_all n e r false false true o u = refl
   told_all n e r false false false true u = refl
   told_all n e r false false false false u = told_10 false n e r u

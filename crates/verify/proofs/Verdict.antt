@@ -1,6 +1,6 @@
 -- The walk's judgement is the verdict, and the last records on the way are the verdict's.
 -- Assumes nothing.
-use mathlib.Core.Path.{◌≡◌, refl, ap, subst, ◌∙◌}
+use mathlib.Core.Path.{◌≡◌, refl, sym, ap, subst, ◌∙◌}
 use mathlib.Core.Bool.{Bool, true, false, not, ◌&&◌, true≢false}
 use Prim.Native.Nat.{ℕ, suc, ◌+◌, ◌*◌, ◌≤◌, min, max}
 use mathlib.Core.List.{List, [], ◌∷◌}
@@ -18,6 +18,7 @@ use Rattle.vbv.specs.declared.VbvParams.{VbvParams}
 use Rattle.vbv.specs.declared.VbvCbrModel.{VbvCbrModel}
 use Rattle.vbv.specs.declared.VbvError.TheVariants.{Params as ParamsError}
 use Rattle.vbv.proofs.Laws.{model-made, started, model-starts}
+use Rattle.vbv.proofs.Numbers.{model_error_back}
 use Rattle.vbv.proofs.Told.{makes, unmade}
 use Rattle.vbr.proofs.Laws.{variable_makes, variable_unmade, variable-made, variable-starts, variable_started}
 use Rattle.verify.specs.declared.VbvPictureRecord.{VbvPictureRecord}
@@ -28,20 +29,21 @@ use Rattle.verify.specs.declared.CodedPicture.{CodedPicture}
 use Rattle.verify.specs.declared.Walked.{Walked}
 use Rattle.verify.specs.declared.VbvMode.{VbvMode}
 use Rattle.verify.specs.Coded.{coded_of, timed}
-use Rattle.vbv.specs.Steps.{model_error_of}
 use Rattle.vbv.specs.declared.RemovalInterval.{RemovalInterval}
 use Rattle.cadence.specs.Cadence.{interval, after}
-use Rattle.pictures.specs.Front.{opening, front, with_first}
+use Rattle.pictures.specs.Front.{opening, with_first}
 use Rattle.pictures.specs.Seen.{seen_pictures}
 use Rattle.pictures.specs.Cadence.{cadence_of}
 use Rattle.pictures.specs.declared.SeenPicture.{SeenPicture}
-use Rattle.pictures.proofs.Due.{opening-opened}
+use Rattle.pictures.proofs.Due.{opening-opened, front_is, first-none, first_some}
 use Rattle.verify.specs.declared.Progress.{Progress}
 use Rattle.verify.specs.declared.Progress.TheVariants.{Fresh, Unmodelled, Running, Stopped}
 use Rattle.verify.specs.Run.{run, occupancy_after, least_after, greatest_before}
-use Rattle.verify.specs.Check.{Accepted, accepted, all_variable, modelled, with_pictures, verdict_by, report_of, reported}
+use Rattle.verify.specs.Mode.{mode_fits}
+use Rattle.verify.proofs.Modes.{verdict_in}
+use Rattle.verify.specs.Check.{verdict, Accepted, accepted, all_variable, modelled, with_pictures, verdict_by, report_of, reported}
 use Rattle.verify.specs.Answers.{refusal, refusal_of, verified_answer}
-use Rattle.verify.specs.Steps.{error_of, result_of, first_model, progressed, begun, gone_on_from, advanced, advanced_all, recorder_of, walked_over, walked, if_placed, judgement, last_of}
+use Rattle.verify.specs.Steps.{error_of, result_of, first_model, progressed, begun, gone_on_from, advanced, advanced_all, beginning, recorder_of, walked_over, walked_from, walked, if_placed, judgement, last_of}
 use Rattle.pictures.specs.Order.{Placed}
 use Rattle.pictures.proofs.Order.{seen_rising}
 use Rattle.verify.proofs.Rising.{Rising, next, timed_rising, timed-first, timed-length}
@@ -263,9 +265,9 @@ module _ (p : VbvParams) (j : RemovalInterval) (pic : SeenPicture) (cs : List Co
   other_rate_lem false o = rw o (stays_unmodelled p VariableRate cs constant)
 
   unfit : (v : Bool) → other_rate v pic (c ∷ cs) ≡ false → params_fit_at v p ≡ false → advanced_all v p Fresh (c ∷ cs) ≡ Unmodelled (Model ParamsError)
-  unfolding advanced_all advanced gone_on_from begun first_model result_of error_of model_error_of pick
-  unfit true o f = rw (first_flows o, variable_unmade p f) (stays_unmodelled p (Model ParamsError) cs (flows_others (flows true o)))
-  unfit false o f = rw (o, unmade p f) (stays_unmodelled p (Model ParamsError) cs constant)
+  unfolding advanced_all advanced gone_on_from begun first_model result_of error_of pick
+  unfit true o f = rw (first_flows o, variable_unmade p f) (rw (model_error_back ParamsError) (stays_unmodelled p (Model ParamsError) cs (flows_others (flows true o))))
+  unfit false o f = rw (o, unmade p f) (rw (model_error_back ParamsError) (stays_unmodelled p (Model ParamsError) cs constant))
 
 -- ---- a list of coded pictures
 
@@ -396,24 +398,35 @@ module _ (m : VbvMode) (s : List ℕ) (places : ℕ) where
   judged_by a = and_then a (λ w. verified_answer (judgement w.params places w.pictures w.progress))
 
   by_pictures : (p : VbvParams) (a : Answer (List SeenPicture)) → 8 * length s ≤ farthest → seen_pictures m.standard s ≡ a
-      → judged_by (and_then a (λ xs. value (walked_over (recorder_of m s p) 0 xs)))
+      → judged_by (and_then a (λ xs. value (walked_over (recorder_of m (record { params = p; cadence = cadence_of m.film s })) 0 xs)))
       ≡ reported (and_then (and_then a (λ xs. with_first p xs)) (λ f. with_pictures m.variable places f.params f.first (timed (cadence_of m.film s) (f.first ∷ f.others))))
-  unfolding walked_over with_first judgement advanced_all timed
+  unfolding walked_over judgement advanced_all timed
   by_pictures p (refused n i x y) h e = refl
-  by_pictures p (value []) h e = refl
+  by_pictures p (value []) h e = rw (first-none p)
   by_pictures p (value (x ∷ xs)) h e =
       let k = cadence_of m.film s in
       let l : 0 + length (x ∷ xs) ≡ length (coded_of (interval k x.facts) x ∷ timed (after k x.facts) xs) = omega (arith, timed-length (after k x.facts) xs) in
       let t = timed_rising k (seen_rising m.standard s (x ∷ xs) h e) in
-      rw l (judges m.variable p places (interval k x.facts) x (timed (after k x.facts) xs) (rw (timed-first k x xs) at t)).answer
+      rw (first_some p x xs, l) (judges m.variable p places (interval k x.facts) x (timed (after k x.facts) xs) (rw (timed-first k x xs) at t)).answer
 
-  pub judgement_is : judged_by (walked m s) ≡ reported (verdict_by m.standard m.variable (cadence_of m.film s) s places)
-  unfolding walked verdict_by front
-  judgement_is = go (opening m.standard s) refl
+  judgement_is : judged_by (walked m s) ≡ reported (verdict_by m.standard m.variable (cadence_of m.film s) s places)
+  unfolding walked beginning verdict_by
+  judgement_is = rw (front_is m.standard s) (go (opening m.standard s) refl)
     where
       go : (o : Answer VbvParams) → opening m.standard s ≡ o
-          → judged_by (and_then o (λ p. and_then (seen_pictures m.standard s) (λ xs. value (walked_over (recorder_of m s p) 0 xs))))
+          → judged_by (and_then (and_then o (λ p. value (record { params = p; cadence = cadence_of m.film s }))) (λ b. walked_from (recorder_of m b) s))
           ≡ reported (and_then (and_then o (λ p. and_then (seen_pictures m.standard s) (λ xs. with_first p xs)))
           (λ f. with_pictures m.variable places f.params f.first (timed (cadence_of m.film s) (f.first ∷ f.others))))
       go (refused n i x y) h = refl
       go (value p) h = by_pictures p (seen_pictures m.standard s) (opening-opened m.standard s h) refl
+
+  -- of a mode that there is
+  module _ (f : mode_fits m ≡ true) where
+    as_verdict : reported (verdict_by m.standard m.variable (cadence_of m.film s) s places) ≡ reported (verdict m s places)
+    as_verdict = ap reported (sym (verdict_in m s places f))
+
+    pub verdict_read : {w : Walked} → value w ≡ walked m s → verified_answer (judgement w.params places w.pictures w.progress) ≡ reported (verdict m s places)
+    verdict_read h = rw (← h) at judgement_is ∙ as_verdict
+
+    pub verdict_unread : {n k c e : ℕ} → refused n k c e ≡ walked m s → refused n k c e ≡ reported (verdict m s places)
+    verdict_unread h = rw (← h) at judgement_is ∙ as_verdict

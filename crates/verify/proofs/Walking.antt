@@ -1,6 +1,6 @@
 -- The walk from picture to picture: what is still to come makes of the walk what the whole stream makes of it at the first byte.
 -- Assumes nothing.
-use mathlib.Core.Path.{◌≡◌, refl, sym, ap, ◌∙◌}
+use mathlib.Core.Path.{◌≡◌, refl, sym, ◌∙◌}
 use Prim.Native.Nat.{ℕ, suc, ◌+◌, ◌*◌, ◌≤◌, ◌<◌}
 use mathlib.Core.List.{List, [], ◌∷◌}
 use native.Mathlib.Omega.{arith}
@@ -11,17 +11,20 @@ use Rattle.bits.specs.Refusals.{Answer, value, refused, and_then, or_else}
 use Rattle.vbv.specs.declared.VbvParams.{VbvParams}
 use Rattle.pictures.specs.Seen.{Sight, seen_pictures, next_seen, nothing, one}
 use Rattle.pictures.specs.Front.{opening}
+use Rattle.pictures.specs.Cadence.{cadence_of}
 use Rattle.pictures.specs.Answers.{unread}
 use Rattle.pictures.specs.declared.Unread.{Unread}
 use Rattle.pictures.specs.declared.Unread.TheVariants as un
 use Rattle.pictures.specs.declared.SeenPicture.{SeenPicture}
 use Rattle.pictures.proofs.Seeing.{seen_from, before, seen_from_first, seen_end, seen_refused, seen_one}
 use Rattle.pictures.proofs.Due.{opening-opened}
+use Rattle.bits.proofs.Following.{refused-value}
 use Rattle.verify.specs.Answers.{unread_error, refusal}
 use Rattle.verify.specs.Coded.{timed}
-use Rattle.verify.specs.Steps.{advanced_all, recorder_of, went_on, took, is_one, stepped, steps, walked_over, walked, last_of, recorded_by, next_record}
+use Rattle.verify.specs.Steps.{advanced_all, beginning, recorder_of, went_on, took, is_one, stepped, steps, walked_over, walked_from, walked, last_of, recorded_by, next_record}
 use Rattle.verify.specs.declared.VbvMode.{VbvMode}
 use Rattle.verify.specs.declared.Walked.{Walked}
+use Rattle.verify.specs.declared.recorder.VbvBeginning.{VbvBeginning}
 use Rattle.verify.specs.declared.recorder.VbvRecorder.{VbvRecorder}
 
 -- the front's refusals tell the same among those of the check
@@ -100,7 +103,7 @@ pub record Walking (m : VbvMode) (s : List ℕ) (w₀ w : VbvRecorder) (n : ℕ)
   pub inside : w.at ≤ length s
   pub answer : over w n (seen_from m.standard s w.at) ≡ over w₀ 0 (seen_pictures m.standard s)
 
-walking-none : (m : VbvMode) (s : List ℕ) {w : VbvRecorder} → w.mode ≡ m → w.at ≡ 0 → Walking m s w w 0
+pub walking-none : (m : VbvMode) (s : List ℕ) {w : VbvRecorder} → w.mode ≡ m → w.at ≡ 0 → Walking m s w w 0
 walking-none m s {w} i e = record { in_mode = i; few = omega arith; inside = omega (arith, e); answer = rw (e, seen_from_first m.standard s) }
 
 module _ {m : VbvMode} {s : List ℕ} (short : 8 * length s ≤ farthest) {w₀ w : VbvRecorder} {n : ℕ} (h : Walking m s w₀ w n) {new : VbvRecorder} (g : new ≡ stepped s w) where
@@ -132,31 +135,20 @@ module _ {m : VbvMode} {s : List ℕ} (short : 8 * length s ≤ farthest) {w₀ 
             o.0,
           )
 
--- ---- the walk at the first byte
+-- ---- what the first headers declare
 
-pub opened : (m : VbvMode) (s : List ℕ) {w : VbvRecorder} → value w ≡ and_then (opening m.standard s) (λ p. value (recorder_of m s p)) → (opening m.standard s ≡ value w.params) × (w ≡ recorder_of m s w.params)
-opened m s {w} h = go (opening m.standard s) h
+pub beginning_short : (m : VbvMode) (s : List ℕ) {b : VbvBeginning} → value b ≡ beginning m s → 8 * length s ≤ farthest
+unfolding beginning
+beginning_short m s {b} h = go (opening m.standard s) refl h
   where
-    go : (a : Answer VbvParams) → value w ≡ and_then a (λ p. value (recorder_of m s p)) → (a ≡ value w.params) × (w ≡ recorder_of m s w.params)
-    go (value p) h = let e : w ≡ recorder_of m s p = cc in rw e (refl, refl)
-    go (refused n k c e) h = let z : ◌≡◌ {A = ℕ} 0 1 = cc in absurd (omega arith)
+    go : (a : Answer VbvParams) → opening m.standard s ≡ a → value b ≡ and_then a (λ p. value (record { params = p; cadence = cadence_of m.film s })) → 8 * length s ≤ farthest
+    go (value p) e h = opening-opened m.standard s e
+    go (refused n k c x) e h = absurd (refused-value (sym h))
 
-module _ (m : VbvMode) (s : List ℕ) {w : VbvRecorder} (h : value w ≡ and_then (opening m.standard s) (λ p. value (recorder_of m s p))) where
-  pub opened_short : 8 * length s ≤ farthest
-  opened_short = opening-opened m.standard s (opened m s h).0
-
-  pub opened-walking : Walking m s w w 0
-  opened-walking = let o = (opened m s h).1 in walking-none m s (ap (λ (x : VbvRecorder). x.mode) o) (ap (λ (x : VbvRecorder). x.at) o)
-
-pub walked_opened : (m : VbvMode) (s : List ℕ) {w : VbvRecorder} → value w ≡ and_then (opening m.standard s) (λ p. value (recorder_of m s p)) → over w 0 (seen_pictures m.standard s) ≡ walked m s
+pub walked_begun : (m : VbvMode) (s : List ℕ) {b : VbvBeginning} → value b ≡ beginning m s → walked_from (recorder_of m b) s ≡ walked m s
 unfolding walked
-walked_opened m s {w} h = let o = opened m s h in rw (o.0, ← o.1)
+walked_begun m s h = rw (← h) refl
 
-pub walked_unopened : (m : VbvMode) (s : List ℕ) {n k c e : ℕ} → refused n k c e ≡ and_then (opening m.standard s) (λ p. value (recorder_of m s p)) → refused n k c e ≡ walked m s
+pub walked_unbegun : (m : VbvMode) (s : List ℕ) {n k c e : ℕ} → refused n k c e ≡ beginning m s → refused n k c e ≡ walked m s
 unfolding walked
-walked_unopened m s {n} {k} {c} {e} h = go (opening m.standard s) h
-  where
-    go : (a : Answer VbvParams) → refused n k c e ≡ and_then a (λ p. value (recorder_of m s p))
-        → refused n k c e ≡ and_then a (λ p. and_then (seen_pictures m.standard s) (λ xs. value (walked_over (recorder_of m s p) 0 xs)))
-    go (value p) h = let z : ◌≡◌ {A = ℕ} 0 1 = cc in absurd (omega arith)
-    go (refused i j x y) h = ap (λ (z : Answer VbvRecorder). and_then {Y = Walked} z (λ _. refused n k c e)) h
+walked_unbegun m s h = rw (← h) refl

@@ -30,6 +30,7 @@ use Rattle.verify.specs.declared.VbvVerifyError.TheVariants.{Parse, Model, NoSeq
 use Rattle.verify.specs.declared.Progress.{Progress}
 use Rattle.verify.specs.declared.Progress.TheVariants.{Fresh, Unmodelled, Running, Stopped}
 use Rattle.verify.specs.declared.Walked.{Walked}
+use Rattle.verify.specs.declared.recorder.VbvBeginning.{VbvBeginning}
 use Rattle.verify.specs.declared.recorder.VbvRecorder.{VbvRecorder}
 
 -- ---- a refusal by what it tells; proofs/Cases.antt says that no two tell the same
@@ -140,9 +141,13 @@ advanced_all v p st (c ∷ cs) = advanced_all v p (advanced v p st c) cs
 
 -- ---- the walk
 
--- before the first picture of a stream that declares p
-abbrev pub recorder_of : VbvMode → List ℕ → VbvParams → VbvRecorder
-recorder_of m s p = record { mode = m; params = p; at = 0; cadence = cadence_of m.film s; progress = Fresh }
+-- what the first headers declare: 14, 3, sequence header, extension, 6
+unfoldable pub beginning : VbvMode → List ℕ → Answer VbvBeginning
+beginning m s = and_then (opening m.standard s) (λ p. value (record { params = p; cadence = cadence_of m.film s }))
+
+-- before the first picture
+abbrev pub recorder_of : VbvMode → VbvBeginning → VbvRecorder
+recorder_of m b = record { mode = m; params = b.params; at = 0; cadence = b.cadence; progress = Fresh }
 
 -- after one more picture
 unfoldable pub went_on : VbvRecorder → SeenPicture → ℕ → VbvRecorder
@@ -177,12 +182,13 @@ unfoldable pub walked_over : VbvRecorder → ℕ → List SeenPicture → Walked
 walked_over w n xs =
     record { params = w.params; pictures = n + length xs; progress = advanced_all w.mode.variable w.params w.progress (timed w.cadence xs) }
 
--- of a whole stream: 14, 3, sequence header, extension, 6, every picture header in stream order
+-- every picture header in stream order
+abbrev pub walked_from : VbvRecorder → List ℕ → Answer Walked
+walked_from w s = and_then (seen_pictures w.mode.standard s) (λ xs. value (walked_over w 0 xs))
+
+-- of a whole stream: its first headers, and these
 unfoldable pub walked : VbvMode → List ℕ → Answer Walked
-walked m s =
-    and_then (opening m.standard s) (λ p.
-    and_then (seen_pictures m.standard s) (λ xs.
-    value (walked_over (recorder_of m s p) 0 xs)))
+walked m s = and_then (beginning m s) (λ b. walked_from (recorder_of m b) s)
 
 -- ---- the answer
 
@@ -203,6 +209,10 @@ judgement p places n (Running m r least greatest) =
       max_occupancy_before_bits = greatest;
     })
 judgement p places n (Stopped e) = if_placed n places (Err e)
+
+-- the answer, and what the first headers declare
+unfoldable pub checked : VbvMode → List ℕ → Answer VbvStreamReport → Answer (VbvStreamReport × VbvBeginning)
+checked m s a = and_then a (λ r. and_then (beginning m s) (λ b. value (r, b)))
 
 -- ---- the records one by one
 

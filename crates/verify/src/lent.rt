@@ -7,7 +7,8 @@ ghost use Rattle.verify.specs.Check.{verdict, reported, records as records_of};
 ghost use Rattle.verify.specs.Mode.{plain as plain_of};
 
 use crate::recorder::VbvRecorder;
-use crate::{VbvMode, VbvPictureRecord, VbvStreamReport, VbvVerifyError, check_stream};
+use crate::report::checked;
+use crate::{VbvMode, VbvPictureRecord, VbvStreamReport, VbvVerifyError};
 use pictures::VbvStandard;
 
 // The buffer report of a stream with its records, or why it is refused. The records of an accepted stream are stored from
@@ -20,8 +21,9 @@ pub fn verify_cbr_stream(
     ensures result_value { verified_answer result ≡ reported (verdict (plain_of standard) stream.now (length records.old)) }
     ensures records_after { records.new ≡ over (records_of (verdict (plain_of standard) stream.now (length records.old))) records.old }
 {
-    let report = check_stream(stream, standard, records.len())?;
-    let mut recorder = VbvRecorder::new(stream, VbvMode::plain(standard))?;
+    let mode = VbvMode::plain(standard);
+    let (report, beginning) = checked(stream, mode, records.len())?;
+    let mut recorder = VbvRecorder::new(mode, beginning);
     let count = report.pictures as usize;
     for place in records[..count].iter_mut() {
         if let Some(record) = recorder.next_record(stream) {

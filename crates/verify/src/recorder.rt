@@ -1,15 +1,20 @@
 // A walk over the pictures of a stream, with the model running along.
 ghost use Rattle.std.specs.Prelude.{◌≡◌};
-ghost use Rattle.pictures.specs.Front.{opening as opening_of};
-ghost use Rattle.bits.specs.Refusals.{and_then, value};
 ghost use Rattle.verify.specs.Answers.{verified_answer};
-ghost use Rattle.verify.specs.Steps.{recorder_of, last_of, stepped, steps, next_record};
+ghost use Rattle.verify.specs.Steps.{beginning, recorder_of, last_of, stepped, steps, next_record};
 
 use crate::run::advance;
 use crate::{Progress, VbvMode, VbvPictureRecord, VbvVerifyError};
 use cadence::VbvCadence;
 use pictures::{cadence_of, next_seen, opening};
 use vbv::VbvParams;
+
+// What a stream's first headers declare: the parameters, and the cadence before the first picture.
+#[derive(Clone, Copy)]
+pub(crate) struct VbvBeginning {
+    pub(crate) params: VbvParams,
+    pub(crate) cadence: VbvCadence,
+}
 
 // Where the walk goes on, the cadence before the next picture, and how far the model has come.
 #[derive(Drop)]
@@ -38,20 +43,28 @@ fn last_of(progress: Progress) -> Option<VbvPictureRecord>
     None
 }
 
+// The first headers: 14, 3, sequence header, extension, 6.
+pub(crate) fn beginning(stream: &[u8], mode: VbvMode) -> Result<VbvBeginning, VbvVerifyError>
+    ensures { verified_answer result ≡ beginning mode stream.now }
+{
+    let params = opening(stream, mode.standard)?;
+    let cadence = cadence_of(stream, mode.film);
+    Ok(VbvBeginning { params, cadence })
+}
+
 impl VbvRecorder {
     // Before the first picture.
-    pub(crate) fn new(stream: &[u8], mode: VbvMode) -> Result<VbvRecorder, VbvVerifyError>
-        ensures { verified_answer result ≡ and_then (opening_of mode.standard stream.now) (λ p. value (recorder_of mode stream.now p)) }
+    #[tactic(auto, unfolding(crate::specs::Steps::recorder_of))]
+    pub(crate) fn new(mode: VbvMode, beginning: VbvBeginning) -> VbvRecorder
+        ensures { result ≡ recorder_of mode beginning }
     {
-        let params = opening(stream, mode.standard)?;
-        let cadence = cadence_of(stream, mode.film);
-        Ok(VbvRecorder {
+        VbvRecorder {
             mode,
-            params,
+            params: beginning.params,
             at: 0,
-            cadence,
+            cadence: beginning.cadence,
             progress: Progress::Fresh,
-        })
+        }
     }
 
     // The next picture taken, or false where there is none.

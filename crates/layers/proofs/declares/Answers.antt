@@ -1,4 +1,3 @@
-use mathlib.Core.Path.{sym, ap, ◌∙◌}
 use Rattle.layers.specs.Headers.{declares}
 use Rattle.layers.proofs.declares.Goals as goal
 

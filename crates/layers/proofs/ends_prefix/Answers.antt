@@ -1,8 +1,7 @@
 use mathlib.Core.Path.{◌∙◌}
 use Rattle.bits.proofs.Starting.{same_pointwise}
-use Rattle.scan.specs.Codes.{ends_prefix}
+use Rattle.scan.proofs.Prefix.{ends-last_three}
 use Rattle.layers.proofs.ends_prefix.Goals as goal
 
 pub returns : goal.returns
-unfolding ends_prefix
-returns c = c.ends_with.ensures.value ∙ same_pointwise _ _
+returns c = c.ends_with.ensures.value ∙ (same_pointwise _ _ ∙ ends-last_three _)

@@ -1,4 +1,3 @@
-use mathlib.Core.Path.{◌∙◌}
 use Rattle.layers.proofs.Ways.{opens_test}
 use Rattle.layers.proofs.opens_headers.Goals as goal
 

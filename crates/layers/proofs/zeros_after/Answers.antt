@@ -1,4 +1,5 @@
-use Rattle.layers.proofs.Ways.{extra-room, bytes_by, zeros_test}
+use Rattle.headers.proofs.StartCode.{zeros_test}
+use Rattle.layers.proofs.Ways.{extra-room, bytes_by}
 use mathlib.Core.Path.{◌∙◌}
 use native.Mathlib.Omega.{arith}
 use Rattle.layers.proofs.zeros_after.Goals as goal

@@ -1,20 +1,11 @@
-use mathlib.Core.Path.{◌≡◌, refl, ◌∙◌}
-use Rattle.std.specs.Prelude.{false}
-use Rattle.picture_header.specs.declared.PictureFacts.{PictureFacts}
-use Rattle.cadence.specs.declared.VbvCadence.{VbvCadence}
-use Rattle.bits.specs.Bits.{pick}
-use Rattle.cadence.specs.Cadence.{after}
+use mathlib.Core.Path.{refl, ◌∙◌}
+use Rattle.cadence.proofs.Keeping.{unmoved}
 use Rattle.verify.specs.Answers.{unread_error}
 use Rattle.verify.specs.Steps.{went_on, took, is_one, stepped, steps}
 use Rattle.verify.proofs.Exits.{told_err}
 use Rattle.verify.proofs.Walking.{same_refusal}
 use Rattle.verify.proofs.recorder.VbvRecorder.step.Goals as goal
 use Rattle.verify.proofs.recorder.VbvRecorder.step.Goals.{then-self, else-self}
-
--- outside film
-kept : (k : VbvCadence) (x : PictureFacts) → k.film ≡ false → after k x ≡ k
-unfolding after pick
-kept k x e = rw e refl
 
 pub returns-in_err-seen-clause-recorder_after : goal.returns-in_err-seen-clause-recorder_after
 unfolding stepped
@@ -38,7 +29,7 @@ unfolding stepped took went_on
 returns-clause-recorder_after c =
     elim c.if-self.branch [
       | then-self w ↦ rw (← c.in_ok-seen.ensures, c.in-Some.is, c.advance-self.ensures, w.self-is, w.after-self.ensures, c.interval-interval.ensures) refl
-      | else-self w ↦ rw (← c.in_ok-seen.ensures, c.in-Some.is, c.advance-self.ensures, w.self-is, kept c.args.self.now.cadence c.in-Some.seen.facts w.if-self.false, c.interval-interval.ensures) refl
+      | else-self w ↦ rw (← c.in_ok-seen.ensures, c.in-Some.is, c.advance-self.ensures, w.self-is, unmoved c.args.self.now.cadence c.in-Some.seen.facts w.if-self.false, c.interval-interval.ensures) refl
     ]
 
 pub returns-clause-result_value : goal.returns-clause-result_value
