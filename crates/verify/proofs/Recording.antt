@@ -8,6 +8,7 @@ use lib.ListN.{length}
 use Rattle.std.specs.Prelude.{Some}
 use Rattle.bits.specs.Refusals.{Answer, value, refused, and_then}
 use Rattle.vbv.specs.declared.VbvParams.{VbvParams}
+use Rattle.pictures.specs.Front.{opening}
 use Rattle.pictures.specs.Cadence.{cadence_of}
 use Rattle.pictures.specs.Seen.{next_seen, one}
 use Rattle.pictures.specs.Order as walk
@@ -30,6 +31,7 @@ use Rattle.verify.specs.declared.recorder.VbvBeginning.{VbvBeginning}
 use Rattle.verify.specs.declared.recorder.VbvRecorder.{VbvRecorder}
 use Rattle.verify.proofs.Rising.{timed-first, timed-length}
 use Rattle.verify.proofs.Verdict.{Recorded, none, more, recorded-length, judges}
+use Rattle.verify.proofs.Walking.{beginning_is, first_recorder}
 use Rattle.verify.proofs.Accepted.{in_mode, judged_is, passed, rising_by}
 
 -- the walk at w gives these records, one after another
@@ -56,10 +58,7 @@ Told = Answer (VbvStreamReport × VbvBeginning)
 -- from the first byte on those of the verdict, for which there are places
 module _ (m : VbvMode) (s : List ℕ) (places : ℕ) where
   accepted_so : (v : Accepted) → verdict m s places ≡ value v
-      → (beginning m s ≡ value (record { params = v.params; cadence = cadence_of m.film s }))
-      × Yields s (recorder_of m (record { params = v.params; cadence = cadence_of m.film s })) (v.first ∷ v.others)
-      × (length (v.first ∷ v.others) ≤ places)
-  unfolding beginning
+      → (opening m.standard s ≡ value v.params) × Yields s (first_recorder m s v.params) (v.first ∷ v.others) × (length (v.first ∷ v.others) ≤ places)
   accepted_so v h =
       let a = in_mode (passed m s places h) in
       let k = cadence_of m.film s in
@@ -67,7 +66,7 @@ module _ (m : VbvMode) (s : List ℕ) (places : ℕ) where
       let os = timed (after k f.facts) a.others in
       let j = judges m.variable v.params places (interval k f.facts) f os (rw (timed-first k f a.others) at (rising_by a)) in
       let r : Recorded m.variable v.params Fresh (timed k (f ∷ a.others)) (v.first ∷ v.others) = rw (timed-first k f a.others) (j.recorded v.first v.others (rw (timed-first k f a.others) at (judged_is a))) in (
-        rw (opening-short m.standard s a.is_read.short, a.is_read.declares) refl,
+        opening-short m.standard s a.is_read.short ∙ a.is_read.declares,
         yields v.params k Fresh (rw a.is_read.pictures_are at (steps_give m.standard s a.is_read.short)) r,
         omega (arith, recorded-length r, timed-length k (f ∷ a.others), a.places_suffice),
       )
@@ -81,14 +80,20 @@ module _ (m : VbvMode) (s : List ℕ) (places : ℕ) where
         go (value v) e h = (v, e)
         go (refused n k c d) e h = absurd (refused-value (sym h))
 
-    pub opens_to : {b : VbvBeginning} → value b ≡ beginning m s → Yields s (recorder_of m b) (records (verdict m s places))
+    pub begins_to : {b : VbvBeginning} → value b ≡ beginning m s → Yields s (recorder_of m b) (records (verdict m s places))
+    begins_to o = let (v, e) = as_accepted in let a = accepted_so v e in rw e (rw (same_value (rw (beginning_is m s a.0) at o)) a.1)
+
+    pub opens_to : {w : VbvRecorder} → value w ≡ and_then (opening m.standard s) (λ p. value (first_recorder m s p)) → Yields s w (records (verdict m s places))
     opens_to o = let (v, e) = as_accepted in let a = accepted_so v e in rw e (rw (same_value (rw a.0 at o)) a.1)
 
     pub places_suffice : length (records (verdict m s places)) ≤ places
     places_suffice = let (v, e) = as_accepted in rw e (accepted_so v e).2
 
     begins : {n k c d : ℕ} → ◌≡◌ {A = Told} (refused n k c d) (and_then (beginning m s) (λ b. value (x, b))) → ⊥
-    begins o = let (v, e) = as_accepted in refused-value (rw (accepted_so v e).0 at o)
+    begins o = let (v, e) = as_accepted in refused-value (rw (beginning_is m s (accepted_so v e).0) at o)
+
+    pub opens : {n k c d : ℕ} → refused n k c d ≡ and_then (opening m.standard s) (λ p. value (first_recorder m s p)) → ⊥
+    opens o = let (v, e) = as_accepted in refused-value (rw (accepted_so v e).0 at o)
 
   -- by what `checked` answers
   pub answered : {x : VbvStreamReport} {b : VbvBeginning} → ◌≡◌ {A = Told} (value (x, b)) (checked m s (reported (verdict m s places))) → (value x ≡ reported (verdict m s places)) × (value b ≡ beginning m s)

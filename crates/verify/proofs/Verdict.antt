@@ -409,7 +409,7 @@ module _ (m : VbvMode) (s : List ℕ) (places : ℕ) where
       let t = timed_rising k (seen_rising m.standard s (x ∷ xs) h e) in
       rw (first_some p x xs, l) (judges m.variable p places (interval k x.facts) x (timed (after k x.facts) xs) (rw (timed-first k x xs) at t)).answer
 
-  judgement_is : judged_by (walked m s) ≡ reported (verdict_by m.standard m.variable (cadence_of m.film s) s places)
+  pub judgement_is : judged_by (walked m s) ≡ reported (verdict_by m.standard m.variable (cadence_of m.film s) s places)
   unfolding walked beginning verdict_by
   judgement_is = rw (front_is m.standard s) (go (opening m.standard s) refl)
     where

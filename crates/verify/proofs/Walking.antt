@@ -1,6 +1,6 @@
 -- The walk from picture to picture: what is still to come makes of the walk what the whole stream makes of it at the first byte.
 -- Assumes nothing.
-use mathlib.Core.Path.{◌≡◌, refl, sym, ◌∙◌}
+use mathlib.Core.Path.{◌≡◌, refl, sym, ap, ◌∙◌}
 use Prim.Native.Nat.{ℕ, suc, ◌+◌, ◌*◌, ◌≤◌, ◌<◌}
 use mathlib.Core.List.{List, [], ◌∷◌}
 use native.Mathlib.Omega.{arith}
@@ -137,11 +137,19 @@ module _ {m : VbvMode} {s : List ℕ} (short : 8 * length s ≤ farthest) {w₀ 
 
 -- ---- what the first headers declare
 
+-- those of a stream that declares p
+abbrev pub beginning_of : VbvMode → List ℕ → VbvParams → VbvBeginning
+beginning_of m s p = record { params = p; cadence = cadence_of m.film s }
+
+pub beginning_is : (m : VbvMode) (s : List ℕ) {p : VbvParams} → opening m.standard s ≡ value p → beginning m s ≡ value (beginning_of m s p)
+unfolding beginning
+beginning_is m s e = rw e refl
+
 pub beginning_short : (m : VbvMode) (s : List ℕ) {b : VbvBeginning} → value b ≡ beginning m s → 8 * length s ≤ farthest
 unfolding beginning
 beginning_short m s {b} h = go (opening m.standard s) refl h
   where
-    go : (a : Answer VbvParams) → opening m.standard s ≡ a → value b ≡ and_then a (λ p. value (record { params = p; cadence = cadence_of m.film s })) → 8 * length s ≤ farthest
+    go : (a : Answer VbvParams) → opening m.standard s ≡ a → value b ≡ and_then a (λ p. value (beginning_of m s p)) → 8 * length s ≤ farthest
     go (value p) e h = opening-opened m.standard s e
     go (refused n k c x) e h = absurd (refused-value (sym h))
 
@@ -152,3 +160,46 @@ walked_begun m s h = rw (← h) refl
 pub walked_unbegun : (m : VbvMode) (s : List ℕ) {n k c e : ℕ} → refused n k c e ≡ beginning m s → refused n k c e ≡ walked m s
 unfolding walked
 walked_unbegun m s h = rw (← h) refl
+
+-- ---- the walk at the first byte
+
+-- before the first picture of a stream that declares p
+abbrev pub first_recorder : VbvMode → List ℕ → VbvParams → VbvRecorder
+first_recorder m s p = recorder_of m (beginning_of m s p)
+
+-- the whole walk: what the opening declares, and every picture
+pub walked_is : (m : VbvMode) (s : List ℕ)
+    → walked m s ≡ and_then (opening m.standard s) (λ p. and_then (seen_pictures m.standard s) (λ xs. value (walked_over (first_recorder m s p) 0 xs)))
+unfolding walked beginning
+walked_is m s = go (opening m.standard s)
+  where
+    go : (a : Answer VbvParams)
+        → and_then (and_then a (λ p. value (beginning_of m s p))) (λ b. walked_from (recorder_of m b) s)
+        ≡ and_then a (λ p. and_then (seen_pictures m.standard s) (λ xs. value (walked_over (first_recorder m s p) 0 xs)))
+    go (value p) = refl
+    go (refused n k c e) = refl
+
+pub opened : (m : VbvMode) (s : List ℕ) {w : VbvRecorder} → value w ≡ and_then (opening m.standard s) (λ p. value (first_recorder m s p)) → (opening m.standard s ≡ value w.params) × (w ≡ first_recorder m s w.params)
+opened m s {w} h = go (opening m.standard s) h
+  where
+    go : (a : Answer VbvParams) → value w ≡ and_then a (λ p. value (first_recorder m s p)) → (a ≡ value w.params) × (w ≡ first_recorder m s w.params)
+    go (value p) h = let e : w ≡ first_recorder m s p = cc in rw e (refl, refl)
+    go (refused n k c e) h = absurd (refused-value (sym h))
+
+module _ (m : VbvMode) (s : List ℕ) {w : VbvRecorder} (h : value w ≡ and_then (opening m.standard s) (λ p. value (first_recorder m s p))) where
+  pub opened_short : 8 * length s ≤ farthest
+  opened_short = opening-opened m.standard s (opened m s h).0
+
+  pub opened-walking : Walking m s w w 0
+  opened-walking = let o = (opened m s h).1 in walking-none m s (ap (λ (x : VbvRecorder). x.mode) o) (ap (λ (x : VbvRecorder). x.at) o)
+
+pub walked_opened : (m : VbvMode) (s : List ℕ) {w : VbvRecorder} → value w ≡ and_then (opening m.standard s) (λ p. value (first_recorder m s p)) → over w 0 (seen_pictures m.standard s) ≡ walked m s
+walked_opened m s {w} h = let o = opened m s h in rw (walked_is m s, o.0, ← o.1)
+
+pub walked_unopened : (m : VbvMode) (s : List ℕ) {n k c e : ℕ} → refused n k c e ≡ and_then (opening m.standard s) (λ p. value (first_recorder m s p)) → refused n k c e ≡ walked m s
+walked_unopened m s {n} {k} {c} {e} h = rw (walked_is m s) (go (opening m.standard s) h)
+  where
+    go : (a : Answer VbvParams) → refused n k c e ≡ and_then a (λ p. value (first_recorder m s p))
+        → refused n k c e ≡ and_then a (λ p. and_then (seen_pictures m.standard s) (λ xs. value (walked_over (first_recorder m s p) 0 xs)))
+    go (value p) h = absurd (refused-value h)
+    go (refused i j x y) h = ap (λ (z : Answer VbvRecorder). and_then {Y = Walked} z (λ _. refused n k c e)) h

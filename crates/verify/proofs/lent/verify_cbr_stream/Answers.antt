@@ -8,7 +8,7 @@ use Rattle.verify.specs.Check.{verdict, records}
 use Rattle.verify.specs.Mode.{plain}
 use Rattle.verify.proofs.Bounds.{picture-count}
 use Rattle.verify.proofs.Exits.{told_err}
-use Rattle.verify.proofs.Recording.{answered, unanswered, opens_to, places_suffice, none_recorded}
+use Rattle.verify.proofs.Recording.{answered, unanswered, begins_to, places_suffice, none_recorded}
 use Rattle.verify.proofs.Storing.{stored_none, stored_more, never_none, all_stored, over-front}
 use Rattle.verify.proofs.lent.verify_cbr_stream.Goals as goal
 use Rattle.verify.proofs.lent.verify_cbr_stream.Goals.{in-Some, in_default}
@@ -27,7 +27,7 @@ pub slice_bounds-place-items-end-2 : goal.slice_bounds-place-items-end-2
 slice_bounds-place-items-end-2 c = omega (arith, picture-count _ (answered _ _ _ (rw c.plain-mode.ensures at c.in_ok-report.ensures)).0, places_suffice _ _ _ (answered _ _ _ (rw c.plain-mode.ensures at c.in_ok-report.ensures)).0, length-take c.in_ok-report.report.pictures c.args.records.now)
 
 pub loop-place-init : goal.loop-place-init
-loop-place-init c = stored_none (λ rs. rs) 1 (rw (c.new-recorder.ensures, c.plain-mode.ensures) (opens_to _ _ _ (answered _ _ _ (rw c.plain-mode.ensures at c.in_ok-report.ensures)).0 (answered _ _ _ (rw c.plain-mode.ensures at c.in_ok-report.ensures)).1))
+loop-place-init c = stored_none (λ rs. rs) 1 (rw (c.new-recorder.ensures, c.plain-mode.ensures) (begins_to _ _ _ (answered _ _ _ (rw c.plain-mode.ensures at c.in_ok-report.ensures)).0 (answered _ _ _ (rw c.plain-mode.ensures at c.in_ok-report.ensures)).1))
 
 pub loop-place-preserved : goal.loop-place-preserved
 loop-place-preserved c =

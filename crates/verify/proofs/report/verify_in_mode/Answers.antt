@@ -7,7 +7,7 @@ use Rattle.bits.proofs.Over.{over_none}
 use Rattle.verify.specs.Layout.{record_size, record_bytes, records_bytes}
 use Rattle.verify.proofs.Bounds.{picture-count}
 use Rattle.verify.proofs.Exits.{told_err}
-use Rattle.verify.proofs.Recording.{answered, unanswered, opens_to, places_suffice, none_recorded}
+use Rattle.verify.proofs.Recording.{answered, unanswered, begins_to, places_suffice, none_recorded}
 use Rattle.verify.proofs.Storing.{no_records, length-records, length_record, bytes-more, stored_none, stored_more, never_none, all_stored}
 use Rattle.verify.proofs.report.verify_in_mode.Goals as goal
 use Rattle.verify.proofs.report.verify_in_mode.Goals.{in-Some, in_default}
@@ -19,7 +19,7 @@ pub returns-in_err-report-clause-records_after : goal.returns-in_err-report-clau
 returns-in_err-report-clause-records_after c = rw (none_recorded _ (unanswered _ _ _ c.in_err-report.ensures), no_records, over_none c.args.records.now) refl
 
 pub loop-i-init : goal.loop-i-init
-loop-i-init c = stored_none records_bytes record_size (rw c.new-recorder.ensures (opens_to _ _ _ (answered _ _ _ c.in_ok-report.ensures).0 (answered _ _ _ c.in_ok-report.ensures).1))
+loop-i-init c = stored_none records_bytes record_size (rw c.new-recorder.ensures (begins_to _ _ _ (answered _ _ _ c.in_ok-report.ensures).0 (answered _ _ _ c.in_ok-report.ensures).1))
 
 pub overflow_mul-i : goal.overflow_mul-i
 overflow_mul-i c = omega (arith, picture-count _ (answered _ _ _ c.in_ok-report.ensures).0, places_suffice _ _ _ (answered _ _ _ c.in_ok-report.ensures).0)
