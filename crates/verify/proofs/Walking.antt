@@ -18,7 +18,7 @@ use Rattle.pictures.specs.declared.Unread.TheVariants as un
 use Rattle.pictures.specs.declared.SeenPicture.{SeenPicture}
 use Rattle.pictures.proofs.Seeing.{seen_from, before, seen_from_first, seen_end, seen_refused, seen_one}
 use Rattle.pictures.proofs.Due.{opening-opened}
-use Rattle.bits.proofs.Following.{refused-value}
+use Rattle.bits.proofs.Following.{refused-value, same_value, then_value}
 use Rattle.verify.specs.Answers.{unread_error, refusal}
 use Rattle.verify.specs.Coded.{timed}
 use Rattle.verify.specs.Steps.{advanced_all, beginning, recorder_of, went_on, took, is_one, stepped, steps, walked_over, walked_from, walked, last_of, recorded_by, next_record}
@@ -137,7 +137,7 @@ module _ {m : VbvMode} {s : List ℕ} (short : 8 * length s ≤ farthest) {w₀ 
 
 -- ---- what the first headers declare
 
--- those of a stream that declares p
+-- of a stream that declares p
 abbrev pub beginning_of : VbvMode → List ℕ → VbvParams → VbvBeginning
 beginning_of m s p = record { params = p; cadence = cadence_of m.film s }
 
@@ -179,12 +179,9 @@ walked_is m s = go (opening m.standard s)
     go (value p) = refl
     go (refused n k c e) = refl
 
+-- what is so of the recorder w that the opening gives, and where it gives none
 pub opened : (m : VbvMode) (s : List ℕ) {w : VbvRecorder} → value w ≡ and_then (opening m.standard s) (λ p. value (first_recorder m s p)) → (opening m.standard s ≡ value w.params) × (w ≡ first_recorder m s w.params)
-opened m s {w} h = go (opening m.standard s) h
-  where
-    go : (a : Answer VbvParams) → value w ≡ and_then a (λ p. value (first_recorder m s p)) → (a ≡ value w.params) × (w ≡ first_recorder m s w.params)
-    go (value p) h = let e : w ≡ first_recorder m s p = cc in rw e (refl, refl)
-    go (refused n k c e) h = absurd (refused-value (sym h))
+opened m s h = let (p, e, f) = then_value (opening m.standard s) (sym h) in rw (← same_value f) (e, refl)
 
 module _ (m : VbvMode) (s : List ℕ) {w : VbvRecorder} (h : value w ≡ and_then (opening m.standard s) (λ p. value (first_recorder m s p))) where
   pub opened_short : 8 * length s ≤ farthest
